@@ -1,0 +1,9 @@
+pub mod Header
+pub mod Word
+pub mod Places
+pub mod Limits
+pub mod Announced
+pub mod Refusals
+pub mod Linear
+pub mod Poly
+pub mod Negate

@@ -1,0 +1,33 @@
+-- Document 01, 'Header word', most significant first: number of variables (3 bits), then four times limit less one (6) and length less one (6), then 13 zero bits.
+use Prim.Native.Nat.{ℕ, _+_, _-_, _*_, _/_, _%_, _^_}
+use mathlib.Core.List.{List, [], _∷_}
+use mathlib.Core.Bool.{Bool, _&&_}
+use lib.Dec.{eqb}
+use Rattle.lists.specs.Four.{at, four}
+use Rattle.model.specs.declared.Header.{Header}
+use Rattle.model.specs.Header.{header, limit, len, goodHeader}
+
+-- six bits from the bit `low` up
+abbrev pub fieldAt : ℕ → ℕ → ℕ
+fieldAt w low = w / 2 ^ low % 2 ^ 6
+
+-- what the fields of a word say, good or not: of variable k the limit stands at bit 55 - 12 k, the length at 49 - 12 k
+unfoldable pub headerOf : ℕ → Header
+headerOf w = header (w / 2 ^ 61 % 2 ^ 3) (four (λ k. fieldAt w (55 - 12 * k) + 1)) (four (λ k. fieldAt w (49 - 12 * k) + 1))
+
+-- a word that is a header: its header keeps the rules and its spare bits are zero
+unfoldable pub goodWord : ℕ → Bool
+goodWord w = goodHeader (headerOf w) && eqb (w % 2 ^ 13) 0
+
+-- a word with one field more at its low end: x less one
+abbrev pub pushed : ℕ → ℕ → ℕ
+pushed w x = w * 2 ^ 6 + (x - 1)
+
+unfoldable pub fields : Header → ℕ
+fields h =
+    pushed (pushed (pushed (pushed (pushed (pushed (pushed (pushed (h .vars)
+    (limit h 0)) (len h 0)) (limit h 1)) (len h 1)) (limit h 2)) (len h 2)) (limit h 3)) (len h 3)
+
+-- the word of a header
+unfoldable pub wordOf : Header → ℕ
+wordOf h = fields h * 2 ^ 13

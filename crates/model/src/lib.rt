@@ -1,0 +1,184 @@
+// The plain data that every crate shares. What it means is in specs/: the definitions of document 01, and no laws.
+ghost use mathlib.Core.Path.{_≡_};
+ghost use Rattle.model.specs.Header.{noHeader, zeroWith, varWith, limitOrOne, twoAtMost};
+ghost use Rattle.model.specs.Refusals.{noRefusal, refusedBy, refusedAt};
+ghost use Rattle.model.specs.Linear.{noLinear};
+
+// A polynomial's number of variables, its limits (the Rust's `degrees_p1`) and its stored lengths; 1 and 1 for a missing variable.
+pub struct Header {
+    pub vars: usize,
+    pub limits: [usize; 4],
+    pub lengths: [usize; 4],
+}
+
+// Why a call was refused: document 01's number, 0 for no refusal, and the place it is about, 64 for none in particular.
+pub struct Refusal {
+    pub number: u8,
+    pub place: u8,
+}
+
+// A polynomial was written, and this is its header word; or nothing was.
+pub enum Answer {
+    Done(u64),
+    Refused(Refusal),
+}
+
+// A number that was read off a polynomial.
+pub enum Reading {
+    Done(f64),
+    Refused(Refusal),
+}
+
+// c + m * v, where `yes`; else all 0.
+pub struct Linear {
+    pub yes: bool,
+    pub c: f64,
+    pub m: f64,
+    pub variable: usize,
+}
+
+// Whether a polynomial is linear.
+pub enum LinearReading {
+    Done(Linear),
+    Refused(Refusal),
+}
+
+// The families of operations that announce their limits and lengths alike, with the numbers that decide them: an exponent, a variable, n or an order.
+pub enum Family {
+    // A constant that carries no limits.
+    Constant,
+    // Negation.
+    Same,
+    // Sum and difference.
+    Sum,
+    Product,
+    Quotient,
+    // `exp` and `log`.
+    Series,
+    Power(u32),
+    // `derivative`, `taylor_expansion_of_coeff`, `shift_down`: variable and n.
+    Shift(usize, usize),
+    // `subst_var`: the variable.
+    Substitution(usize),
+    // `coefficients_of_term`: the variable.
+    Term(usize),
+    // `taylor_polynomial`: variable and order.
+    Order(usize, usize),
+}
+
+impl Header {
+    // The most variables.
+    pub const VARS: usize = 4;
+
+    // The largest limit.
+    pub const LIMIT: usize = 64;
+
+    // The most stored places.
+    pub const COUNT: usize = 4096;
+
+    // No variables: the header of zero, of one, and of a constant that carries no limits.
+    pub fn none() -> Header
+        ensures { λ r. ⌜ r ≡ noHeader ⌝ }
+    {
+        Header {
+            vars: 0,
+            limits: [1, 1, 1, 1],
+            lengths: [1, 1, 1, 1],
+        }
+    }
+
+    // A constant that carries the first `vars` of these limits.
+    pub fn zero_with(vars: usize, limits: [usize; 4]) -> Header
+        ensures { λ r. ⌜ r ≡ zeroWith vars limits ⌝ }
+    {
+        Header {
+            vars,
+            limits: [
+                limit_or_one(vars, 0, limits[0]),
+                limit_or_one(vars, 1, limits[1]),
+                limit_or_one(vars, 2, limits[2]),
+                limit_or_one(vars, 3, limits[3]),
+            ],
+            lengths: [1, 1, 1, 1],
+        }
+    }
+
+    // x + v, as far as the limit of v lets it.
+    pub fn var_with_degrees_p1(v: usize, vars: usize, limits: [usize; 4]) -> Header
+        ensures { λ r. ⌜ r ≡ varWith v vars limits ⌝ }
+    {
+        let h = Header::zero_with(vars, limits);
+        let l = h.limits;
+        Header {
+            vars,
+            limits: l,
+            lengths: [
+                two_at_most(v, 0, l[0]),
+                two_at_most(v, 1, l[1]),
+                two_at_most(v, 2, l[2]),
+                two_at_most(v, 3, l[3]),
+            ],
+        }
+    }
+}
+
+// The limit of variable k among `vars`, 1 where it is missing.
+fn limit_or_one(vars: usize, k: usize, limit: usize) -> usize
+    ensures { λ r. ⌜ r ≡ limitOrOne vars k limit ⌝ }
+{
+    if k < vars { limit } else { 1 }
+}
+
+// The length of variable k in x + v: 2 in v as far as its limit lets it, else 1.
+fn two_at_most(v: usize, k: usize, limit: usize) -> usize
+    ensures { λ r. ⌜ r ≡ twoAtMost v k limit ⌝ }
+{
+    if k != v {
+        return 1;
+    }
+    if limit < 2 { limit } else { 2 }
+}
+
+impl Refusal {
+    // The place of a refusal that is about no place in particular.
+    pub const NOWHERE: u8 = 64;
+
+    pub fn none() -> Refusal
+        ensures { λ r. ⌜ r ≡ noRefusal ⌝ }
+    {
+        Refusal {
+            number: 0,
+            place: Refusal::NOWHERE,
+        }
+    }
+
+    // A refusal of a single operation.
+    pub fn by(number: u8) -> Refusal
+        ensures { λ r. ⌜ r ≡ refusedBy number ⌝ }
+    {
+        Refusal {
+            number,
+            place: Refusal::NOWHERE,
+        }
+    }
+
+    // A refusal that is about one place of a recipe.
+    pub fn at(number: u8, place: u8) -> Refusal
+        ensures { λ r. ⌜ r ≡ refusedAt number place ⌝ }
+    {
+        Refusal { number, place }
+    }
+}
+
+impl Linear {
+    pub fn none() -> Linear
+        ensures { λ r. ⌜ r ≡ noLinear ⌝ }
+    {
+        Linear {
+            yes: false,
+            c: 0.0,
+            m: 0.0,
+            variable: 0,
+        }
+    }
+}

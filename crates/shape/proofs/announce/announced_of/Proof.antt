@@ -1,0 +1,159 @@
+use Rattle.model.specs.Announced.{single, paired, announced}
+use borrow.Author.Needs.{needs}
+use Rattle.shape.proofs.announce.announced_of.Statement.{statement}
+use Rattle.shape.proofs.announce.announced_of.Tie as tie
+use Rattle.shape.proofs.announce.announced_of.Reads as reads
+use Rattle.shape.proofs.announce.announced_of.Lts as lts
+use Rattle.model.proofs.Header.none.Reads as none-reads
+use Rattle.shape.proofs.announce.paired_header.Reads as paired-header-reads
+use Rattle.shape.proofs.announce.power_header.Reads as power-header-reads
+use Rattle.shape.proofs.announce.single_header.Reads as single-header-reads
+use Rattle.shape.proofs.announce.substitution_header.Reads as substitution-header-reads
+
+enum-told : tie.Need-enum-told
+enum-told c = search needs
+
+none-requires : tie.Need-none-requires
+none-requires c κs = search needs
+
+enum-told-2 : tie.Need-enum-told-2
+enum-told-2 c = search needs
+
+single-header-requires : tie.Need-single-header-requires
+single-header-requires c κs = search needs
+
+enum-told-3 : tie.Need-enum-told-3
+enum-told-3 c = search needs
+
+paired-header-requires : tie.Need-paired-header-requires
+paired-header-requires c κs = search needs
+
+enum-told-4 : tie.Need-enum-told-4
+enum-told-4 c = search needs
+
+paired-header-requires-2 : tie.Need-paired-header-requires-2
+paired-header-requires-2 c κs = search needs
+
+enum-told-5 : tie.Need-enum-told-5
+enum-told-5 c = search needs
+
+paired-header-requires-3 : tie.Need-paired-header-requires-3
+paired-header-requires-3 c κs = search needs
+
+enum-told-6 : tie.Need-enum-told-6
+enum-told-6 c = search needs
+
+single-header-requires-2 : tie.Need-single-header-requires-2
+single-header-requires-2 c κs = search needs
+
+enum-known-f : tie.Need-enum-known-f
+enum-known-f c = search needs
+
+power-header-requires : tie.Need-power-header-requires
+power-header-requires c κs = search needs
+
+enum-told-7 : tie.Need-enum-told-7
+enum-told-7 c = search needs
+
+single-header-requires-3 : tie.Need-single-header-requires-3
+single-header-requires-3 c κs = search needs
+
+enum-known-f-2 : tie.Need-enum-known-f-2
+enum-known-f-2 c = search needs
+
+substitution-header-requires : tie.Need-substitution-header-requires
+substitution-header-requires c κs = search needs
+
+enum-told-8 : tie.Need-enum-told-8
+enum-told-8 c = search needs
+
+single-header-requires-4 : tie.Need-single-header-requires-4
+single-header-requires-4 c κs = search needs
+
+enum-told-9 : tie.Need-enum-told-9
+enum-told-9 c = search needs
+
+single-header-requires-5 : tie.Need-single-header-requires-5
+single-header-requires-5 c κs = search needs
+
+returns : tie.Need-returns
+unfolding announced
+returns c = rw (c .before .enum-told .given .1) (c .none .ensures)
+
+returns-2 : tie.Need-returns-2
+unfolding announced
+returns-2 c = rw (c .before .enum-told2 .given .1) (rw (c .before .enum-told2 .given .1) at (c .single-header .ensures))
+
+returns-3 : tie.Need-returns-3
+unfolding announced
+returns-3 c = rw (c .before .enum-told3 .given .1) (rw (c .before .enum-told3 .given .1) at (c .paired-header .ensures))
+
+returns-4 : tie.Need-returns-4
+unfolding announced
+returns-4 c = rw (c .before .enum-told4 .given .1) (rw (c .before .enum-told4 .given .1) at (c .paired-header2 .ensures))
+
+returns-5 : tie.Need-returns-5
+unfolding announced
+returns-5 c = rw (c .before .enum-told5 .given .1) (rw (c .before .enum-told5 .given .1) at (c .paired-header3 .ensures))
+
+returns-6 : tie.Need-returns-6
+unfolding announced
+returns-6 c = rw (c .before .enum-told6 .given .1) (rw (c .before .enum-told6 .given .1) at (c .single-header2 .ensures))
+
+returns-7 : tie.Need-returns-7
+unfolding announced
+returns-7 c = rw (c .before .before .f .given .1) (c .power-header .ensures)
+
+returns-8 : tie.Need-returns-8
+unfolding announced
+returns-8 c = rw (c .before .enum-told7 .given .1) (rw (c .before .enum-told7 .given .1) at (c .single-header3 .ensures))
+
+returns-9 : tie.Need-returns-9
+unfolding announced
+returns-9 c = rw (c .before .before .f2 .given .1) (c .substitution-header .ensures)
+
+returns-10 : tie.Need-returns-10
+unfolding announced
+returns-10 c = rw (c .before .enum-told8 .given .1) (rw (c .before .enum-told8 .given .1) at (c .single-header4 .ensures))
+
+returns-11 : tie.Need-returns-11
+unfolding announced
+returns-11 c = rw (c .before .enum-told9 .given .1) (rw (c .before .enum-told9 .given .1) at (c .single-header5 .ensures))
+
+pub announced-of-spec : {M : Type 1} → statement M
+announced-of-spec =
+    tie.close
+    (tie.spec
+    enum-told
+    none-requires
+    enum-told-2
+    single-header-requires
+    enum-told-3
+    paired-header-requires
+    enum-told-4
+    paired-header-requires-2
+    enum-told-5
+    paired-header-requires-3
+    enum-told-6
+    single-header-requires-2
+    enum-known-f
+    power-header-requires
+    enum-told-7
+    single-header-requires-3
+    enum-known-f-2
+    substitution-header-requires
+    enum-told-8
+    single-header-requires-4
+    enum-told-9
+    single-header-requires-5
+    returns
+    returns-2
+    returns-3
+    returns-4
+    returns-5
+    returns-6
+    returns-7
+    returns-8
+    returns-9
+    returns-10
+    returns-11)

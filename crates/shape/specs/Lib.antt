@@ -1,0 +1,5 @@
+pub mod Rules
+pub mod Lengths
+pub mod Words
+pub mod Limits
+pub mod Places
