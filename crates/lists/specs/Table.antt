@@ -6,8 +6,11 @@ use native.Mathlib.Numerals.{add-one}
 use native.Mathlib.Omega.{arith}
 use native.Mathlib.Nat.{add-zero, le-refl}
 use lib.ListN.{length, getD, take, drop, set, length-append, length-drop, length-set}
-use lib.Seq.{drop-cons, set-at, append-snoc, getD-append-seam, take-suc, take-length}
+use lib.Seq.{getD-at, drop-cons, set-at, append-snoc, getD-append-seam, take-suc, take-length}
 use lib.ListN.{List·getD-append}
+use lib.Dec.{ltb}
+use borrow.Author.Tests.{ltb-true, ltb-false}
+use Rattle.lists.specs.Test.{decide}
 
 unfoldable pub table {ℓ} : {A : Type ℓ} → ℕ → (ℕ → A) → List A
 table zero f = []
@@ -62,3 +65,18 @@ table-take d xs (suc n) h = ap (λ l. l ++ (getD xs n d ∷ [])) (table-take d x
 
 pub table-all {ℓ} : {A : Type ℓ} (d : A) (xs : List A) → table (length xs) (λ k. getD xs k d) ≡ xs
 table-all d xs = table-take d xs (length xs) (le-refl _) ∙ take-length xs
+
+-- a place of a table
+pub table-at {ℓ} : {A : Type ℓ} (d : A) (f : ℕ → A) (n i : ℕ) → i < n → getD (table n f) i d ≡ f i
+unfolding table
+table-at d f zero i h = absurd (omega arith)
+table-at d f (suc n) i h =
+    decide (ltb i n)
+    (λ t. let l = ltb-true i n t in List·getD-append (table n f) (f n ∷ []) d i (omega (arith, length-table f n)) ∙ table-at d f n i l)
+    (λ t. let e : i ≡ n = omega (arith, ltb-false i n t) in rw e (getD-at (table n f) (f n) [] d n (length-table f n)))
+
+-- tables that agree at each place
+pub table-same {ℓ} : {A : Type ℓ} (f g : ℕ → A) (n : ℕ) → ((i : ℕ) → i < n → f i ≡ g i) → table n f ≡ table n g
+unfolding table
+table-same f g zero h = refl
+table-same f g (suc n) h = rw (table-same f g n (λ i l. h i (omega arith)), h n (omega arith))

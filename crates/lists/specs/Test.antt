@@ -1,5 +1,5 @@
--- Laws of tests: `&&`, `||`, `not`, and going by the two cases of a test.
-use mathlib.Core.Bool.{Bool, true, false, not, _&&_, _||_, cond}
+-- Laws of tests: `&&`, `||`, and going by the two cases of a test.
+use mathlib.Core.Bool.{Bool, true, false, _&&_, _||_, cond}
 use mathlib.Core.Path.{_≡_, refl, sym, ap, _∙_}
 
 pub and-left : (a b : Bool) → (a && b) ≡ true → a ≡ true
@@ -19,14 +19,6 @@ or-right false b h e = h
 pub or-intro : (a b : Bool) → (a ≡ false → b ≡ true) → (a || b) ≡ true
 or-intro true b h = refl
 or-intro false b h = h refl
-
-pub not-no : (b : Bool) → not b ≡ true → b ≡ false
-not-no false h = refl
-not-no true h = sym h
-
-pub not-yes : (b : Bool) → not b ≡ false → b ≡ true
-not-yes true h = refl
-not-yes false h = sym h
 
 -- by the two cases of a test
 pub decide {ℓ} : {P : Type ℓ} (b : Bool) → (b ≡ true → P) → (b ≡ false → P) → P

@@ -5,5 +5,9 @@ pub mod Limits
 pub mod Announced
 pub mod Refusals
 pub mod Linear
+pub mod Gates
 pub mod Poly
 pub mod Negate
+pub mod Sum
+pub mod Box
+pub mod Textbook

@@ -1,5 +1,5 @@
-pub mod Rules
-pub mod Lengths
-pub mod Words
 pub mod Limits
-pub mod Places
+pub mod Announced
+pub mod Under
+pub mod Cut
+pub mod Gate

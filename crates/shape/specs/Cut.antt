@@ -1,0 +1,76 @@
+-- Cutting keeps what lies inside the limits, at its index, and nothing else.
+use Prim.Native.Nat.{ℕ, _≤_, _<_, min}
+use mathlib.Core.List.{List}
+use mathlib.Core.Bool.{Bool, true, false, cond}
+use mathlib.Core.Path.{_≡_, refl, sym, ap, _∙_}
+use native.Mathlib.Omega.{arith}
+use lib.ListN.{getD, length}
+use lib.Ieee.{Float, nan}
+use Rattle.lists.specs.Test.{decide}
+use Rattle.lists.specs.Table.{table, table-at, length-table}
+use Rattle.lists.specs.Four.{at, four, at-four}
+use Rattle.model.specs.declared.Header.{Header}
+use Rattle.model.specs.Header.{header, count, limit, len}
+use Rattle.model.specs.Places.{place, offset, index, inside}
+use Rattle.model.specs.Limits.{cutTo}
+use Rattle.model.specs.Refusals.{zeroF}
+use Rattle.model.specs.Poly.{Poly, coefficientAt, cut}
+use Rattle.words.specs.Rules.{GoodVar, Ruled, Regular, regular-four, ruled-at}
+use Rattle.shape.specs.Limits.{Range}
+use Rattle.words.specs.Lengths.{Inside, inside-is, is-inside, inside-four, inside-at}
+use Rattle.words.specs.Places.{place-lt, index-place}
+
+cut-at : (l n : List ℕ) (k : ℕ) → k < 4 → at (cutTo l n) k ≡ min (at l k) (at n k)
+unfolding cutTo
+cut-at l n = at-four (λ k. min (at l k) (at n k))
+
+-- what lies inside the cut lengths lies inside the lengths and the limits, and the other way round
+pub cut-inside : (l n : List ℕ) {i : List ℕ} → Inside (cutTo l n) i → Inside n i
+cut-inside l n t = inside-four (λ k h. omega (arith, inside-at t k h, cut-at l n k h))
+
+pub cut-limits : (l n : List ℕ) {i : List ℕ} → Inside (cutTo l n) i → Inside l i
+cut-limits l n t = inside-four (λ k h. omega (arith, inside-at t k h, cut-at l n k h))
+
+pub inside-cut : {l n i : List ℕ} → Inside l i → Inside n i → Inside (cutTo l n) i
+inside-cut {l} {n} s t = inside-four (λ k h. rw (cut-at l n k h) (omega (arith, inside-at s k h, inside-at t k h)))
+
+same-place : (n i : List ℕ) → place n (four (at i)) ≡ place n i
+unfolding offset
+same-place n i = refl
+
+module _ (v : ℕ) (l : List ℕ) (p : Poly) where
+  abbrev cutLengths : List ℕ
+  cutLengths = cutTo l (p .head .lengths)
+
+  kept : (i : List ℕ) → Inside cutLengths i → getD (cut v l p .coeffs) (place cutLengths i) nan ≡ getD (p .coeffs) (place (p .head .lengths) i) nan
+  unfolding cut
+  kept i t =
+      table-at nan (λ k. getD (p .coeffs) (place (p .head .lengths) (index cutLengths k)) nan) (count cutLengths) (place cutLengths i) (place-lt cutLengths i t)
+      ∙ (ap (λ (j : List ℕ). getD (p .coeffs) (place (p .head .lengths) j) nan) (index-place cutLengths i t) ∙ ap (λ (q : ℕ). getD (p .coeffs) q nan) (same-place (p .head .lengths) i))
+
+  -- at every index under the limits the coefficient is the same
+  pub cut-keeps : (i : List ℕ) → Inside l i → coefficientAt (cut v l p) i ≡ coefficientAt p i
+  unfolding coefficientAt cut
+  cut-keeps i s =
+      decide (inside (p .head .lengths) i)
+      (λ t. let c = inside-cut s (inside-is (p .head .lengths) i t) in rw (t, is-inside c) (kept i c))
+      (λ t. rw (t, outside t))
+    where
+      outside : inside (p .head .lengths) i ≡ false → inside (cutTo l (p .head .lengths)) i ≡ false
+      outside t =
+          decide (inside (cutTo l (p .head .lengths)) i)
+          (λ c. c ∙ (sym (is-inside (cut-inside l (p .head .lengths) (inside-is (cutTo l (p .head .lengths)) i c))) ∙ t))
+          (λ c. c)
+
+  -- as many coefficients as the header says
+  pub cut-full : length (cut v l p .coeffs) ≡ count (cut v l p .head .lengths)
+  unfolding cut
+  cut-full = length-table _ (count cutLengths)
+
+-- under limits that keep the rules the cut header keeps them
+pub cut-regular : (v : ℕ) (l : ℕ → ℕ) {h : Header} → v ≤ 4 → Ruled h → ((k : ℕ) → k < 4 → Range (l k)) → ((k : ℕ) → k < 4 → v ≤ k → l k ≡ 1) → Regular (header v (four l) (cutTo (four l) (h .lengths)))
+unfolding cutTo
+cut-regular v l {h} few g r gone =
+    regular-four v l (λ k. min (at (four l) k) (len h k)) few
+    (λ k lt. let a = at-four l k lt in let n = ruled-at g k lt .pos in
+    record { pos = omega (arith, r k lt .lo); fit = omega arith; most = r k lt .hi; gone = gone k lt })

@@ -1,0 +1,17 @@
+pub mod Int
+pub mod SumLaws
+pub mod SumSizes
+pub mod Index
+pub mod IndexLaws
+pub mod BoxLaws
+pub mod BoxSizes
+pub mod PlaceLaws
+pub mod Whole
+pub mod Exact
+pub mod Compare
+pub mod Steps
+pub mod StoredLaws
+pub mod SeriesLaws
+pub mod SeriesSizes
+pub mod QuotientLaws
+pub mod Examples

@@ -1,0 +1,4 @@
+pub mod Rules
+pub mod Lengths
+pub mod Words
+pub mod Places

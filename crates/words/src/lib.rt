@@ -1,0 +1,3 @@
+// Header words, and the places of a block (document 01, 'What a polynomial is here' and 'Header word').
+pub mod places;
+pub mod word;

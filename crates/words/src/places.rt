@@ -1,0 +1,48 @@
+// Places of a block and their indices, the last variable fastest.
+ghost use mathlib.Core.Path.{_≡_};
+ghost use Rattle.model.specs.Header.{count};
+ghost use Rattle.model.specs.Places.{strides, place, index, inside};
+ghost use Rattle.words.specs.Lengths.{Lengths, Inside};
+
+// The number of places.
+pub fn count_of(n: [usize; 4]) -> usize
+    requires { ⌜ Lengths n ⌝ }
+    ensures { λ r. ⌜ r ≡ count n ⌝ }
+{
+    n[0] * (n[1] * (n[2] * n[3]))
+}
+
+// How far apart neighbours lie in each variable.
+pub fn strides_of(n: [usize; 4]) -> [usize; 4]
+    requires { ⌜ Lengths n ⌝ }
+    ensures { λ r. ⌜ r ≡ strides n ⌝ }
+{
+    let s = n[2] * n[3];
+    [n[1] * s, s, n[3], 1]
+}
+
+// The place of an index that lies inside.
+pub fn place_of(n: [usize; 4], i: [usize; 4]) -> usize
+    requires { ⌜ Lengths n ⌝ ∗ ⌜ Inside n i ⌝ }
+    ensures { λ r. ⌜ r ≡ place n i ⌝ }
+{
+    let s = strides_of(n);
+    i[0] * s[0] + i[1] * s[1] + i[2] * s[2] + i[3] * s[3]
+}
+
+// The index of a place.
+pub fn index_of(n: [usize; 4], p: usize) -> [usize; 4]
+    requires { ⌜ Lengths n ⌝ }
+    ensures { λ r. ⌜ r ≡ index n p ⌝ }
+{
+    let q = p / n[3];
+    let r = q / n[2];
+    [r / n[1], r % n[1], q % n[2], p % n[3]]
+}
+
+// Whether the lengths reach to an index.
+pub fn is_inside(n: [usize; 4], i: [usize; 4]) -> bool
+    ensures { λ r. ⌜ r ≡ inside n i ⌝ }
+{
+    (i[0] < n[0]) & (i[1] < n[1]) & (i[2] < n[2]) & (i[3] < n[3])
+}
