@@ -1,23 +1,112 @@
--- Document 01, 'Refusal numbers', one gate for each way of calling an operation: numbers go in (header words, lengths of buffers), a refusal comes out.
--- The tests stand in the order of their numbers, so the lowest wins.
-use Prim.Native.Nat.{ℕ}
-use lib.Dec.{leb}
+-- Document 01, 'Refusal numbers', one gate for each way of calling: numbers go in (header words, lengths of buffers, variables), a refusal comes out.
+-- The tests stand in the order of their numbers, so the lowest wins. Tests 3 and 4 read the number of variables and the limits alone.
+use Prim.Native.Nat.{ℕ, suc}
+use mathlib.Core.List.{List}
+use mathlib.Core.Bool.{Bool, _&&_, _||_}
+use lib.Dec.{leb, ltb, eqb}
+use Rattle.lists.specs.Four.{at, four}
 use Rattle.model.specs.declared.Header.{Header}
 use Rattle.model.specs.declared.Refusal.{Refusal}
 use Rattle.model.specs.declared.Family.{Family}
-use Rattle.model.specs.Header.{stored, noHeader}
+use Rattle.model.specs.Header.{limit, stored, noHeader, zeroWith, varWith}
 use Rattle.model.specs.Word.{headerOf, goodWord}
+use Rattle.model.specs.Places.{inside}
 use Rattle.model.specs.Announced.{announced}
-use Rattle.model.specs.Refusals.{ask, noRefusal, fits}
+use Rattle.model.specs.Refusals.{ask, noRefusal, fits, roomy}
 
--- what a family announces for one operand
+-- what a family announces for one operand, and for two
 abbrev pub announcedOne : Family → ℕ → Header
 announcedOne f w = announced f (headerOf w) noHeader
 
--- one operand and no scratch: w its header word, m its coefficients, n the places lent for the result
+abbrev pub announcedPair : Family → ℕ → ℕ → Header
+announcedPair f w u = announced f (headerOf w) (headerOf u)
+
+-- test 2: m coefficients are lent
+abbrev pub full : ℕ → ℕ → Bool
+full w m = leb (stored (headerOf w)) m
+
+-- A number read off a polynomial: w its header word, m its coefficients.
+unfoldable pub readGate : ℕ → ℕ → Refusal
+readGate w m = ask (goodWord w) 1 (ask (full w m) 2 noRefusal)
+
+-- `coefficient` at the index i: 3 for a missing variable's index that is not 0, 4 for one not below its limit
+abbrev pub noMissing : Header → List ℕ → Bool
+noMissing h i =
+    (((ltb 0 (h .vars) || eqb (at i 0) 0) && (ltb 1 (h .vars) || eqb (at i 1) 0)) && (ltb 2 (h .vars) || eqb (at i 2) 0))
+    && (ltb 3 (h .vars) || eqb (at i 3) 0)
+
+unfoldable pub indexGate : ℕ → ℕ → List ℕ → Refusal
+indexGate w m i =
+    ask (goodWord w) 1
+    (ask (full w m) 2
+    (ask (noMissing (headerOf w) i) 3
+    (ask (inside (headerOf w .limits) i) 4
+    noRefusal)))
+
+-- `tail` at k: 3 for other than one variable
+unfoldable pub tailGate : ℕ → ℕ → ℕ → Refusal
+tailGate w m k =
+    ask (goodWord w) 1
+    (ask (full w m) 2
+    (ask (eqb (headerOf w .vars) 1) 3
+    (ask (ltb k (limit (headerOf w) 0)) 4
+    noRefusal)))
+
+-- One operand and no scratch: n the places lent for the result.
 unfoldable pub oneGate : Family → ℕ → ℕ → ℕ → Refusal
 oneGate f w m n =
     ask (goodWord w) 1
-    (ask (leb (stored (headerOf w)) m) 2
+    (ask (full w m) 2
     (ask (fits (announcedOne f w) n) 5
+    noRefusal))
+
+-- One operand, a variable v and a number d below its limit, no scratch.
+unfoldable pub inGate : Family → ℕ → ℕ → ℕ → ℕ → ℕ → Refusal
+inGate f v d w m n =
+    ask (goodWord w) 1
+    (ask (full w m) 2
+    (ask (ltb v (headerOf w .vars)) 3
+    (ask (ltb d (limit (headerOf w) v)) 4
+    (ask (fits (announcedOne f w) n) 5
+    noRefusal))))
+
+-- Two operands: n the places lent for the result, s those of the scratch.
+unfoldable pub pairGate : Family → ℕ → ℕ → ℕ → ℕ → ℕ → ℕ → Refusal
+pairGate f w m u l n s =
+    ask (goodWord w && goodWord u) 1
+    (ask (full w m && full u l) 2
+    (ask (fits (announcedPair f w u) n) 5
+    (ask (roomy (announcedPair f w u) s) 6
+    noRefusal)))
+
+-- Constructors. A limit is 1 to 64; the first `vars` of four are given.
+
+abbrev pub goodLimit : ℕ → Bool
+goodLimit l = leb 1 l && leb l 64
+
+abbrev pub goodLimits : ℕ → List ℕ → Bool
+goodLimits vars l =
+    (((leb vars 4 && (leb vars 0 || goodLimit (at l 0))) && (leb vars 1 || goodLimit (at l 1))) && (leb vars 2 || goodLimit (at l 2)))
+    && (leb vars 3 || goodLimit (at l 3))
+
+-- n the places lent for the coefficients
+unfoldable pub withGate : ℕ → List ℕ → ℕ → Refusal
+withGate vars l n = ask (goodLimits vars l) 1 (ask (fits (zeroWith vars l) n) 5 noRefusal)
+
+unfoldable pub varWithGate : ℕ → ℕ → List ℕ → ℕ → Refusal
+varWithGate v vars l n =
+    ask (goodLimits vars l) 1
+    (ask (ltb v vars) 3
+    (ask (fits (varWith v vars l) n) 5
+    noRefusal))
+
+-- `var` and `var_at_zero` give every variable up to v the limit asked
+abbrev pub varHeader : ℕ → ℕ → Header
+varHeader v l = varWith v (suc v) (four (λ k. l))
+
+unfoldable pub varGate : ℕ → ℕ → ℕ → Refusal
+varGate v l n =
+    ask (goodLimit l) 1
+    (ask (leb v 3) 3
+    (ask (fits (varHeader v l) n) 5
     noRefusal))

@@ -8,11 +8,10 @@ use Rattle.model.specs.declared.Refusal.{Refusal}
 use Rattle.model.specs.declared.Answer.{Answer}
 use Rattle.model.specs.declared.Family.the-variants.{Same}
 use Rattle.model.specs.Header.{stored, noHeader}
-use Rattle.model.specs.Word.{wordOf}
 use Rattle.model.specs.Announced.{announced}
-use Rattle.model.specs.Refusals.{answerBy, leaves, written}
 use Rattle.model.specs.Gates.{oneGate, announcedOne}
 use Rattle.model.specs.Poly.{Poly, poly, held}
+use Rattle.model.specs.Answers.{answered, outAfter}
 
 abbrev pub negatedAt : List Float → ℕ → Float
 negatedAt a k = neg (getD a k nan)
@@ -26,7 +25,7 @@ module _ (w : ℕ) (a out : List Float) where
   negateGate = oneGate Same w (length a) (length out)
 
   unfoldable pub negateAnswer : Answer
-  negateAnswer = answerBy negateGate (wordOf (negated (held w a) .head))
+  negateAnswer = answered negateGate (negated (held w a))
 
   unfoldable pub negateOut : List Float
-  negateOut = leaves negateGate (written (stored (announcedOne Same w)) (negated (held w a) .coeffs) out) out
+  negateOut = outAfter negateGate (announcedOne Same w) (negated (held w a)) out

@@ -13,6 +13,9 @@ use Rattle.model.specs.declared.Answer.{Answer}
 use Rattle.model.specs.declared.Answer.the-variants as answer
 use Rattle.model.specs.declared.Reading.{Reading}
 use Rattle.model.specs.declared.Reading.the-variants as reading
+use Rattle.model.specs.declared.Linear.{Linear}
+use Rattle.model.specs.declared.LinearReading.{LinearReading}
+use Rattle.model.specs.declared.LinearReading.the-variants as linear-reading
 use Rattle.model.specs.Header.{stored}
 
 abbrev pub refusedAt : ℕ → ℕ → Refusal
@@ -41,13 +44,16 @@ fits h lent = leb (stored h) 4096 && leb (stored h) lent
 abbrev pub roomy : Header → ℕ → Bool
 roomy h lent = leb (8 * stored h) lent
 
--- Answers. `answerBy` and `readBy` say which case of the enum stands for which number and value of document 01.
+-- Answers. `answerBy`, `readBy` and `linearBy` say which case of the enum stands for which number and value of document 01.
 
 unfoldable pub answerBy : Refusal → ℕ → Answer
 answerBy r w = cond (isNone r) (answer.Done w) (answer.Refused r)
 
 unfoldable pub readBy : Refusal → Float → Reading
 readBy r x = cond (isNone r) (reading.Done x) (reading.Refused r)
+
+unfoldable pub linearBy : Refusal → Linear → LinearReading
+linearBy r x = cond (isNone r) (linear-reading.Done x) (linear-reading.Refused r)
 
 -- Buffers.
 

@@ -37,6 +37,12 @@ pub struct Linear {
     pub variable: usize,
 }
 
+// How a product is made: which of its ways (specs/Product.antt numbers them), with the constant or the linear factor.
+pub struct Way {
+    pub kind: usize,
+    pub line: Linear,
+}
+
 // Whether a polynomial is linear.
 pub enum LinearReading {
     Done(Linear),

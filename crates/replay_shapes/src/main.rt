@@ -1,10 +1,10 @@
 // Prints which header words are good and what each family of operations announces, on every edge of document 01's rules.
 // The stored output was worked out by tests/shapes.py from document 01 alone, and not by this code.
+use gates::stored_of;
 use libc::STDOUT_FILENO;
 use model::Family;
 use model::Header;
 use shape::announce::announced_of;
-use shape::gate::stored_of;
 use words::word::header_of;
 use words::word::is_good;
 use words::word::pack;

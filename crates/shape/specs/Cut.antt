@@ -14,7 +14,7 @@ use Rattle.model.specs.Header.{header, count, limit, len}
 use Rattle.model.specs.Places.{place, offset, index, inside}
 use Rattle.model.specs.Limits.{cutTo}
 use Rattle.model.specs.Refusals.{zeroF}
-use Rattle.model.specs.Poly.{Poly, coefficientAt, cut}
+use Rattle.model.specs.Poly.{Block, readAt, coefficientAt, cut}
 use Rattle.words.specs.Rules.{GoodVar, Ruled, Regular, regular-four, ruled-at}
 use Rattle.shape.specs.Limits.{Range}
 use Rattle.words.specs.Lengths.{Inside, inside-is, is-inside, inside-four, inside-at}
@@ -38,32 +38,33 @@ same-place : (n i : List ℕ) → place n (four (at i)) ≡ place n i
 unfolding offset
 same-place n i = refl
 
-module _ (v : ℕ) (l : List ℕ) (p : Poly) where
+module _ (l : List ℕ) (b : Block) where
   abbrev cutLengths : List ℕ
-  cutLengths = cutTo l (p .head .lengths)
+  cutLengths = cutTo l (b .lengths)
 
-  kept : (i : List ℕ) → Inside cutLengths i → getD (cut v l p .coeffs) (place cutLengths i) nan ≡ getD (p .coeffs) (place (p .head .lengths) i) nan
+  -- a place that is kept
+  pub cut-read : (i : List ℕ) → Inside cutLengths i → readAt (cut l b) i ≡ readAt b i
   unfolding cut
-  kept i t =
-      table-at nan (λ k. getD (p .coeffs) (place (p .head .lengths) (index cutLengths k)) nan) (count cutLengths) (place cutLengths i) (place-lt cutLengths i t)
-      ∙ (ap (λ (j : List ℕ). getD (p .coeffs) (place (p .head .lengths) j) nan) (index-place cutLengths i t) ∙ ap (λ (q : ℕ). getD (p .coeffs) q nan) (same-place (p .head .lengths) i))
+  cut-read i t =
+      table-at nan (λ k. readAt b (index cutLengths k)) (count cutLengths) (place cutLengths i) (place-lt cutLengths i t)
+      ∙ (ap (readAt b) (index-place cutLengths i t) ∙ ap (λ (q : ℕ). getD (b .places) q nan) (same-place (b .lengths) i))
+
+  outside : (i : List ℕ) → inside (b .lengths) i ≡ false → inside cutLengths i ≡ false
+  outside i t =
+      decide (inside cutLengths i)
+      (λ c. c ∙ (sym (is-inside (cut-inside l (b .lengths) (inside-is cutLengths i c))) ∙ t))
+      (λ c. c)
 
   -- at every index under the limits the coefficient is the same
-  pub cut-keeps : (i : List ℕ) → Inside l i → coefficientAt (cut v l p) i ≡ coefficientAt p i
+  pub cut-keeps : (i : List ℕ) → Inside l i → coefficientAt (cut l b) i ≡ coefficientAt b i
   unfolding coefficientAt cut
   cut-keeps i s =
-      decide (inside (p .head .lengths) i)
-      (λ t. let c = inside-cut s (inside-is (p .head .lengths) i t) in rw (t, is-inside c) (kept i c))
-      (λ t. rw (t, outside t))
-    where
-      outside : inside (p .head .lengths) i ≡ false → inside (cutTo l (p .head .lengths)) i ≡ false
-      outside t =
-          decide (inside (cutTo l (p .head .lengths)) i)
-          (λ c. c ∙ (sym (is-inside (cut-inside l (p .head .lengths) (inside-is (cutTo l (p .head .lengths)) i c))) ∙ t))
-          (λ c. c)
+      decide (inside (b .lengths) i)
+      (λ t. let c = inside-cut s (inside-is (b .lengths) i t) in rw (t, is-inside c) (cut-read i c))
+      (λ t. rw (t, outside i t))
 
-  -- as many coefficients as the header says
-  pub cut-full : length (cut v l p .coeffs) ≡ count (cut v l p .head .lengths)
+  -- as many places as the lengths say
+  pub cut-full : length (cut l b .places) ≡ count (cut l b .lengths)
   unfolding cut
   cut-full = length-table _ (count cutLengths)
 

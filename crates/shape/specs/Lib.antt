@@ -2,4 +2,4 @@ pub mod Limits
 pub mod Announced
 pub mod Under
 pub mod Cut
-pub mod Gate
+pub mod Keeps

@@ -18,7 +18,7 @@ use Rattle.model.specs.Gates.{announcedOne}
 use Rattle.model.specs.Negate.{negatedAt, negated, negateGate, negateAnswer, negateOut}
 use Rattle.words.specs.Rules.{Regular}
 use Rattle.words.specs.Words.{pack-unpack}
-use Rattle.shape.specs.Gate.{OneReady, one-ready, answer-no, answer-yes, leaves-no, leaves-yes, written-full}
+use Rattle.gates.specs.Gate.{OneReady, one-ready, answer-no, answer-yes, leaves-no, leaves-yes, written-full}
 
 -- the announced header of a header that keeps the rules is that header
 same-header : {h : Header} → Regular h → announced Same h noHeader ≡ h

@@ -76,6 +76,11 @@ pub record Inside (n i : List ℕ) : Type 0 where
   pub i2 : at i 2 < at n 2
   pub i3 : at i 3 < at n 3
 
+-- an index that begins a row
+pub record RowAt (n i : List ℕ) : Type 0 where
+  pub inside : Inside n i
+  pub begins : at i 3 ≡ 0
+
 pub inside-is : (n i : List ℕ) → inside n i ≡ true → Inside n i
 unfolding inside
 inside-is n i h =

@@ -37,16 +37,48 @@ pub place-index : (n : List ℕ) (p : ℕ) → place n (index n p) ≡ p
 unfolding index
 place-index n p = rw (horner n (index n p)) (simp div-add-mod')
 
--- an index's place leads back to it
-pub index-place : (n i : List ℕ) → Inside n i → index n (place n i) ≡ four (at i)
+-- an index's place leads back to it; the first variable's number need not be inside
+pub index-back : (n i : List ℕ) → at i 1 < at n 1 → at i 2 < at n 2 → at i 3 < at n 3 → index n (place n i) ≡ four (at i)
 unfolding index
-index-place n i h =
+index-back n i i1 i2 i3 =
     let q2 : ℕ = at i 0 * at n 1 + at i 1 in
     let q3 : ℕ = q2 * at n 2 + at i 2 in
-    let d3 : place n i / at n 3 ≡ q3 = rw (horner n i) (digits-div q3 (h .i3)) in
-    let m3 : place n i % at n 3 ≡ at i 3 = rw (horner n i) (digits-mod q3 (h .i3)) in
-    simp (d3, m3, digits-div q2 (h .i2), digits-mod q2 (h .i2), digits-div (at i 0) (h .i1), digits-mod (at i 0) (h .i1))
+    let d3 : place n i / at n 3 ≡ q3 = rw (horner n i) (digits-div q3 i3) in
+    let m3 : place n i % at n 3 ≡ at i 3 = rw (horner n i) (digits-mod q3 i3) in
+    simp (d3, m3, digits-div q2 i2, digits-mod q2 i2, digits-div (at i 0) i1, digits-mod (at i 0) i1)
+
+pub index-place : (n i : List ℕ) → Inside n i → index n (place n i) ≡ four (at i)
+index-place n i h = index-back n i (h .i1) (h .i2) (h .i3)
 
 -- no step of working out a place overflows
 pub place-small : (n i : List ℕ) {s : List ℕ} → s ≡ strides n → Lengths n → Inside n i → offset s i ≤ 2 ^ 24
 place-small n i e g h = rw e (omega (arith, place-lt n i h, count-most g))
+
+-- The index of the next row, the last variable's number 0: one more in the last variable but one that has room for it.
+
+-- place and row length add up
+rows-add : (x a b n2 n3 : ℕ) → a * n2 + b ≡ x + 1 → (a * n2 + b) * n3 + 0 ≡ x * n3 + 0 + n3
+rows-add x a b n2 n3 e = rw e (omega arith)
+
+module _ (n i : List ℕ) (g : Lengths n) (z : at i 3 ≡ 0) where
+  abbrev rowOf : ℕ
+  rowOf = (at i 0 * at n 1 + at i 1) * at n 2 + at i 2
+
+  -- an index j whose row is the next one
+  next : (j : List ℕ) → at j 1 < at n 1 → at j 2 < at n 2 → at j 3 ≡ 0 → (at j 0 * at n 1 + at j 1) * at n 2 + at j 2 ≡ rowOf + 1 → four (at j) ≡ index n (place n i + at n 3)
+  next j j1 j2 j3 e =
+      let p : place n j ≡ place n i + at n 3 = rw (horner n j, horner n i, j3, z) (rows-add rowOf _ (at j 2) (at n 2) (at n 3) e) in
+      rw (← p) (sym (index-back n j j1 j2 (let q = g .p3 in omega arith)))
+
+  pub next-2 : at i 1 < at n 1 → at i 2 + 1 < at n 2 → at i 0 ∷ at i 1 ∷ (at i 2 + 1) ∷ 0 ∷ [] ≡ index n (place n i + at n 3)
+  next-2 i1 h = next (at i 0 ∷ at i 1 ∷ (at i 2 + 1) ∷ 0 ∷ []) i1 h refl (omega arith)
+
+  pub next-1 : at i 1 + 1 < at n 1 → at n 2 ≡ at i 2 + 1 → at i 0 ∷ (at i 1 + 1) ∷ 0 ∷ 0 ∷ [] ≡ index n (place n i + at n 3)
+  next-1 i1 h = next (at i 0 ∷ (at i 1 + 1) ∷ 0 ∷ 0 ∷ []) i1 (g .p2) refl (let e : (at i 0 * at n 1 + (at i 1 + 1)) * at n 2 + 0 ≡ (at i 0 * at n 1 + at i 1) * at n 2 + at n 2 = omega arith in omega (arith, h, e))
+
+  pub next-0 : at n 1 ≡ at i 1 + 1 → at n 2 ≡ at i 2 + 1 → (at i 0 + 1) ∷ 0 ∷ 0 ∷ 0 ∷ [] ≡ index n (place n i + at n 3)
+  next-0 i1 h =
+      next ((at i 0 + 1) ∷ 0 ∷ 0 ∷ 0 ∷ []) (g .p1) (g .p2) refl
+      (let e : ((at i 0 + 1) * at n 1 + 0) * at n 2 + 0 ≡ (at i 0 * at n 1 + at n 1) * at n 2 = omega arith in
+      let k : (at i 0 * at n 1 + at n 1) * at n 2 ≡ (at i 0 * at n 1 + at i 1) * at n 2 + at n 2 = rw (i1) (omega arith) in
+      omega (arith, e, k, h))

@@ -2,7 +2,9 @@
 ghost use mathlib.Core.Path.{_≡_};
 ghost use Rattle.model.specs.Header.{count};
 ghost use Rattle.model.specs.Places.{strides, place, index, inside};
-ghost use Rattle.words.specs.Lengths.{Lengths, Inside};
+ghost use Rattle.words.specs.Lengths.{Lengths, Inside, RowAt};
+ghost use Rattle.lists.specs.Four.{at};
+ghost use Prim.Native.Nat.{_+_};
 
 // The number of places.
 pub fn count_of(n: [usize; 4]) -> usize
@@ -45,4 +47,18 @@ pub fn is_inside(n: [usize; 4], i: [usize; 4]) -> bool
     ensures { λ r. ⌜ r ≡ inside n i ⌝ }
 {
     (i[0] < n[0]) & (i[1] < n[1]) & (i[2] < n[2]) & (i[3] < n[3])
+}
+
+// The index of the first place of the next row: a row is the places that differ in the last variable alone.
+pub fn next_row(n: [usize; 4], i: [usize; 4]) -> [usize; 4]
+    requires { ⌜ Lengths n ⌝ ∗ ⌜ RowAt n i ⌝ }
+    ensures { λ r. ⌜ r ≡ index n (place n i + at n 3) ⌝ }
+{
+    if i[2] + 1 < n[2] {
+        return [i[0], i[1], i[2] + 1, 0];
+    }
+    if i[1] + 1 < n[1] {
+        return [i[0], i[1] + 1, 0, 0];
+    }
+    [i[0] + 1, 0, 0, 0]
 }

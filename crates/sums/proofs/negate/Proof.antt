@@ -5,20 +5,22 @@ use lib.ListN.{length}
 use Rattle.model.specs.Header.{stored}
 use Rattle.model.specs.Word.{headerOf}
 use Rattle.model.specs.declared.Family.the-variants.{Same}
-use Rattle.shape.specs.Gate.{OneReady}
+use Rattle.gates.specs.Gate.{OneReady}
 use Rattle.sums.specs.Negate.{negate-refused, negate-kept, negate-ready, negate-done, negate-out, negate-room}
 use borrow.Author.Needs.{needs}
 use Rattle.sums.proofs.negate.Statement.{statement}
 use Rattle.sums.proofs.negate.Tie as tie
 use Rattle.sums.proofs.negate.Reads as reads
 use Rattle.sums.proofs.negate.Lts as lts
-use Rattle.shape.proofs.gate.one_gate.Reads as one-gate-reads
-use Rattle.shape.proofs.gate.stored_of.Reads as stored-of-reads
+use Rattle.gates.proofs.one_gate.Reads as one-gate-reads
+use Rattle.gates.proofs.stored_of.Reads as stored-of-reads
 use Rattle.words.proofs.word.header_of.Reads as header-of-reads
 use Rattle.sums.proofs.kernel.negate_into.Reads as negate-into-reads
 
 ready : (c : tie.Else1) → OneReady Same ((c .before .before .before .before .before) .args .head) (length ((c .before .before .before .before .before) .args .a .now)) (length ((c .before .before .before .before .before) .args .out .now))
-ready c = negate-ready ((c .before .before .before .before .before) .args .head) ((c .before .before .before .before .before) .args .a .now) ((c .before .before .before .before .before) .args .out .now) ((c .before .before .before .before .before) .fits .head .fits) (c .before .before .one-gate .ensures) (c .if1 .left)
+ready c =
+    let a = (c .before .before .before .before .before) .args in
+    negate-ready (a .head) (a .a .now) (a .out .now) ((c .before .before .before .before .before) .fits .head .fits) (c .before .before .one-gate .ensures) (c .if1 .left)
 
 counted : (c : tie.After-stored-of) → c .stored-of .result ≡ stored (headerOf ((c .before .before .before .before .before .before .before) .args .head))
 counted c = c .stored-of .ensures ∙ ap stored (c .before .header-of .ensures)
@@ -27,7 +29,9 @@ one-gate-requires : tie.Need-one-gate-requires
 one-gate-requires c κs = search needs
 
 returns : tie.Need-returns
-returns c = (negate-refused ((c .before .before .before .before .before) .args .head) ((c .before .before .before .before .before) .args .a .now) ((c .before .before .before .before .before) .args .out .now) (c .before .before .one-gate .ensures) (c .if1 .taken), negate-kept ((c .before .before .before .before .before) .args .head) ((c .before .before .before .before .before) .args .a .now) ((c .before .before .before .before .before) .args .out .now) (c .before .before .one-gate .ensures) (c .if1 .taken))
+returns c =
+    let a = (c .before .before .before .before .before) .args in
+    (negate-refused (a .head) (a .a .now) (a .out .now) (c .before .before .one-gate .ensures) (c .if1 .taken), negate-kept (a .head) (a .a .now) (a .out .now) (c .before .before .one-gate .ensures) (c .if1 .taken))
 
 header-of-requires : tie.Need-header-of-requires
 header-of-requires c κs = search needs
@@ -36,13 +40,17 @@ stored-of-requires : tie.Need-stored-of-requires
 stored-of-requires c κs = rw (c .header-of .ensures) (ready (c .before) .good .regular .rules)
 
 negate-into-requires : tie.Need-negate-into-requires
-negate-into-requires c κs = negate-room ((c .before .before .before .before .before .before .before .before) .args .head) ((c .before .before .before .before .before .before .before .before) .args .a .now) ((c .before .before .before .before .before .before .before .before) .args .out .now) (ready (c .before .before .before)) (counted (c .before))
+negate-into-requires c κs =
+    let a = (c .before .before .before .before .before .before .before .before) .args in
+    negate-room (a .head) (a .a .now) (a .out .now) (ready (c .before .before .before)) (counted (c .before))
 
 same-length : tie.Need-same-length
 same-length c = search needs
 
 returns-2 : tie.Need-returns-2
-returns-2 c = (negate-done ((c .before .before .before .before .before .before .before .before .before .before .before) .args .head) ((c .before .before .before .before .before .before .before .before .before .before .before) .args .a .now) ((c .before .before .before .before .before .before .before .before .before .before .before) .args .out .now) ((c .before .before .before .before .before .before .before .before .before .before .before) .fits .head .fits) (c .before .before .before .before .before .before .before .before .one-gate .ensures) (c .before .before .before .before .before .before .if1 .left), (c .before .before .negate-into .ensures ∙ negate-out ((c .before .before .before .before .before .before .before .before .before .before .before) .args .head) ((c .before .before .before .before .before .before .before .before .before .before .before) .args .a .now) ((c .before .before .before .before .before .before .before .before .before .before .before) .args .out .now) ((c .before .before .before .before .before .before .before .before .before .before .before) .fits .head .fits) (c .before .before .before .before .before .before .before .before .one-gate .ensures) (c .before .before .before .before .before .before .if1 .left) (counted (c .before .before .before .before))))
+returns-2 c =
+    let a = (c .before .before .before .before .before .before .before .before .before .before .before) .args in
+    (negate-done (a .head) (a .a .now) (a .out .now) ((c .before .before .before .before .before .before .before .before .before .before .before) .fits .head .fits) (c .before .before .before .before .before .before .before .before .one-gate .ensures) (c .before .before .before .before .before .before .if1 .left), (c .before .before .negate-into .ensures ∙ negate-out (a .head) (a .a .now) (a .out .now) ((c .before .before .before .before .before .before .before .before .before .before .before) .fits .head .fits) (c .before .before .before .before .before .before .before .before .one-gate .ensures) (c .before .before .before .before .before .before .if1 .left) (counted (c .before .before .before .before))))
 
 pub negate-spec : {M : Type 1} → statement M
 negate-spec =

@@ -1,0 +1,57 @@
+use Rattle.lists.specs.Table.{Filled, filled-none, filled-more, filled-end, table-take}
+use Rattle.blocks.specs.Fill.{filled-all, filled-here, filled-front}
+use native.Mathlib.Omega.{arith}
+use mathlib.Core.Path.{_≡_, refl, sym, ap, _∙_}
+use Prim.Native.Nat.{ℕ, _≤_, _-_}
+use lib.ListN.{length, getD}
+use lib.Ieee.{nan}
+use Rattle.model.specs.Refusals.{zeroF}
+use Rattle.blocks.proofs.clear.Statement.{statement}
+use Rattle.blocks.proofs.clear.Tie as tie
+use Rattle.blocks.proofs.clear.Reads as reads
+use Rattle.blocks.proofs.clear.Lts as lts
+
+abbrev Inv-loop : tie.InvT-loop
+Inv-loop to₀ n k₀ to k = (k ≤ n) × ((n ≡ length to₀) × Filled k (λ j. zeroF) to₀ to)
+
+abbrev μ-loop : tie.MeasureT-loop
+μ-loop to₀ n k₀ to k = n - k
+
+loop-holds : tie.Need-loop-holds Inv-loop μ-loop
+loop-holds c = (omega arith, (refl, filled-none))
+
+mul-to : tie.Need-mul-to Inv-loop μ-loop
+mul-to c = omega arith
+
+slice-write-to : tie.Need-slice-write-to Inv-loop μ-loop
+slice-write-to c = omega arith
+
+add-k : tie.Need-add-k Inv-loop μ-loop
+add-k c = omega arith
+
+loop-less : tie.Need-loop-less Inv-loop μ-loop
+loop-less c = omega arith
+
+loop-again : tie.Need-loop-again Inv-loop μ-loop
+loop-again c = (omega arith, (c .before .loop .inv .1 .0, filled-more (c .before .loop .inv .1 .1) (refl) (omega arith)))
+
+same-length : tie.Need-same-length Inv-loop μ-loop
+same-length c = c .before .loop .inv .1 .1 .len
+
+returns : tie.Need-returns Inv-loop μ-loop
+returns c = filled-all (c .before .loop .inv .1 .1) (omega arith) (omega arith)
+
+pub clear-spec : {M : Type 1} → statement M
+clear-spec =
+    tie.close
+    (tie.spec
+    Inv-loop
+    μ-loop
+    loop-holds
+    mul-to
+    slice-write-to
+    add-k
+    loop-less
+    loop-again
+    same-length
+    returns)

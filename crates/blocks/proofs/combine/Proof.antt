@@ -1,0 +1,75 @@
+use native.Mathlib.Omega.{arith}
+use mathlib.Core.Path.{_≡_, refl, sym, ap, _∙_}
+use lib.ListN.{length}
+use Rattle.model.specs.Poly.{block}
+use Rattle.blocks.specs.Combine.{combine-left, combine-right, combine-some, joining-left, joining-right, way-left, way-right, way-both, first-set, turned-yes, turned-no}
+use borrow.Author.Needs.{needs}
+use Rattle.blocks.proofs.combine.Statement.{statement}
+use Rattle.blocks.proofs.combine.Tie as tie
+use Rattle.blocks.proofs.combine.Reads as reads
+use Rattle.blocks.proofs.combine.Lts as lts
+use Rattle.blocks.proofs.clear.Reads as clear-reads
+use Rattle.blocks.proofs.first_joined.Reads as first-joined-reads
+use Rattle.blocks.proofs.join_block.Reads as join-block-reads
+use Rattle.blocks.proofs.turned_joined.Reads as turned-joined-reads
+
+first-joined-requires : tie.Need-first-joined-requires
+first-joined-requires c κs =
+    let p = (c .before .before .before .before .before) .pre in
+    (combine-some (p), combine-left (p) (c .before .if1 .taken))
+
+same-length : tie.Need-same-length
+same-length c = search needs
+
+returns : tie.Need-returns
+returns c =
+    let a = (c .before .before .before .before .before .before .before .before) .args in
+    c .before .before .first-joined .ensures ∙ way-left _ (a .r) (block (a .n) (a .a .now)) (block (a .m) (a .b .now)) (sym ((c .before .before .before .before .before .before .before .before) .pre .full-b) ∙ c .before .before .before .before .if1 .taken)
+
+turned-joined-requires : tie.Need-turned-joined-requires
+turned-joined-requires c κs =
+    let p = (c .before .before .before .before .before .before) .pre in
+    (combine-some (p), combine-right (p) (c .before .if2 .taken))
+
+same-length-2 : tie.Need-same-length-2
+same-length-2 c = search needs
+
+returns-2 : tie.Need-returns-2
+returns-2 c =
+    let a' = (c .before .before .before .before .before .before .before .before .before) .args in
+    let p = (c .before .before .before .before .before .before .before .before .before) .pre in
+    c .before .before .turned-joined .ensures ∙ way-right _ (a' .r) (block (a' .n) (a' .a .now)) (block (a' .m) (a' .b .now)) (λ e. c .before .before .before .before .before .if1 .left (p .full-b ∙ e)) (sym (p .full-a) ∙ c .before .before .before .before .if2 .taken)
+
+clear-requires : tie.Need-clear-requires
+clear-requires c κs = search needs
+
+join-block-requires : tie.Need-join-block-requires
+join-block-requires c κs = joining-left ((c .before .before .before .before .before .before .before .before .before .before) .pre) (c .before .before .before .clear .kept .0)
+
+join-block-requires-2 : tie.Need-join-block-requires-2
+join-block-requires-2 c κs = joining-right ((c .before .before .before .before .before .before .before .before .before .before .before .before .before .before) .pre) (c .before .before .before .join-block .kept .1 .1 .1 .1 .0 ∙ c .before .before .before .before .before .before .before .clear .kept .0)
+
+same-length-3 : tie.Need-same-length-3
+same-length-3 c = search needs
+
+returns-3 : tie.Need-returns-3
+returns-3 c =
+    let a' = (c .before .before .before .before .before .before .before .before .before .before .before .before .before .before .before .before .before) .args in
+    let p = (c .before .before .before .before .before .before .before .before .before .before .before .before .before .before .before .before .before) .pre in
+    way-both _ (a' .r) (block (a' .n) (a' .a .now)) (block (a' .m) (a' .b .now)) (a' .to .now) (λ e. c .before .before .before .before .before .before .before .before .before .before .before .before .before .if1 .left (p .full-b ∙ e)) (λ e. c .before .before .before .before .before .before .before .before .before .before .before .before .if2 .left (p .full-a ∙ e)) (p .full) (c .before .before .before .before .before .before .before .before .before .before .clear .ensures) (c .before .before .before .before .before .before .join-block .ensures) (c .before .before .join-block2 .ensures)
+
+pub combine-spec : {M : Type 1} → statement M
+combine-spec =
+    tie.close
+    (tie.spec
+    first-joined-requires
+    same-length
+    returns
+    turned-joined-requires
+    same-length-2
+    returns-2
+    clear-requires
+    join-block-requires
+    join-block-requires-2
+    same-length-3
+    returns-3)

@@ -1,0 +1,47 @@
+use native.Mathlib.Omega.{arith}
+use mathlib.Core.Path.{_≡_, refl, sym, ap, _∙_}
+use lib.ListN.{length}
+use Rattle.model.specs.Poly.{block}
+use Rattle.blocks.specs.Combine.{combine-left, combine-right, combine-some, joining-left, joining-right, way-left, way-right, way-both, first-set, turned-yes, turned-no}
+use borrow.Author.Needs.{needs}
+use Rattle.blocks.proofs.first_joined.Statement.{statement}
+use Rattle.blocks.proofs.first_joined.Tie as tie
+use Rattle.blocks.proofs.first_joined.Reads as reads
+use Rattle.blocks.proofs.first_joined.Lts as lts
+use Rattle.blocks.proofs.copy.Reads as copy-reads
+use Rattle.blocks.proofs.joined.Reads as joined-reads
+
+copy-requires : tie.Need-copy-requires
+copy-requires c κs = search needs
+
+shared-slice-read-joined : tie.Need-shared-slice-read-joined
+shared-slice-read-joined c = search needs
+
+shared-slice-read-joined-2 : tie.Need-shared-slice-read-joined-2
+shared-slice-read-joined-2 c = search needs
+
+joined-requires : tie.Need-joined-requires
+joined-requires c κs = search needs
+
+slice-write-to : tie.Need-slice-write-to
+slice-write-to c = search needs
+
+same-length : tie.Need-same-length
+same-length c = search needs
+
+returns : tie.Need-returns
+returns c =
+    let a = (c .before .before .before .before .before .before .before .before .before .before) .args in
+    first-set (a .minus) (a .a .now) (a .b .now) (a .to .now) (c .before .before .before .before .before .copy .ensures) ((c .before .before .before .before .before .before .before .before .before .before) .pre .1) (c .joined .ensures)
+
+pub first-joined-spec : {M : Type 1} → statement M
+first-joined-spec =
+    tie.close
+    (tie.spec
+    copy-requires
+    shared-slice-read-joined
+    shared-slice-read-joined-2
+    joined-requires
+    slice-write-to
+    same-length
+    returns)

@@ -1,0 +1,84 @@
+use borrow.Author.Needs.{needs}
+use Rattle.lists.specs.Table.{Filled, filled-none, filled-more, filled-end, table-take}
+use Rattle.blocks.specs.Fill.{filled-all, filled-here, filled-front}
+use native.Mathlib.Omega.{arith}
+use mathlib.Core.Path.{_≡_, refl, sym, ap, _∙_}
+use Prim.Native.Nat.{ℕ, _≤_, _-_}
+use lib.ListN.{length, getD}
+use lib.Ieee.{nan}
+use Rattle.blocks.specs.Rows.{lineJoined}
+use Rattle.blocks.specs.Line.{line-more, line-rest}
+use Rattle.blocks.proofs.join_line.Statement.{statement}
+use Rattle.blocks.proofs.join_line.Tie as tie
+use Rattle.blocks.proofs.join_line.Reads as reads
+use Rattle.blocks.proofs.join_line.Lts as lts
+use Rattle.blocks.proofs.joined.Reads as joined-reads
+
+abbrev Inv-loop : tie.InvT-loop
+Inv-loop minus with to₀ n k₀ to k = (k ≤ n) × ((n ≡ length with) × Filled k (lineJoined minus with to₀) to₀ to)
+
+abbrev μ-loop : tie.MeasureT-loop
+μ-loop minus with to₀ n k₀ to k = n - k
+
+loop-holds : tie.Need-loop-holds Inv-loop μ-loop
+loop-holds c = (omega arith, (refl, filled-none))
+
+mul-joined : tie.Need-mul-joined Inv-loop μ-loop
+mul-joined c = omega arith
+
+slice-read-joined : tie.Need-slice-read-joined Inv-loop μ-loop
+slice-read-joined c = omega arith
+
+mul-joined-2 : tie.Need-mul-joined-2 Inv-loop μ-loop
+mul-joined-2 c = omega arith
+
+shared-slice-read-joined : tie.Need-shared-slice-read-joined Inv-loop μ-loop
+shared-slice-read-joined c = omega arith
+
+joined-requires : tie.Need-joined-requires Inv-loop μ-loop
+joined-requires c κs = search needs
+
+mul-to : tie.Need-mul-to Inv-loop μ-loop
+mul-to c = omega arith
+
+slice-write-to : tie.Need-slice-write-to Inv-loop μ-loop
+slice-write-to c = omega arith
+
+add-k : tie.Need-add-k Inv-loop μ-loop
+add-k c = omega arith
+
+loop-less : tie.Need-loop-less Inv-loop μ-loop
+loop-less c = omega arith
+
+loop-again : tie.Need-loop-again Inv-loop μ-loop
+loop-again c =
+    let a = (c .before .before .before .before .before .before .before) .args in
+    (omega arith, (c .before .before .before .before .loop .inv .1 .0, filled-more (c .before .before .before .before .loop .inv .1 .1) (c .joined .ensures ∙ line-more (a .minus) (a .with .now) (a .to .now) (c .before .before .before .before .loop .k) (filled-here nan (c .before .before .before .before .loop .inv .1 .1) (omega arith)) (omega arith)) (omega arith)))
+
+same-length : tie.Need-same-length Inv-loop μ-loop
+same-length c = c .before .loop .inv .1 .1 .len
+
+returns : tie.Need-returns Inv-loop μ-loop
+returns c =
+    let a = (c .before .before .before .before) .args in
+    filled-front nan (c .before .loop .inv .1 .1) (omega arith) (λ k p q. line-rest (a .minus) (a .with .now) (a .to .now) k (omega arith))
+
+pub join-line-spec : {M : Type 1} → statement M
+join-line-spec =
+    tie.close
+    (tie.spec
+    Inv-loop
+    μ-loop
+    loop-holds
+    mul-joined
+    slice-read-joined
+    mul-joined-2
+    shared-slice-read-joined
+    joined-requires
+    mul-to
+    slice-write-to
+    add-k
+    loop-less
+    loop-again
+    same-length
+    returns)

@@ -1,0 +1,79 @@
+use native.Mathlib.Omega.{arith}
+use mathlib.Core.Path.{_≡_, refl, sym, ap, _∙_}
+use Prim.Native.Nat.{ℕ, _+_, _-_, _≤_}
+use lib.ListN.{length, take, drop, length-take, length-drop, length-append}
+use lib.Seq.{length-take-le}
+use Rattle.lists.specs.Table.{length-table}
+use Rattle.model.specs.Header.{count}
+use Rattle.blocks.specs.Two.{cutting-a, cutting-b, two-held}
+use borrow.Author.Needs.{needs}
+use Rattle.blocks.proofs.load_two.Statement.{statement}
+use Rattle.blocks.proofs.load_two.Tie as tie
+use Rattle.blocks.proofs.load_two.Reads as reads
+use Rattle.blocks.proofs.load_two.Lts as lts
+use Rattle.blocks.proofs.load.Reads as load-reads
+use Rattle.words.proofs.places.count_of.Reads as count-of-reads
+
+fits-a : (c : tie.After-count-of) → c .count-of .result ≤ length ((c .before .before .before .before) .args .work .now)
+fits-a c =
+    let p = (c .before .before .before .before) .pre in
+    omega (arith, c .count-of .ensures, p .small-a, p .small-b)
+
+count-of-requires : tie.Need-count-of-requires
+count-of-requires c κs = search needs
+
+slice-relend-prefix-load : tie.Need-slice-relend-prefix-load
+slice-relend-prefix-load c = search needs
+
+slice-aggregate-load : tie.Need-slice-aggregate-load
+slice-aggregate-load c = sym (length-take-le _ _ (fits-a (c .before)))
+
+load-requires : tie.Need-load-requires
+load-requires c κs = cutting-a ((c .before .before .before .before .before) .pre) (length-take-le _ _ (fits-a (c .before)) ∙ c .before .count-of .ensures)
+
+count-of-requires-2 : tie.Need-count-of-requires-2
+count-of-requires-2 c κs = search needs
+
+add-load : tie.Need-add-load
+add-load c = search needs
+
+mul-load : tie.Need-mul-load
+mul-load c = search needs
+
+sub-load : tie.Need-sub-load
+sub-load c = search needs
+
+part-load-start : tie.Need-part-load-start
+part-load-start c = search needs
+
+part-load-end : tie.Need-part-load-end
+part-load-end c = search needs
+
+load-requires-2 : tie.Need-load-requires-2
+load-requires-2 c κs = search needs
+
+same-length : tie.Need-same-length
+same-length c = search needs
+
+returns : tie.Need-returns
+returns c =
+    let a = (c .before .before .before .before .before .before .before .before .before .before .before .before .before) .args in
+    two-held (a .la) (a .ca) (a .lb) (a .cb) (a .n + c .before .before .before .before .count-of2 .result - a .n) (a .a .now) (a .b .now) (a .work .now) ((c .before .before .before .before .before .before .before .before .before .before .before .before .before) .pre) (c .before .before .before .before .before .before .before .load .ensures) (c .before .before .load2 .ensures) (c .before .before .before .before .before .before .before .before .before .count-of .ensures)
+
+pub load-two-spec : {M : Type 1} → statement M
+load-two-spec =
+    tie.close
+    (tie.spec
+    count-of-requires
+    slice-relend-prefix-load
+    slice-aggregate-load
+    load-requires
+    count-of-requires-2
+    add-load
+    mul-load
+    sub-load
+    part-load-start
+    part-load-end
+    load-requires-2
+    same-length
+    returns)

@@ -1,0 +1,121 @@
+-- The sum of two blocks by its three ways.
+use Prim.Native.Nat.{ℕ, zero, suc, _+_, _*_, _≤_, _<_, max}
+use mathlib.Core.List.{List}
+use mathlib.Core.Bool.{Bool, true, false, cond}
+use mathlib.Core.Path.{_≡_, refl, sym, ap, _∙_}
+use native.Mathlib.Omega.{arith}
+use native.Mathlib.Nat.{le-mul-of-pos-right, mul-pos, mul-comm}
+use lib.Dec.{eqb, lit<}
+use lib.ListN.{length, getD, set, take, length-set}
+use lib.Seq.{take-all, take-length}
+use lib.Ieee.{Float, nan}
+use borrow.Author.Tests.{eq-eqb, ne-eqb}
+use Rattle.lists.specs.Four.{at, four, at-four, each}
+use Rattle.lists.specs.Table.{table, table-same, table-at, length-table}
+use Rattle.model.specs.Header.{count, span}
+use Rattle.model.specs.Limits.{maxShape}
+use Rattle.model.specs.Places.{index}
+use Rattle.model.specs.Poly.{Block, block}
+use Rattle.model.specs.Refusals.{zeros, zeroF}
+use Rattle.model.specs.Negate.{negatedAt}
+use Rattle.model.specs.Readings.{first}
+use Rattle.model.specs.Add.{join, joinAt, firstJoined, turned, joined, placeJoined}
+use Rattle.words.specs.Lengths.{Lengths, count-is, count-pos}
+use Rattle.blocks.specs.Rows.{Inner, Joining}
+
+-- n and m the operands' lengths, r the result's; la, lb and lt the lengths of the buffers
+pub record Combining (n m r : List ℕ) (la lb lt : ℕ) : Type 0 where
+  pub left : Lengths n
+  pub right : Lengths m
+  pub result : Lengths r
+  pub shape : r ≡ maxShape n m
+  pub full-a : la ≡ count n
+  pub full-b : lb ≡ count m
+  pub full : lt ≡ count r
+
+-- a count of 1 has lengths of 1
+one-factor : {a b : ℕ} → 0 < a → 0 < b → a * b ≡ 1 → a ≡ 1
+one-factor {a} {b} p q e = let h = le-mul-of-pos-right a q in omega arith
+
+pub count-one : {m : List ℕ} → Lengths m → count m ≡ 1 → (k : ℕ) → k < 4 → at m k ≡ 1
+count-one {m} g e =
+    let e0 : at m 0 * (at m 1 * (at m 2 * at m 3)) ≡ 1 = sym (count-is m) ∙ e in
+    let p3 = g .p3 in
+    let p2 = mul-pos (g .p2) (g .p3) in
+    let p1 = mul-pos (g .p1) p2 in
+    let a0 = one-factor (g .p0) p1 e0 in
+    let e1 = one-factor p1 (g .p0) (mul-comm _ (at m 0) ∙ e0) in
+    let a1 = one-factor (g .p1) p2 e1 in
+    let e2 = one-factor p2 (g .p1) (mul-comm _ (at m 1) ∙ e1) in
+    each (λ k. at m k ≡ 1) a0 a1 (one-factor (g .p2) p3 e2) (one-factor p3 (g .p2) (mul-comm _ (at m 2) ∙ e2))
+
+-- the result of a sum with a block of count 1 has the other's count
+pub count-left : {n m : List ℕ} → Lengths n → Lengths m → count m ≡ 1 → count (maxShape n m) ≡ count n
+unfolding maxShape
+count-left {n} {m} g h e =
+    let k : (v : ℕ) → v < 4 → 0 < at n v → max (at n v) (at m v) ≡ at n v = λ v l p. let o = count-one h e v l in omega arith in
+    rw (count-is (maxShape n m), count-is n) (simp (k 0 (lit< tt) (g .p0), k 1 (lit< tt) (g .p1), k 2 (lit< tt) (g .p2), k 3 (lit< tt) (g .p3)))
+
+pub count-right : {n m : List ℕ} → Lengths n → Lengths m → count n ≡ 1 → count (maxShape n m) ≡ count m
+unfolding maxShape
+count-right {n} {m} g h e =
+    let k : (v : ℕ) → v < 4 → 0 < at m v → max (at n v) (at m v) ≡ at m v = λ v l p. let o = count-one g e v l in omega arith in
+    rw (count-is (maxShape n m), count-is m) (simp (k 0 (lit< tt) (h .p0), k 1 (lit< tt) (h .p1), k 2 (lit< tt) (h .p2), k 3 (lit< tt) (h .p3)))
+
+inner-left : (n m : List ℕ) → Inner (maxShape n m) n
+unfolding maxShape
+inner-left n m = record { c0 = omega arith; c1 = omega arith; c2 = omega arith; c3 = omega arith }
+
+inner-right : (n m : List ℕ) → Inner (maxShape n m) m
+unfolding maxShape
+inner-right n m = record { c0 = omega arith; c1 = omega arith; c2 = omega arith; c3 = omega arith }
+
+module _ {n m r : List ℕ} {la lb lt : ℕ} (q : Combining n m r la lb lt) where
+  pub combine-left : lb ≡ 1 → lt ≡ la
+  combine-left e = q .full ∙ (ap count (q .shape) ∙ (count-left (q .left) (q .right) (sym (q .full-b) ∙ e) ∙ sym (q .full-a)))
+
+  pub combine-right : la ≡ 1 → lt ≡ lb
+  combine-right e = q .full ∙ (ap count (q .shape) ∙ (count-right (q .left) (q .right) (sym (q .full-a) ∙ e) ∙ sym (q .full-b)))
+
+  pub combine-some : (0 < la) × (0 < lb)
+  combine-some = (omega (arith, q .full-a, count-pos (q .left)), omega (arith, q .full-b, count-pos (q .right)))
+
+  pub joining-left : {l : ℕ} → l ≡ lt → Joining n r la l
+  joining-left e =
+      record { from = q .left; to = q .result; inner = rw (q .shape) (inner-left n m); room = omega (arith, q .full-a); full = e ∙ q .full }
+
+  pub joining-right : {l : ℕ} → l ≡ lt → Joining m r lb l
+  joining-right e =
+      record { from = q .right; to = q .result; inner = rw (q .shape) (inner-right n m); room = omega (arith, q .full-b); full = e ∙ q .full }
+
+-- the three ways
+module _ (minus : Bool) (r : List ℕ) (a b : Block) where
+  pub way-left : count (b .lengths) ≡ 1 → firstJoined minus (a .places) (b .places) ≡ joined minus r a b
+  unfolding joined
+  way-left e = simp (eq-eqb _ _ e)
+
+  pub way-right : (count (b .lengths) ≡ 1 → ⊥) → count (a .lengths) ≡ 1 → turned minus (firstJoined minus (b .places) (a .places)) ≡ joined minus r a b
+  unfolding joined
+  way-right e f = simp (ne-eqb _ _ e, eq-eqb _ _ f)
+
+  pub way-both : (t : List Float) {u v : List Float} → (count (b .lengths) ≡ 1 → ⊥) → (count (a .lengths) ≡ 1 → ⊥) → length t ≡ count r → u ≡ zeros (length t)
+      → v ≡ table (count r) (λ k. joinAt false (getD u k nan) a (index r k))
+      → {w : List Float} → w ≡ table (count r) (λ k. joinAt minus (getD v k nan) b (index r k)) → w ≡ joined minus r a b
+  unfolding joined
+  way-both t {u} {v} e f l z x y =
+      let o : (k : ℕ) → k < count r → getD u k nan ≡ zeroF = λ k h. ap (λ (s : List Float). getD s k nan) z ∙ table-at nan (λ j. zeroF) (length t) k (omega arith) in
+      let p : (k : ℕ) → k < count r → getD v k nan ≡ joinAt false zeroF a (index r k) =
+      λ k h. ap (λ (s : List Float). getD s k nan) x ∙ (table-at nan _ (count r) k h ∙ ap (λ (s : Float). joinAt false s a (index r k)) (o k h)) in
+      simp (ne-eqb _ _ e, ne-eqb _ _ f) (y ∙ table-same _ _ (count r) (λ k h. ap (λ (s : Float). joinAt minus s b (index r k)) (p k h)))
+
+-- a copy with its first place set
+pub first-set : (minus : Bool) (a b t : List Float) {o : List Float} {x : Float} → o ≡ take (length t) a → length t ≡ length a → x ≡ join minus (getD a 0 nan) (getD b 0 nan)
+    → set o 0 x ≡ firstJoined minus a b
+first-set minus a b t e l f = rw (e, l, take-length a, f)
+
+-- turned or not
+pub turned-yes : {minus : Bool} (a : List Float) → minus ≡ true → table (length a) (negatedAt a) ≡ turned minus a
+turned-yes a e = rw e
+
+pub turned-no : {minus : Bool} (a : List Float) → minus ≡ false → a ≡ turned minus a
+turned-no a e = rw e

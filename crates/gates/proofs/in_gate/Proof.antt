@@ -1,0 +1,84 @@
+use native.Mathlib.Omega.{arith}
+use Prim.Native.Nat.{_<_}
+use Rattle.model.specs.Gates.{inGate, announcedOne}
+use Rattle.words.specs.Rules.{none-regular}
+use Rattle.gates.specs.Gate.{one-announced, ReadReady, read-ready, read-stop, read-on}
+use mathlib.Core.Path.{_≡_, sym, ap, _∙_}
+use borrow.Author.Tests.{lt-ltb, le-ltb}
+use Rattle.model.specs.Word.{headerOf}
+use borrow.Author.Needs.{needs}
+use Rattle.gates.proofs.in_gate.Statement.{statement}
+use Rattle.gates.proofs.in_gate.Tie as tie
+
+ready : (c : tie.Else1) → ReadReady ((c .before .before .before) .args .word) ((c .before .before .before) .args .given)
+ready c = read-ready _ _ (ap (λ r. r .number) (sym (c .before .before .read-gate .ensures)) ∙ c .if1 .left)
+
+known : (c : tie.Else2) → (c .before .before .before .before .before .before) .args .v < headerOf ((c .before .before .before .before .before .before) .args .word) .vars
+known c = rw (c .before .before .header-of .ensures) at (c .if2 .left)
+
+few : (c : tie.Else2) → (c .before .before .before .before .before .before) .args .v < 4
+few c = omega (arith, known c, ready (c .before .before .before) .good .regular .rules .few)
+
+is-announced : (c : tie.After-announced-of) → c .announced-of .result ≡ announcedOne ((c .before .before .before .before .before .before .before .before .before .before) .args .f) ((c .before .before .before .before .before .before .before .before .before .before) .args .word)
+is-announced c = simp (c .before .before .before .before .before .before .header-of .ensures, c .before .none .ensures) at (c .announced-of .ensures)
+
+read-gate-requires : tie.Need-read-gate-requires
+read-gate-requires c κs = search needs
+
+returns : tie.Need-returns
+unfolding inGate
+returns c = read-stop _ _ _ (c .before .before .read-gate .ensures) (c .if1 .taken)
+
+header-of-requires : tie.Need-header-of-requires
+header-of-requires c κs = search needs
+
+by-requires : tie.Need-by-requires
+by-requires c κs = search needs
+
+returns-2 : tie.Need-returns-2
+unfolding inGate
+returns-2 c = (simp (le-ltb _ _ (rw (c .before .before .before .header-of .ensures) at (c .before .if2 .taken))) (c .by .ensures)) ∙ read-on ((c .before .before .before .before .before .before .before) .args .word) ((c .before .before .before .before .before .before .before) .args .given) _ (c .before .before .before .before .before .before .read-gate .ensures) (c .before .before .before .before .if1 .left)
+
+mul-if3 : tie.Need-mul-if3
+mul-if3 c = omega (arith, few (c .before))
+
+array-read-if3 : tie.Need-array-read-if3
+array-read-if3 c = few (c .before)
+
+by-requires-2 : tie.Need-by-requires-2
+by-requires-2 c κs = search needs
+
+returns-3 : tie.Need-returns-3
+unfolding inGate
+returns-3 c = (simp (lt-ltb _ _ (known (c .before .before .before)), le-ltb _ _ (rw (c .before .before .before .before .before .header-of .ensures) at (c .before .if3 .taken))) (c .by2 .ensures)) ∙ read-on ((c .before .before .before .before .before .before .before .before .before) .args .word) ((c .before .before .before .before .before .before .before .before .before) .args .given) _ (c .before .before .before .before .before .before .before .before .read-gate .ensures) (c .before .before .before .before .before .before .if1 .left)
+
+none-requires : tie.Need-none-requires
+none-requires c κs = search needs
+
+announced-of-requires : tie.Need-announced-of-requires
+announced-of-requires c κs = (rw (c .before .before .before .before .before .header-of .ensures) (ready (c .before .before .before .before .before .before) .good .regular .rules), rw (c .none .ensures) (none-regular .rules))
+
+fits-gate-requires : tie.Need-fits-gate-requires
+fits-gate-requires c κs = rw (is-announced c) (one-announced _ _ (ready (c .before .before .before .before .before .before .before) .word) .rules)
+
+returns-4 : tie.Need-returns-4
+unfolding inGate
+returns-4 c = (simp (lt-ltb _ _ (known (c .before .before .before .before .before)), lt-ltb _ _ (rw (c .before .before .before .before .before .before .before .header-of .ensures) at (c .before .before .before .if3 .left))) (rw (is-announced (c .before)) at (c .fits-gate .ensures))) ∙ read-on ((c .before .before .before .before .before .before .before .before .before .before .before) .args .word) ((c .before .before .before .before .before .before .before .before .before .before .before) .args .given) _ (c .before .before .before .before .before .before .before .before .before .before .read-gate .ensures) (c .before .before .before .before .before .before .before .before .if1 .left)
+
+pub in-gate-spec : {M : Type 1} → statement M
+in-gate-spec =
+    tie.close
+    (tie.spec
+    read-gate-requires
+    returns
+    header-of-requires
+    by-requires
+    returns-2
+    mul-if3
+    array-read-if3
+    by-requires-2
+    returns-3
+    none-requires
+    announced-of-requires
+    fits-gate-requires
+    returns-4)

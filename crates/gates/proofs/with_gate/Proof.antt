@@ -1,0 +1,42 @@
+use mathlib.Core.Path.{_≡_}
+use mathlib.Core.Bool.{true}
+use borrow.Author.Tests.{not-true, not-false}
+use Rattle.model.specs.Gates.{goodLimits, withGate}
+use Rattle.gates.specs.Given.{good-limits, zero-regular}
+use borrow.Author.Needs.{needs}
+use Rattle.gates.proofs.with_gate.Statement.{statement}
+use Rattle.gates.proofs.with_gate.Tie as tie
+
+limits : (c : tie.Else1) → goodLimits ((c .before .before) .args .vars) ((c .before .before) .args .limits) ≡ true
+limits c = not-false _ (rw (c .before .good-limits .ensures) at (c .if1 .left))
+
+good-limits-requires : tie.Need-good-limits-requires
+good-limits-requires c κs = search needs
+
+by-requires : tie.Need-by-requires
+by-requires c κs = search needs
+
+returns : tie.Need-returns
+unfolding withGate
+returns c = simp (not-true (goodLimits ((c .before .before .before) .args .vars) ((c .before .before .before) .args .limits)) (rw (c .before .before .good-limits .ensures) at (c .before .if1 .taken))) (c .by .ensures)
+
+zero-with-requires : tie.Need-zero-with-requires
+zero-with-requires c κs = search needs
+
+fits-gate-requires : tie.Need-fits-gate-requires
+fits-gate-requires c κs = rw (c .zero-with .ensures) (zero-regular (good-limits _ _ (limits (c .before))) .rules)
+
+returns-2 : tie.Need-returns-2
+unfolding withGate
+returns-2 c = simp (limits (c .before .before)) (rw (c .before .zero-with .ensures) at (c .fits-gate .ensures))
+
+pub with-gate-spec : {M : Type 1} → statement M
+with-gate-spec =
+    tie.close
+    (tie.spec
+    good-limits-requires
+    by-requires
+    returns
+    zero-with-requires
+    fits-gate-requires
+    returns-2)

@@ -1,0 +1,241 @@
+// Gates: whether a call is refused, by which number, from header words, lengths of buffers, variables and limits alone.
+use model::Family;
+use model::Header;
+use model::Refusal;
+use shape::announce::announced_of;
+use words::places::count_of;
+use words::places::is_inside;
+use words::word::header_of;
+use words::word::is_good;
+ghost use mathlib.Core.Path.{_≡_};
+ghost use Prim.Native.Nat.{_*_};
+ghost use lib.Dec.{leb};
+ghost use Rattle.model.specs.Header.{stored};
+ghost use Rattle.model.specs.Gates.{readGate, noMissing, indexGate, tailGate, oneGate, inGate, pairGate, goodLimit, goodLimits, withGate, varWithGate, varGate};
+ghost use Rattle.model.specs.Refusals.{ask, noRefusal, fits, roomy};
+ghost use Rattle.words.specs.Rules.{Ruled};
+
+// The stored count of a header.
+pub fn stored_of(h: Header) -> usize
+    requires { ⌜ Ruled h ⌝ }
+    ensures { λ r. ⌜ r ≡ stored h ⌝ }
+{
+    let n = h.lengths;
+    count_of(n)
+}
+
+// Test 2: as many coefficients are given as are stored.
+fn is_full(h: Header, given: usize) -> bool
+    requires { ⌜ Ruled h ⌝ }
+    ensures { λ r. ⌜ r ≡ leb (stored h) given ⌝ }
+{
+    stored_of(h) <= given
+}
+
+// Test 5: the announced count is 4,096 at most, and so many places are lent.
+pub fn is_fitting(h: Header, lent: usize) -> bool
+    requires { ⌜ Ruled h ⌝ }
+    ensures { λ r. ⌜ r ≡ fits h lent ⌝ }
+{
+    let n = stored_of(h);
+    (n <= Header::COUNT) & (n <= lent)
+}
+
+// Test 5, where it is the last.
+fn fits_gate(h: Header, lent: usize) -> Refusal
+    requires { ⌜ Ruled h ⌝ }
+    ensures { λ r. ⌜ r ≡ ask (fits h lent) 5 noRefusal ⌝ }
+{
+    if is_fitting(h, lent) {
+        Refusal::none()
+    } else {
+        Refusal::by(5)
+    }
+}
+
+// Test 6: scratch for eight times the announced count.
+pub fn is_roomy(h: Header, lent: usize) -> bool
+    requires { ⌜ Ruled h ⌝ }
+    ensures { λ r. ⌜ r ≡ roomy h lent ⌝ }
+{
+    8 * stored_of(h) <= lent
+}
+
+// A number read off a polynomial: refusals 1, 2.
+pub fn read_gate(word: u64, given: usize) -> Refusal
+    ensures { λ r. ⌜ r ≡ readGate word given ⌝ }
+{
+    if !is_good(word) {
+        return Refusal::by(1);
+    }
+    if !is_full(header_of(word), given) {
+        return Refusal::by(2);
+    }
+    Refusal::none()
+}
+
+// Whether the index of every missing variable is 0.
+fn no_missing(h: Header, i: [usize; 4]) -> bool
+    ensures { λ r. ⌜ r ≡ noMissing h i ⌝ }
+{
+    let v = h.vars;
+    ((0 < v) | (i[0] == 0))
+        & ((1 < v) | (i[1] == 0))
+        & ((2 < v) | (i[2] == 0))
+        & ((3 < v) | (i[3] == 0))
+}
+
+// A coefficient at an index: refusals 1, 2, 3, 4.
+pub fn index_gate(word: u64, given: usize, i: [usize; 4]) -> Refusal
+    ensures { λ r. ⌜ r ≡ indexGate word given i ⌝ }
+{
+    let first = read_gate(word, given);
+    if first.number != 0 {
+        return first;
+    }
+    let h = header_of(word);
+    if !no_missing(h, i) {
+        return Refusal::by(3);
+    }
+    let l = h.limits;
+    if !is_inside(l, i) {
+        return Refusal::by(4);
+    }
+    Refusal::none()
+}
+
+// The tail of one variable from k on: refusals 1, 2, 3, 4.
+pub fn tail_gate(word: u64, given: usize, k: usize) -> Refusal
+    ensures { λ r. ⌜ r ≡ tailGate word given k ⌝ }
+{
+    let first = read_gate(word, given);
+    if first.number != 0 {
+        return first;
+    }
+    let h = header_of(word);
+    if h.vars != 1 {
+        return Refusal::by(3);
+    }
+    let l = h.limits;
+    if l[0] <= k {
+        return Refusal::by(4);
+    }
+    Refusal::none()
+}
+
+// One operand and no scratch: refusals 1, 2, 5.
+pub fn one_gate(f: Family, word: u64, given: usize, lent: usize) -> Refusal
+    ensures { λ r. ⌜ r ≡ oneGate f word given lent ⌝ }
+{
+    let first = read_gate(word, given);
+    if first.number != 0 {
+        return first;
+    }
+    fits_gate(announced_of(f, header_of(word), Header::none()), lent)
+}
+
+// One operand, a variable v and a number d below its limit: refusals 1, 2, 3, 4, 5.
+pub fn in_gate(f: Family, v: usize, d: usize, word: u64, given: usize, lent: usize) -> Refusal
+    ensures { λ r. ⌜ r ≡ inGate f v d word given lent ⌝ }
+{
+    let first = read_gate(word, given);
+    if first.number != 0 {
+        return first;
+    }
+    let h = header_of(word);
+    if h.vars <= v {
+        return Refusal::by(3);
+    }
+    let l = h.limits;
+    if l[v] <= d {
+        return Refusal::by(4);
+    }
+    fits_gate(announced_of(f, h, Header::none()), lent)
+}
+
+// Two operands, ah and bh their words, am and bm the coefficients given: refusals 1, 2, 5, 6.
+pub fn pair_gate(
+    f: Family,
+    ah: u64,
+    am: usize,
+    bh: u64,
+    bm: usize,
+    lent: usize,
+    scratch: usize,
+) -> Refusal
+    ensures { λ r. ⌜ r ≡ pairGate f ah am bh bm lent scratch ⌝ }
+{
+    if !(is_good(ah) & is_good(bh)) {
+        return Refusal::by(1);
+    }
+    let a = header_of(ah);
+    let b = header_of(bh);
+    if !(is_full(a, am) & is_full(b, bm)) {
+        return Refusal::by(2);
+    }
+    let h = announced_of(f, a, b);
+    if !is_fitting(h, lent) {
+        return Refusal::by(5);
+    }
+    if !is_roomy(h, scratch) {
+        return Refusal::by(6);
+    }
+    Refusal::none()
+}
+
+// A limit is 1 to 64.
+fn good_limit(l: usize) -> bool
+    ensures { λ r. ⌜ r ≡ goodLimit l ⌝ }
+{
+    (1 <= l) & (l <= Header::LIMIT)
+}
+
+// At most four variables, and the limits of the first `vars` are limits.
+fn good_limits(vars: usize, l: [usize; 4]) -> bool
+    ensures { λ r. ⌜ r ≡ goodLimits vars l ⌝ }
+{
+    (vars <= Header::VARS)
+        & ((vars <= 0) | good_limit(l[0]))
+        & ((vars <= 1) | good_limit(l[1]))
+        & ((vars <= 2) | good_limit(l[2]))
+        & ((vars <= 3) | good_limit(l[3]))
+}
+
+// A constant that carries limits: refusals 1, 5.
+pub fn with_gate(vars: usize, limits: [usize; 4], lent: usize) -> Refusal
+    ensures { λ r. ⌜ r ≡ withGate vars limits lent ⌝ }
+{
+    if !good_limits(vars, limits) {
+        return Refusal::by(1);
+    }
+    fits_gate(Header::zero_with(vars, limits), lent)
+}
+
+// The variable v under limits that are given: refusals 1, 3, 5.
+pub fn var_with_gate(v: usize, vars: usize, limits: [usize; 4], lent: usize) -> Refusal
+    ensures { λ r. ⌜ r ≡ varWithGate v vars limits lent ⌝ }
+{
+    if !good_limits(vars, limits) {
+        return Refusal::by(1);
+    }
+    if vars <= v {
+        return Refusal::by(3);
+    }
+    fits_gate(Header::var_with_degrees_p1(v, vars, limits), lent)
+}
+
+// The variable v, every variable up to it under one limit: refusals 1, 3, 5.
+pub fn var_gate(v: usize, limit: usize, lent: usize) -> Refusal
+    ensures { λ r. ⌜ r ≡ varGate v limit lent ⌝ }
+{
+    if !good_limit(limit) {
+        return Refusal::by(1);
+    }
+    if 3 < v {
+        return Refusal::by(3);
+    }
+    fits_gate(
+        Header::var_with_degrees_p1(v, v + 1, [limit, limit, limit, limit]),
+        lent,
+    )
+}
