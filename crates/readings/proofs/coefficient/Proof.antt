@@ -1,0 +1,72 @@
+use mathlib.Core.Path.{_≡_, sym, ap, _∙_}
+use native.Mathlib.Omega.{arith}
+use lib.ListN.{length, getD}
+use Rattle.model.specs.Word.{headerOf}
+use mathlib.Core.Bool.{true}
+use Prim.Native.Nat.{_<_}
+use borrow.Author.Tests.{not-true, not-false}
+use lib.Ieee.{nan}
+use Rattle.model.specs.Places.{place, inside}
+use Rattle.model.specs.Readings.{coefficientAnswer}
+use Rattle.words.specs.Lengths.{inside-is}
+use Rattle.gates.specs.Gate.{IndexReady, index-ready, read-refused, read-done}
+use Rattle.readings.specs.Read.{read-lengths, read-place, coefficient-stored, coefficient-past}
+use borrow.Author.Needs.{needs}
+use Rattle.readings.proofs.coefficient.Statement.{statement}
+use Rattle.readings.proofs.coefficient.Tie as tie
+
+ready : (c : tie.Else1) → IndexReady ((c .before .before .before .before) .args .head) (length ((c .before .before .before .before) .args .a .now)) ((c .before .before .before .before) .args .index)
+ready c = index-ready _ _ _ (ap (λ r. r .number) (sym (c .before .before .index-gate .ensures)) ∙ c .if1 .left)
+
+there : (c : tie.Else2) → inside (headerOf ((c .before .before .before .before .before .before .before .before) .args .head) .lengths) ((c .before .before .before .before .before .before .before .before) .args .index) ≡ true
+there c = not-false _ (rw (c .before .is-inside .ensures, c .before .before .before .header-of .ensures) at (c .if2 .left))
+
+placed : (c : tie.After-place-of) → c .place-of .result ≡ place (headerOf ((c .before .before .before .before .before .before .before .before .before) .args .head) .lengths) ((c .before .before .before .before .before .before .before .before .before) .args .index)
+placed c = rw (c .before .before .before .before .header-of .ensures) at (c .place-of .ensures)
+
+low : (c : tie.After-place-of) → c .place-of .result < length ((c .before .before .before .before .before .before .before .before .before) .args .a .now)
+low c = rw (placed c) (read-place ((c .before .before .before .before .before .before .before .before .before) .args .head) ((c .before .before .before .before .before .before .before .before .before) .args .a .now) ((c .before .before .before .before .before .before .before .before .before) .args .index) (ready (c .before .before .before .before .before) .read) (there (c .before)))
+
+index-gate-requires : tie.Need-index-gate-requires
+index-gate-requires c κs = search needs
+
+returns : tie.Need-returns
+unfolding coefficientAnswer
+returns c = read-refused (c .before .before .index-gate .ensures) (c .if1 .taken) _
+
+header-of-requires : tie.Need-header-of-requires
+header-of-requires c κs = search needs
+
+is-inside-requires : tie.Need-is-inside-requires
+is-inside-requires c κs = search needs
+
+returns-2 : tie.Need-returns-2
+unfolding coefficientAnswer
+returns-2 c = read-done (c .before .before .before .before .before .before .index-gate .ensures) (c .before .before .before .before .if1 .left) (coefficient-past ((c .before .before .before .before .before .before .before .before) .args .head) ((c .before .before .before .before .before .before .before .before) .args .a .now) ((c .before .before .before .before .before .before .before .before) .args .index) (not-true _ (rw (c .before .is-inside .ensures, c .before .before .before .header-of .ensures) at (c .if2 .taken))))
+
+place-of-requires : tie.Need-place-of-requires
+place-of-requires c κs = rw (c .before .before .before .header-of .ensures) (read-lengths (ready (c .before .before .before .before) .read), inside-is _ _ (there c))
+
+mul-t8 : tie.Need-mul-t8
+mul-t8 c = omega (arith, low c)
+
+shared-slice-read-t12 : tie.Need-shared-slice-read-t12
+shared-slice-read-t12 c = low (c .before)
+
+returns-3 : tie.Need-returns-3
+unfolding coefficientAnswer
+returns-3 c = read-done (c .before .before .before .before .before .before .before .before .index-gate .ensures) (c .before .before .before .before .before .before .if1 .left) (ap (λ k. getD ((c .before .before .before .before .before .before .before .before .before .before) .args .a .now) k nan) (placed (c .before)) ∙ coefficient-stored ((c .before .before .before .before .before .before .before .before .before .before) .args .head) ((c .before .before .before .before .before .before .before .before .before .before) .args .a .now) ((c .before .before .before .before .before .before .before .before .before .before) .args .index) (there (c .before .before)))
+
+pub coefficient-spec : {M : Type 1} → statement M
+coefficient-spec =
+    tie.close
+    (tie.spec
+    index-gate-requires
+    returns
+    header-of-requires
+    is-inside-requires
+    returns-2
+    place-of-requires
+    mul-t8
+    shared-slice-read-t12
+    returns-3)

@@ -1,0 +1,52 @@
+use lib.Seq.{length-take-le}
+use mathlib.Core.Path.{_≡_, sym, ap, _∙_}
+use lib.ListN.{length}
+use Rattle.model.specs.Word.{headerOf}
+use Rattle.model.specs.Header.{stored}
+use Rattle.model.specs.Readings.{extractLinearAnswer}
+use Rattle.gates.specs.Gate.{ReadReady, read-ready, line-refused, line-done}
+use Rattle.readings.specs.Read.{read-lengths}
+use borrow.Author.Needs.{needs}
+use Rattle.readings.proofs.extract_linear.Statement.{statement}
+use Rattle.readings.proofs.extract_linear.Tie as tie
+
+ready : (c : tie.Else1) → ReadReady ((c .before .before .before .before) .args .head) (length ((c .before .before .before .before) .args .a .now))
+ready c = read-ready _ _ (ap (λ r. r .number) (sym (c .before .before .read-gate .ensures)) ∙ c .if1 .left)
+
+counted : (c : tie.After-stored-of) → c .stored-of .result ≡ stored (headerOf ((c .before .before .before .before .before .before) .args .head))
+counted c = c .stored-of .ensures ∙ ap stored (c .before .header-of .ensures)
+
+read-gate-requires : tie.Need-read-gate-requires
+read-gate-requires c κs = search needs
+
+returns : tie.Need-returns
+unfolding extractLinearAnswer
+returns c = line-refused (c .before .before .read-gate .ensures) (c .if1 .taken) _
+
+header-of-requires : tie.Need-header-of-requires
+header-of-requires c κs = search needs
+
+stored-of-requires : tie.Need-stored-of-requires
+stored-of-requires c κs = rw (c .header-of .ensures) (ready (c .before) .good .regular .rules)
+
+slice-aggregate-linear-of : tie.Need-slice-aggregate-linear-of
+slice-aggregate-linear-of c = sym (length-take-le _ ((c .before .before .before .before .before .before .before .before) .args .a .now) (rw (counted (c .before .before)) (ready (c .before .before .before .before) .full)))
+
+linear-of-requires : tie.Need-linear-of-requires
+linear-of-requires c κs = (rw (c .before .before .before .header-of .ensures) (read-lengths (ready (c .before .before .before .before))), length-take-le _ ((c .before .before .before .before .before .before .before .before) .args .a .now) (rw (counted (c .before .before)) (ready (c .before .before .before .before) .full)) ∙ c .before .before .stored-of .ensures)
+
+returns-2 : tie.Need-returns-2
+unfolding extractLinearAnswer
+returns-2 c = line-done (c .before .before .before .before .before .before .before .read-gate .ensures) (c .before .before .before .before .before .if1 .left) (c .linear-of .ensures ∙ (rw (counted (c .before .before .before), c .before .before .before .before .header-of .ensures)))
+
+pub extract-linear-spec : {M : Type 1} → statement M
+extract-linear-spec =
+    tie.close
+    (tie.spec
+    read-gate-requires
+    returns
+    header-of-requires
+    stored-of-requires
+    slice-aggregate-linear-of
+    linear-of-requires
+    returns-2)

@@ -1,0 +1,97 @@
+use borrow.Author.Needs.{needs}
+use mathlib.Core.Path.{_≡_, refl, sym, _∙_}
+use mathlib.Core.Bool.{true}
+use native.Mathlib.Omega.{arith}
+use Prim.Native.Nat.{_≤_, _-_, _<_}
+use lib.ListN.{length}
+use Rattle.lists.specs.Four.{at}
+use Rattle.model.specs.Poly.{block}
+use Rattle.model.specs.Linear.{linear, linearFrom, linearIn, lineOf}
+use Rattle.words.specs.Lengths.{count-pos}
+use Rattle.readings.specs.Line.{from-found, from-next, from-end, fits-is, fits-low}
+use Rattle.readings.proofs.line.linear_of.Statement.{statement}
+use Rattle.readings.proofs.line.linear_of.Tie as tie
+
+abbrev Inv-loop : tie.InvT-loop
+Inv-loop a n s v₀ v = (v ≤ 4) × (linear (block n a) ≡ linearFrom (block n a) (4 - v) v)
+
+abbrev μ-loop : tie.MeasureT-loop
+μ-loop a n s v₀ v = 4 - v
+
+is : (c : tie.After-fits-in Inv-loop μ-loop) → c .fits-in .result ≡ linearIn (block ((c .before .before .before .before .before) .args .t2) ((c .before .before .before .before .before) .args .a .now)) (c .before .before .loop .v)
+is c = fits-is ((c .before .before .before .before .before) .args .a .now) ((c .before .before .before .before .before) .args .t2) ((c .before .before .before .before .before) .pre .1) (c .before .before .before .strides-of .ensures) (c .before .before .loop .v) (c .fits-in .ensures)
+
+low : (c : tie.After-fits-in Inv-loop μ-loop) → c .fits-in .result ≡ true → at (c .before .before .before .strides-of .result) (c .before .before .loop .v) < length ((c .before .before .before .before .before) .args .a .now)
+low c t = fits-low ((c .before .before .before .before .before) .args .a .now) ((c .before .before .before .before .before) .args .t2) ((c .before .before .before .before .before) .pre .1) (c .before .before .before .strides-of .ensures) (c .before .before .loop .v) (c .fits-in .ensures) ((c .before .before .before .before .before) .pre .0) (c .before .loop-test .taken) t
+
+strides-of-requires : tie.Need-strides-of-requires Inv-loop μ-loop
+strides-of-requires c κs = (c .before) .pre .0
+
+loop-holds : tie.Need-loop-holds Inv-loop μ-loop
+loop-holds c = (omega arith, refl)
+
+mul-t : tie.Need-mul-t Inv-loop μ-loop
+mul-t c = omega arith
+
+array-read-t : tie.Need-array-read-t Inv-loop μ-loop
+array-read-t c = omega arith
+
+mul-fits-in : tie.Need-mul-fits-in Inv-loop μ-loop
+mul-fits-in c = omega arith
+
+array-read-fits-in : tie.Need-array-read-fits-in Inv-loop μ-loop
+array-read-fits-in c = omega arith
+
+fits-in-requires : tie.Need-fits-in-requires Inv-loop μ-loop
+fits-in-requires c κs = search needs
+
+shared-slice-read-t18 : tie.Need-shared-slice-read-t18 Inv-loop μ-loop
+shared-slice-read-t18 c = omega (arith, (c .before .before .before .before .before .before .before) .pre .1, count-pos ((c .before .before .before .before .before .before .before) .pre .0))
+
+mul-t19 : tie.Need-mul-t19 Inv-loop μ-loop
+mul-t19 c = omega (arith, low (c .before .before) (c .before .if1 .taken))
+
+shared-slice-read-t21 : tie.Need-shared-slice-read-t21 Inv-loop μ-loop
+shared-slice-read-t21 c = low (c .before .before .before) (c .before .before .if1 .taken)
+
+returns : tie.Need-returns Inv-loop μ-loop
+unfolding lineOf
+returns c = rw (c .before .before .before .before .before .before .strides-of .ensures) (sym (c .before .before .before .before .before .loop .inv .1 ∙ from-found (block ((c .before .before .before .before .before .before .before .before) .args .t2) ((c .before .before .before .before .before .before .before .before) .args .a .now)) (c .before .before .before .before .before .loop .v) (c .before .before .before .before .loop-test .taken) (sym (is (c .before .before .before)) ∙ c .before .before .if1 .taken)))
+
+add-v : tie.Need-add-v Inv-loop μ-loop
+add-v c = omega arith
+
+loop-less : tie.Need-loop-less Inv-loop μ-loop
+loop-less c = omega arith
+
+loop-again : tie.Need-loop-again Inv-loop μ-loop
+loop-again c = (omega arith, c .before .before .before .loop .inv .1 ∙ from-next (block ((c .before .before .before .before .before .before) .args .t2) ((c .before .before .before .before .before .before) .args .a .now)) (c .before .before .before .loop .v) (c .before .before .loop-test .taken) (sym (is (c .before)) ∙ c .if1 .left))
+
+none-requires : tie.Need-none-requires Inv-loop μ-loop
+none-requires c κs = search needs
+
+returns-2 : tie.Need-returns-2 Inv-loop μ-loop
+returns-2 c = c .none .ensures ∙ sym (c .before .before .loop .inv .1 ∙ from-end (block ((c .before .before .before .before .before) .args .t2) ((c .before .before .before .before .before) .args .a .now)) (c .before .before .loop .v) (c .before .loop-test .left))
+
+pub linear-of-spec : {M : Type 1} → statement M
+linear-of-spec =
+    tie.close
+    (tie.spec
+    Inv-loop
+    μ-loop
+    strides-of-requires
+    loop-holds
+    mul-t
+    array-read-t
+    mul-fits-in
+    array-read-fits-in
+    fits-in-requires
+    shared-slice-read-t18
+    mul-t19
+    shared-slice-read-t21
+    returns
+    add-v
+    loop-less
+    loop-again
+    none-requires
+    returns-2)

@@ -1,0 +1,55 @@
+use mathlib.Core.Path.{_≡_, sym, ap, _∙_}
+use mathlib.Core.Bool.{true}
+use native.Mathlib.Omega.{arith}
+use Prim.Native.Nat.{_≤_, _-_}
+use lib.ListN.{length}
+use borrow.Author.Tests.{not-true, not-false}
+use Rattle.model.specs.Linear.{zerosBut}
+use Rattle.readings.specs.Line.{zeros-none, zeros-more, zeros-stop}
+use Rattle.readings.proofs.line.zeros_but.Statement.{statement}
+use Rattle.readings.proofs.line.zeros_but.Tie as tie
+
+abbrev Inv-loop : tie.InvT-loop
+Inv-loop a s k₀ k = (k ≤ length a) × (zerosBut a s k ≡ true)
+
+abbrev μ-loop : tie.MeasureT-loop
+μ-loop a s k₀ k = length a - k
+
+loop-holds : tie.Need-loop-holds Inv-loop μ-loop
+loop-holds c = (omega arith, zeros-none (c .args .a .now) (c .args .s))
+
+mul-x : tie.Need-mul-x Inv-loop μ-loop
+mul-x c = omega arith
+
+shared-slice-read-x : tie.Need-shared-slice-read-x Inv-loop μ-loop
+shared-slice-read-x c = omega arith
+
+returns : tie.Need-returns Inv-loop μ-loop
+returns c = sym (zeros-stop ((c .before .before .before .before) .args .a .now) ((c .before .before .before .before) .args .s) (c .before .before .before .loop .k) _ (c .before .before .before .loop .inv .1) (not-true _ (c .if1 .taken)) (omega arith))
+
+add-k : tie.Need-add-k Inv-loop μ-loop
+add-k c = omega arith
+
+loop-less : tie.Need-loop-less Inv-loop μ-loop
+loop-less c = omega arith
+
+loop-again : tie.Need-loop-again Inv-loop μ-loop
+loop-again c = (omega arith, zeros-more ((c .before .before .before .before) .args .a .now) ((c .before .before .before .before) .args .s) (c .before .before .before .loop .k) (c .before .before .before .loop .inv .1) (not-false _ (c .if1 .left)))
+
+returns-2 : tie.Need-returns-2 Inv-loop μ-loop
+returns-2 c = let e : c .before .loop .k ≡ length ((c .before .before) .args .a .now) = omega (arith, c .before .loop .inv .0) in sym (c .before .loop .inv .1) ∙ ap (zerosBut ((c .before .before) .args .a .now) ((c .before .before) .args .s)) e
+
+pub zeros-but-spec : {M : Type 1} → statement M
+zeros-but-spec =
+    tie.close
+    (tie.spec
+    Inv-loop
+    μ-loop
+    loop-holds
+    mul-x
+    shared-slice-read-x
+    returns
+    add-k
+    loop-less
+    loop-again
+    returns-2)

@@ -1,0 +1,206 @@
+// Constructors and readings (document 01, port order 2, and 'Tail'). Each takes any words, numbers and buffers.
+mod kernel;
+pub mod line;
+
+use gates::stored_of;
+use model::Answer;
+use model::Family;
+use model::Header;
+use model::LinearReading;
+use model::Reading;
+use shape::announce::announced_of;
+use words::word::header_of;
+use words::word::pack;
+ghost use mathlib.Core.Path.{_≡_};
+ghost use lib.ListN.{length};
+ghost use Rattle.model.specs.Header.{ones, noHeader, zeroWith, varWith};
+ghost use Rattle.model.specs.Refusals.{zeroF};
+ghost use Rattle.model.specs.Gates.{withGate, varWithGate, varHeader, varGate};
+ghost use Rattle.model.specs.Answers.{answered, outAfter};
+ghost use Rattle.model.specs.Constructed.{constant, wholeF, variable};
+ghost use Rattle.model.specs.Readings.{oneF, coefficientAnswer, constantTermAnswer, evaluateAllOneAnswer, extractLinearAnswer, taylorPolynomialAnswer, taylorPolynomialOut, coefficientsOfTermAnswer, coefficientsOfTermOut};
+ghost use Rattle.model.specs.Tail.{tailAnswer};
+
+// +0.0, with no variables: refusal 5.
+pub fn zero(out: &mut [f64]) -> Answer
+    ensures answer { λ r. ⌜ r ≡ answered (withGate 0 ones (length (now (out .entry)))) (constant noHeader zeroF) ⌝ }
+    ensures written { λ r. ⌜ now (out .exit) ≡ outAfter (withGate 0 ones (length (now (out .entry)))) noHeader (constant noHeader zeroF) (now (out .entry)) ⌝ }
+{
+    kernel::constant_with(0.0, 0, [1, 1, 1, 1], out)
+}
+
+// 1.0, with no variables: refusal 5.
+pub fn one(out: &mut [f64]) -> Answer
+    ensures answer { λ r. ⌜ r ≡ answered (withGate 0 ones (length (now (out .entry)))) (constant noHeader oneF) ⌝ }
+    ensures written { λ r. ⌜ now (out .exit) ≡ outAfter (withGate 0 ones (length (now (out .entry)))) noHeader (constant noHeader oneF) (now (out .entry)) ⌝ }
+{
+    kernel::constant_with(1.0, 0, [1, 1, 1, 1], out)
+}
+
+// c, with no variables: refusal 5.
+pub fn from_u32(c: u32, out: &mut [f64]) -> Answer
+    ensures answer { λ r. ⌜ r ≡ answered (withGate 0 ones (length (now (out .entry)))) (constant noHeader (wholeF c)) ⌝ }
+    ensures written { λ r. ⌜ now (out .exit) ≡ outAfter (withGate 0 ones (length (now (out .entry)))) noHeader (constant noHeader (wholeF c)) (now (out .entry)) ⌝ }
+{
+    kernel::constant_with(c as f64, 0, [1, 1, 1, 1], out)
+}
+
+// +0.0 under the first `vars` of the limits: refusals 1, 5.
+pub fn zero_with(vars: usize, limits: [usize; 4], out: &mut [f64]) -> Answer
+    ensures answer { λ r. ⌜ r ≡ answered (withGate vars limits (length (now (out .entry)))) (constant (zeroWith vars limits) zeroF) ⌝ }
+    ensures written { λ r. ⌜ now (out .exit) ≡ outAfter (withGate vars limits (length (now (out .entry)))) (zeroWith vars limits) (constant (zeroWith vars limits) zeroF) (now (out .entry)) ⌝ }
+{
+    kernel::constant_with(0.0, vars, limits, out)
+}
+
+// c under the first `vars` of the limits: refusals 1, 5.
+pub fn from_u32_with(c: u32, vars: usize, limits: [usize; 4], out: &mut [f64]) -> Answer
+    ensures answer { λ r. ⌜ r ≡ answered (withGate vars limits (length (now (out .entry)))) (constant (zeroWith vars limits) (wholeF c)) ⌝ }
+    ensures written { λ r. ⌜ now (out .exit) ≡ outAfter (withGate vars limits (length (now (out .entry)))) (zeroWith vars limits) (constant (zeroWith vars limits) (wholeF c)) (now (out .entry)) ⌝ }
+{
+    kernel::constant_with(c as f64, vars, limits, out)
+}
+
+// x + v under the first `vars` of the limits: refusals 1, 3, 5.
+pub fn var_with_degrees_p1(
+    v: usize,
+    x: f64,
+    vars: usize,
+    limits: [usize; 4],
+    out: &mut [f64],
+) -> Answer
+    ensures answer { λ r. ⌜ r ≡ answered (varWithGate v vars limits (length (now (out .entry)))) (variable (varWith v vars limits) x) ⌝ }
+    ensures written { λ r. ⌜ now (out .exit) ≡ outAfter (varWithGate v vars limits (length (now (out .entry)))) (varWith v vars limits) (variable (varWith v vars limits) x) (now (out .entry)) ⌝ }
+{
+    let refusal = gates::var_with_gate(v, vars, limits, out.len());
+    if refusal.number != 0 {
+        return Answer::Refused(refusal);
+    }
+    kernel::write_short(Header::var_with_degrees_p1(v, vars, limits), x, out)
+}
+
+// x + v, every variable up to v under one limit: refusals 1, 3, 5.
+pub fn var(v: usize, x: f64, limit: usize, out: &mut [f64]) -> Answer
+    ensures answer { λ r. ⌜ r ≡ answered (varGate v limit (length (now (out .entry)))) (variable (varHeader v limit) x) ⌝ }
+    ensures written { λ r. ⌜ now (out .exit) ≡ outAfter (varGate v limit (length (now (out .entry)))) (varHeader v limit) (variable (varHeader v limit) x) (now (out .entry)) ⌝ }
+{
+    let refusal = gates::var_gate(v, limit, out.len());
+    if refusal.number != 0 {
+        return Answer::Refused(refusal);
+    }
+    kernel::write_short(
+        Header::var_with_degrees_p1(v, v + 1, [limit, limit, limit, limit]),
+        x,
+        out,
+    )
+}
+
+// v itself, every variable up to it under one limit: refusals 1, 3, 5.
+pub fn var_at_zero(v: usize, limit: usize, out: &mut [f64]) -> Answer
+    ensures answer { λ r. ⌜ r ≡ answered (varGate v limit (length (now (out .entry)))) (variable (varHeader v limit) zeroF) ⌝ }
+    ensures written { λ r. ⌜ now (out .exit) ≡ outAfter (varGate v limit (length (now (out .entry)))) (varHeader v limit) (variable (varHeader v limit) zeroF) (now (out .entry)) ⌝ }
+{
+    var(v, 0.0, limit, out)
+}
+
+// The coefficient at an index, +0.0 past a stored length: refusals 1, 2, 3, 4.
+pub fn coefficient(head: u64, a: &[f64], index: [usize; 4]) -> Reading
+    ensures { λ r. ⌜ r ≡ coefficientAnswer head (now (a .entry)) index ⌝ }
+{
+    let refusal = gates::index_gate(head, a.len(), index);
+    if refusal.number != 0 {
+        return Reading::Refused(refusal);
+    }
+    let h = header_of(head);
+    let lengths = h.lengths;
+    if !words::places::is_inside(lengths, index) {
+        return Reading::Done(0.0);
+    }
+    let k = words::places::place_of(lengths, index);
+    Reading::Done(a[k])
+}
+
+// The coefficient at the index 0, 0, 0, 0: refusals 1, 2.
+pub fn constant_term(head: u64, a: &[f64]) -> Reading
+    ensures { λ r. ⌜ r ≡ constantTermAnswer head (now (a .entry)) ⌝ }
+{
+    let refusal = gates::read_gate(head, a.len());
+    if refusal.number != 0 {
+        return Reading::Refused(refusal);
+    }
+    Reading::Done(a[0])
+}
+
+// The value where every variable is 1: refusals 1, 2.
+pub fn evaluate_all_one(head: u64, a: &[f64]) -> Reading
+    ensures { λ r. ⌜ r ≡ evaluateAllOneAnswer head (now (a .entry)) ⌝ }
+{
+    let refusal = gates::read_gate(head, a.len());
+    if refusal.number != 0 {
+        return Reading::Refused(refusal);
+    }
+    Reading::Done(kernel::sum_to(a, stored_of(header_of(head))))
+}
+
+// Whether the polynomial is c + m * v: refusals 1, 2.
+pub fn extract_linear(head: u64, a: &[f64]) -> LinearReading
+    ensures { λ r. ⌜ r ≡ extractLinearAnswer head (now (a .entry)) ⌝ }
+{
+    let refusal = gates::read_gate(head, a.len());
+    if refusal.number != 0 {
+        return LinearReading::Refused(refusal);
+    }
+    let h = header_of(head);
+    let count = stored_of(h);
+    let n = h.lengths;
+    LinearReading::Done(line::linear_of(&a[..count], n))
+}
+
+// One variable: 1.0 less the sum of the stored coefficients 0 to k; refusals 1, 2, 3, 4.
+pub fn tail(head: u64, a: &[f64], k: usize) -> Reading
+    ensures { λ r. ⌜ r ≡ tailAnswer head (now (a .entry)) k ⌝ }
+{
+    let refusal = gates::tail_gate(head, a.len(), k);
+    if refusal.number != 0 {
+        return Reading::Refused(refusal);
+    }
+    let h = header_of(head);
+    let n = h.lengths;
+    Reading::Done(1.0 - kernel::sum_to(a, shape::limits::least(n[0], k + 1)))
+}
+
+// The powers of v up to `order`: refusals 1, 2, 3, 4, 5.
+pub fn taylor_polynomial(head: u64, a: &[f64], v: usize, order: usize, out: &mut [f64]) -> Answer
+    ensures answer { λ r. ⌜ r ≡ taylorPolynomialAnswer head (now (a .entry)) v order (now (out .entry)) ⌝ }
+    ensures written { λ r. ⌜ now (out .exit) ≡ taylorPolynomialOut head (now (a .entry)) v order (now (out .entry)) ⌝ }
+{
+    let refusal = gates::in_gate(Family::Order(v, order), v, order, head, a.len(), out.len());
+    if refusal.number != 0 {
+        return Answer::Refused(refusal);
+    }
+    let h = header_of(head);
+    let r = announced_of(Family::Order(v, order), h, Header::none());
+    let given = stored_of(h);
+    let count = stored_of(r);
+    let n = h.lengths;
+    let c = r.lengths;
+    blocks::load(&a[..given], n, c, &mut out[..count]);
+    Answer::Done(pack(r))
+}
+
+// The row `order` of v, a zero past the stored length: refusals 1, 2, 3, 4, 5.
+pub fn coefficients_of_term(head: u64, a: &[f64], v: usize, order: usize, out: &mut [f64]) -> Answer
+    ensures answer { λ r. ⌜ r ≡ coefficientsOfTermAnswer head (now (a .entry)) v order (now (out .entry)) ⌝ }
+    ensures written { λ r. ⌜ now (out .exit) ≡ coefficientsOfTermOut head (now (a .entry)) v order (now (out .entry)) ⌝ }
+{
+    let refusal = gates::in_gate(Family::Term(v), v, order, head, a.len(), out.len());
+    if refusal.number != 0 {
+        return Answer::Refused(refusal);
+    }
+    let h = header_of(head);
+    let r = announced_of(Family::Term(v), h, Header::none());
+    let given = stored_of(h);
+    let count = stored_of(r);
+    let x = kernel::take_term(&a[..given], h, r, v, order, &mut out[..count]);
+    Answer::Done(pack(x))
+}
