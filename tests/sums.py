@@ -1,0 +1,315 @@
+"""Stored cases for crates/replay_sums and what has to come out, worked out from document 01 (port order 2 and 3, 'Tail', 'Refusal numbers')
+and from nothing of the crates. Python's floats are IEEE 754 binary64.
+
+    python3 tests/sums.py cases > crates/replay_sums/stdin
+    python3 tests/sums.py answers > crates/replay_sums/stdout
+"""
+import itertools
+import math
+import struct
+import sys
+
+INF, NAN = float("inf"), float("nan")
+SENTINEL = struct.unpack(">d", bytes.fromhex("3ff0000000000001"))[0]
+
+
+def bits(x):
+    return 0x7FF8000000000000 if math.isnan(x) else struct.unpack(">Q", struct.pack(">d", x))[0]
+
+
+def word(limits, lengths):
+    text = format(len(limits), "03b")
+    for limit, length in list(zip(limits, lengths)) + [(1, 1)] * (4 - len(limits)):
+        text += format(limit - 1, "06b") + format(length - 1, "06b")
+    return int(text + "0" * 13, 2)
+
+
+def read(w):
+    """Limits and lengths of a good header word, else None."""
+    text = format(w, "064b")
+    variables = int(text[:3], 2)
+    pairs = [(int(text[3 + 12 * v : 9 + 12 * v], 2) + 1, int(text[9 + 12 * v : 15 + 12 * v], 2) + 1) for v in range(4)]
+    if variables > 4 or "1" in text[51:] or any(n > l for l, n in pairs) or any(p != (1, 1) for p in pairs[variables:]):
+        return None
+    limits, lengths = [p[0] for p in pairs[:variables]], [p[1] for p in pairs[:variables]]
+    return (limits, lengths) if count(lengths) <= 4096 else None
+
+
+def count(lengths):
+    return math.prod(lengths)
+
+
+def indices(lengths):
+    return list(itertools.product(*[range(n) for n in lengths]))
+
+
+def poly(limits, lengths, values):
+    """Coefficients by index; the last variable fastest."""
+    return limits, lengths, dict(zip(indices(lengths), values))
+
+
+def smaller(a, b):
+    return [min(x[v] for x in (a, b) if v < len(x)) for v in range(max(len(a), len(b)))]
+
+
+def cut(limits, p):
+    _, lengths, values = p
+    new = [min(limits[v], lengths[v]) if v < len(lengths) else 1 for v in range(len(limits))]
+    return limits, new, {i: values[i[: len(lengths)]] for i in indices(new)}
+
+
+def join(minus, x, y):
+    return x - y if minus else x + y
+
+
+def combine(minus, a, b):
+    limits = smaller(a[0], b[0])
+    (_, na, va), (_, nb, vb) = cut(limits, a), cut(limits, b)
+    zero = (0,) * len(limits)
+    if count(nb) == 1:
+        va[zero] = join(minus, va[zero], vb[zero])
+        return limits, na, va
+    if count(na) == 1:
+        vb[zero] = join(minus, vb[zero], va[zero])
+        return limits, nb, {i: -x for i, x in vb.items()} if minus else vb
+    lengths = [max(x, y) for x, y in zip(na, nb)]
+    out = {}
+    for i in indices(lengths):
+        x = 0.0
+        if i in va:
+            x = x + va[i]
+        if i in vb:
+            x = join(minus, x, vb[i])
+        out[i] = x
+    return limits, lengths, out
+
+
+def linear(p):
+    _, lengths, values = p
+    zero = (0,) * len(lengths)
+    for v, n in enumerate(lengths):
+        one = tuple(1 if k == v else 0 for k in range(len(lengths)))
+        if n >= 2 and all(x == 0 for i, x in values.items() if i not in (zero, one)):
+            return values[zero], values[one], v
+    return None
+
+
+def held(w, values):
+    limits, lengths = read(w)
+    return poly(limits, lengths, values[: count(lengths)])
+
+
+def first_refusal(*tests):
+    return next((number for ok, number in tests if not ok()), 0)
+
+
+class Case:
+    def __init__(self, op, ah=0, a=(), bh=0, b=(), lent=8, scratch=0, v=0, x=(0, 0, 0, 0), nb=None):
+        self.op, self.ah, self.a, self.bh, self.b, self.lent, self.scratch, self.v, self.x = op, ah, list(a), bh, list(b), lent, scratch, v, x
+        self.nb = len(self.b) if nb is None else nb
+
+    def text(self):
+        words = [self.op, self.ah, len(self.a), self.bh, self.nb, self.lent, self.scratch, self.v, *self.x]
+        words += [bits(x) for x in self.a + (self.b + [0.0] * (self.nb - len(self.b)))]
+        return " ".join("%016x" % w for w in words)
+
+    # what comes out
+
+    def full(self, w, values):
+        return lambda: count(read(w)[1]) <= len(values)
+
+    def write(self, refusal, header, announced, values, clear=0):
+        out = [SENTINEL] * self.lent
+        scratch = ["s"] * self.scratch
+        if refusal:
+            head = "refused %d 64" % refusal
+        else:
+            head = "done %016x" % header
+            out[:announced] = values + [0.0] * (announced - len(values))
+            scratch[:clear] = ["0"] * clear
+        front = next((k for k, c in enumerate(scratch) if c != "0"), len(scratch))
+        back = next((k for k, c in enumerate(reversed(scratch)) if c != "s"), len(scratch))
+        return " ".join([head] + ["%016x" % bits(x) for x in out] + [str(front), str(back)])
+
+    def poly(self, p, refusal, announced, clear=0):
+        if refusal:
+            return self.write(refusal, 0, 0, [])
+        limits, lengths, values = p
+        return self.write(0, word(limits, lengths), announced, [values[i] for i in indices(lengths)], clear)
+
+    def answer(self):
+        if self.op >= 20:
+            return self.reading()
+        if self.op >= 10:
+            return self.constructor()
+        good = lambda w: lambda: read(w) is not None
+        if self.op in (1, 2):
+            def announced():
+                (la, na), (lb, nb) = read(self.ah), read(self.bh)
+                limits = smaller(la, lb)
+                n = [[min(limits[k], x[k]) if k < len(x) else 1 for k in range(len(limits))] for x in (na, nb)]
+                return count(max(x, y) for x, y in zip(*n))
+            r = first_refusal(
+                (good(self.ah), 1), (good(self.bh), 1), (self.full(self.ah, self.a), 2), (self.full(self.bh, self.b), 2),
+                (lambda: announced() <= 4096 and announced() <= self.lent, 5), (lambda: 8 * announced() <= self.scratch, 6))
+            if r:
+                return self.poly(None, r, 0)
+            return self.poly(combine(self.op == 2, held(self.ah, self.a), held(self.bh, self.b)), 0, announced(), 8 * announced())
+        tests = [(good(self.ah), 1), (self.full(self.ah, self.a), 2)]
+        if self.op == 0:
+            r = first_refusal(*tests, (lambda: count(read(self.ah)[1]) <= self.lent, 5))
+            if r:
+                return self.poly(None, r, 0)
+            limits, lengths, values = held(self.ah, self.a)
+            return self.poly((limits, lengths, {i: -x for i, x in values.items()}), 0, count(lengths))
+        v, order = self.x[0], self.x[1]
+        def lengths():
+            n = list(read(self.ah)[1])
+            n[v] = min(n[v], order + 1) if self.op == 3 else 1
+            return n
+        r = first_refusal(*tests, (lambda: v < len(read(self.ah)[0]), 3), (lambda: order < read(self.ah)[0][v], 4), (lambda: count(lengths()) <= self.lent, 5))
+        if r:
+            return self.poly(None, r, 0)
+        limits, stored, values = held(self.ah, self.a)
+        if self.op == 3:
+            return self.poly((limits, lengths(), {i: values[i] for i in indices(lengths())}), 0, count(lengths()))
+        if order >= stored[v]:
+            return self.poly((limits, [1] * len(limits), {(0,) * len(limits): 0.0}), 0, count(lengths()))
+        row = {i: values[i[:v] + (order,) + i[v + 1 :]] for i in indices(lengths())}
+        return self.poly((limits, lengths(), row), 0, count(lengths()))
+
+    def constructor(self):
+        x, c, v, limits = (self.a + [0.0])[0], self.bh, self.v, list(self.x)
+        bad = lambda ls: any(not 1 <= l <= 64 for l in ls)
+        room = lambda n: (lambda: n <= self.lent, 5)
+        if self.op in (11, 16, 17):
+            r = first_refusal(room(1))
+            return self.write(r, word([], []), 1, [{11: float(c), 16: 0.0, 17: 1.0}[self.op]])
+        if self.op in (10, 12):
+            r = first_refusal((lambda: self.nb <= 4 and not bad(limits[: self.nb]), 1), room(1))
+            return self.write(r, 0 if r else word(limits[: self.nb], [1] * self.nb), 1, [0.0 if self.op == 10 else float(c)])
+        if self.op in (13, 14):
+            given, variables, first = [limits[0]], v + 1, [(lambda: v <= 3, 3)]
+            all_limits = [limits[0]] * (min(v, 3) + 1)
+        else:
+            given, variables, first = limits[: self.nb], self.nb, [(lambda: v < self.nb, 3)]
+            all_limits = given
+        two = lambda: min(2, all_limits[v])
+        r = first_refusal((lambda: (self.op != 15 or variables <= 4) and not bad(given), 1), *first, (lambda: two() <= self.lent, 5))
+        if r:
+            return self.write(r, 0, 0, [])
+        lengths = [two() if k == v else 1 for k in range(variables)]
+        return self.write(0, word(all_limits, lengths), two(), [0.0 if self.op == 13 else x, 1.0][: two()])
+
+    def reading(self):
+        limits = lambda: read(self.ah)[0]
+        index = list(self.x)
+        tests = [(lambda: read(self.ah) is not None, 1), (self.full(self.ah, self.a), 2)]
+        if self.op == 20:
+            tests += [(lambda: all(i == 0 for i in index[len(limits()) :]), 3), (lambda: all(i < l for i, l in zip(index, limits())), 4)]
+        if self.op == 24:
+            tests += [(lambda: len(limits()) == 1, 3), (lambda: index[0] < limits()[0], 4)]
+        r = first_refusal(*tests)
+        if r:
+            return "refused %d 64" % r
+        ls, lengths, values = held(self.ah, self.a)
+        stored = [values[i] for i in indices(lengths)]
+        if self.op == 23:
+            found = linear((ls, lengths, values))
+            c, m, v = found or (0.0, 0.0, 0)
+            return "done %d %016x %016x %d" % (found is not None, bits(c), bits(m), v)
+        if self.op == 20:
+            x = values.get(tuple(index[: len(ls)]), 0.0)
+        elif self.op == 21:
+            x = stored[0]
+        else:
+            total = 0.0
+            for y in stored if self.op == 22 else stored[: index[0] + 1]:
+                total = total + y
+            x = total if self.op == 22 else 1.0 - total
+        return "done %016x" % bits(x)
+
+
+def cases():
+    none, one3, two3 = word([], []), word([3], [1]), word([3], [2])
+    line, wide, square, row = word([4], [3]), word([2, 3], [1, 2]), word([2, 2], [2, 2]), word([2], [2])
+    zero_d, c3 = [-0.0], [5.0]
+    specials = [-0.0, 0.0, INF, -INF, NAN, 5e-324, 1.7976931348623157e308, -1.5]
+    # negate: signed zeros, infinities, NaN; full and one short; bad headers
+    yield Case(0, word([8], [8]), specials, lent=8)
+    yield Case(0, word([8], [8]), specials, lent=7)
+    yield Case(0, word([8], [8]), specials[:7], lent=8)
+    yield Case(0, word([8], [8]) + 1, specials, lent=8)
+    yield Case(0, none, [2.0], lent=1)
+    yield Case(0, none, [], lent=1)
+    yield Case(0, none, [2.0], lent=0)
+    # sums and differences
+    pairs = [
+        (none, [-0.0], none, [-0.0]), (none, [1.0], none, [2.0]), (none, [INF], none, [-INF]), (none, [NAN], none, [1.0]),
+        (line, [-0.0, -0.0, 3.0], none, [-0.0]), (line, [-0.0, -0.0, 3.0], none, [2.0]), (none, [2.0], line, [-0.0, -0.0, 3.0]),
+        (none, [-0.0], line, [0.0, -0.0, INF]), (line, [-0.0, 1.0, 2.0], line, [-0.0, 1.0, -2.0]), (line, [-0.0, -0.0, NAN], two3, [0.1, -0.0]),
+        (two3, [0.1, 0.2], line, [0.3, -0.0, 1.0]), (line, [1.0, 2.0, 3.0], wide, [10.0, 20.0]), (square, [1.0, 2.0, 3.0, 4.0], line, [10.0, -0.0, 5.0]),
+        (square, [1.0, -0.0, 3.0, 4.0], wide, [-0.0, 0.5]), (word([1], [1]), [7.0], line, [1.0, 2.0, 3.0]), (line, [1.0, 2.0, 3.0], word([1], [1]), [7.0]),
+        (one3, [2.0], line, [1.0, -0.0, 3.0]), (line, [1e308, -1e308, 5e-324], line, [1e308, -1e308, 5e-324]),
+        (word([1, 2], [1, 2]), [-0.0, -0.0], word([2, 1], [2, 1]), [-0.0, 6.0]), (word([2, 2, 2], [1, 1, 2]), [1.0, 2.0], row, [3.0, -0.0]),
+    ]
+    for op in (1, 2):
+        for ah, a, bh, b in pairs:
+            yield Case(op, ah, a, bh, b, lent=8, scratch=66)
+    # refusals of sums, each at its edge and the lowest first
+    ok = (line, [1.0, 2.0, 3.0], two3, [4.0, 5.0])
+    for lent, scratch in ((3, 24), (2, 24), (3, 23), (2, 23), (0, 0), (4, 25)):
+        yield Case(1, *ok, lent=lent, scratch=scratch)
+        yield Case(2, *ok, lent=lent, scratch=scratch)
+    yield Case(1, line + 1, ok[1], ok[2], ok[3], lent=0, scratch=0)
+    yield Case(1, line, ok[1], 2**63 + 2**62, ok[3], lent=0, scratch=0)
+    yield Case(1, line, ok[1][:2], two3, ok[3], lent=0, scratch=0)
+    yield Case(1, line, ok[1], two3, ok[3][:1], lent=0, scratch=0)
+    yield Case(2, word([64, 64], [64, 1]), [1.0] * 16, none, [1.0], lent=16, scratch=128)
+    # constructors
+    for lent in (0, 1, 2):
+        yield Case(16, lent=lent)
+        yield Case(17, lent=lent)
+        yield Case(11, bh=2**32 - 1, lent=lent)
+        yield Case(13, v=0, x=(2, 0, 0, 0), lent=lent)
+        yield Case(13, v=3, x=(1, 0, 0, 0), lent=lent)
+    for limits, n in (((3, 4, 0, 99), 2), ((1, 64, 1, 64), 4), ((0, 1, 1, 1), 1), ((1, 65, 1, 1), 2), ((1, 65, 1, 1), 1), ((1, 1, 1, 1), 5), ((7, 7, 7, 7), 0)):
+        yield Case(10, x=limits, nb=n, lent=3)
+        yield Case(12, bh=12345, x=limits, nb=n, lent=3)
+        for v in (0, 1, 4):
+            yield Case(15, a=[-2.5], v=v, x=limits, nb=n, lent=3)
+    for v, limit in ((0, 1), (3, 64), (4, 64), (4, 65), (0, 0), (2**64 - 1, 2)):
+        yield Case(14, a=[NAN], v=v, x=(limit, 0, 0, 0), lent=4)
+    # readings
+    cube = word([3, 4, 2], [2, 3, 1])
+    values = [1.0, -0.0, 2.0, NAN, INF, -3.0]
+    for index in ((0, 0, 0, 0), (1, 2, 0, 0), (1, 0, 0, 0), (2, 3, 1, 0), (3, 0, 0, 0), (0, 4, 0, 0), (0, 0, 2, 0), (0, 0, 0, 1), (3, 0, 0, 1), (2**63, 0, 0, 0)):
+        yield Case(20, cube, values, x=index)
+    yield Case(20, cube, values[:5], x=(9, 9, 9, 9))
+    yield Case(20, cube + 2, values, x=(9, 9, 9, 9))
+    for w, a in ((none, [-0.0]), (line, [-0.0, 1.0, 2.0]), (cube, values), (line, [1.0]), (line + 4, [1.0])):
+        yield Case(21, w, a)
+        yield Case(22, w, a)
+    yield Case(22, line, [1e16, 1.0, 1.0])
+    for w, a in ((none, [3.0]), (two3, [3.0, 2.0]), (line, [3.0, 2.0, 0.0]), (line, [3.0, 2.0, 1.0]), (square, [3.0, 2.0, 0.0, -0.0]), (square, [3.0, 0.0, 2.0, 0.0]),
+                 (square, [3.0, 0.0, 0.0, 0.0]), (square, [3.0, 0.0, 0.0, 1.0]), (square, [NAN, 0.0, INF, 0.0]), (square, [0.0, 0.0, NAN, NAN]), (two3, [1.0])):
+        yield Case(23, w, a)
+    for k in (0, 1, 2, 3, 4, 2**64 - 1):
+        yield Case(24, line, [0.25, 0.5, 0.25], x=(k, 0, 0, 0))
+    yield Case(24, word([3], [3]), [0.25, 0.5, 0.25], x=(1, 0, 0, 0))
+    yield Case(24, square, [0.25] * 4, x=(9, 0, 0, 0))
+    yield Case(24, none, [0.25], x=(0, 0, 0, 0))
+    for op in (3, 4):
+        for v, n in ((0, 0), (0, 1), (0, 2), (0, 3), (1, 0), (1, 2), (1, 3), (1, 4), (2, 0), (2, 1), (2, 2), (3, 0), (2**64 - 1, 0)):
+            yield Case(op, cube, values, x=(v, n, 0, 0), lent=6)
+        yield Case(op, cube, values, x=(1, 1, 0, 0), lent=3 if op == 3 else 1)
+        yield Case(op, cube, values, x=(1, 1, 0, 0), lent=4 if op == 3 else 2)
+
+
+def main():
+    all_cases = list(cases())
+    for case in all_cases:
+        print(case.text() if sys.argv[1] == "cases" else case.answer())
+
+
+main()
