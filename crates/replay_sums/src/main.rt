@@ -1,4 +1,4 @@
-// Runs the stored cases of standard input through constructors, readings, sums and tail, and prints what came out.
+// Runs the stored cases of standard input through constructors, readings, tail, sums and products, and prints what came out.
 // Cases and stored output were worked out by tests/sums.py from document 01 alone, and not by this code.
 //
 // A case is words of 16 hex digits, each with one byte behind it: the operation, the left header and how many coefficients are lent, the same of
@@ -223,6 +223,9 @@ fn make(
     }
     if op == 2 {
         return sums::subtract(ah, a, bh, b, out, scratch);
+    }
+    if op == 5 {
+        return product::multiply(ah, a, bh, b, out, scratch);
     }
     if op == 3 {
         return readings::taylor_polynomial(ah, a, x[0], x[1], out);

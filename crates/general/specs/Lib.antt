@@ -1,0 +1,6 @@
+pub mod Index
+pub mod Product
+pub mod Rows
+pub mod Pairs
+pub mod Bounds
+pub mod Fours

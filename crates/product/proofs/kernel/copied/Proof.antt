@@ -1,0 +1,28 @@
+use native.Mathlib.Omega.{arith}
+use mathlib.Core.Path.{refl, sym, _∙_}
+use lib.ListN.{length, take}
+use lib.Seq.{length-take-le, take-all}
+use Rattle.product.specs.Ways.{put-front}
+use borrow.Author.Needs.{needs}
+use Rattle.product.proofs.kernel.copied.Statement.{statement}
+use Rattle.product.proofs.kernel.copied.Tie as tie
+
+slice-relend-prefix-copy : tie.Need-slice-relend-prefix-copy
+slice-relend-prefix-copy c = search needs
+
+slice-aggregate-copy : tie.Need-slice-aggregate-copy
+slice-aggregate-copy c = sym (length-take-le _ (c .before .before .before .args .out .now) (c .before .before .before .pre))
+
+copy-requires : tie.Need-copy-requires
+copy-requires c κs = omega (arith, length-take-le (length (c .before .before .before .args .a .now)) (c .before .before .before .args .out .now) (c .before .before .before .pre))
+
+same-length : tie.Need-same-length
+same-length c = search needs
+
+returns : tie.Need-returns
+returns c = put-front (length (c .before .before .before .before .before .before .args .a .now)) refl (c .before .before .copy .ensures ∙ take-all (length (take (length (c .before .before .before .before .before .before .args .a .now)) (c .before .before .before .before .before .before .args .out .now))) (c .before .before .before .before .before .before .args .a .now) (omega (arith, length-take-le (length (c .before .before .before .before .before .before .args .a .now)) (c .before .before .before .before .before .before .args .out .now) (c .before .before .before .before .before .before .pre)))) (c .before .before .copy .kept .1 .0 ∙ length-take-le (length (c .before .before .before .before .before .before .args .a .now)) (c .before .before .before .before .before .before .args .out .now) (c .before .before .before .before .before .before .pre)) refl
+
+pub copied-spec : {M : Type 1} → statement M
+copied-spec =
+    tie.close
+    (tie.spec slice-relend-prefix-copy slice-aggregate-copy copy-requires same-length returns)

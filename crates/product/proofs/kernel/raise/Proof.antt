@@ -1,0 +1,62 @@
+use native.Mathlib.Omega.{arith}
+use mathlib.Core.Path.{refl, ap}
+use mathlib.Core.List.{List}
+use Prim.Native.Nat.{ℕ}
+use Rattle.lists.specs.Four.{at}
+use Rattle.product.specs.Raise.{raise-rows, raise-small, raise-is}
+use borrow.Author.Needs.{needs}
+use Rattle.product.proofs.kernel.raise.Statement.{statement}
+use Rattle.product.proofs.kernel.raise.Tie as tie
+
+strides-of-requires : tie.Need-strides-of-requires
+strides-of-requires c κs = c .before .before .pre .from
+
+mul-s : tie.Need-mul-s
+mul-s c = search needs
+
+array-read-s : tie.Need-array-read-s
+array-read-s c = search needs
+
+mul-raise-rows : tie.Need-mul-raise-rows
+mul-raise-rows c = search needs
+
+array-read-raise-rows : tie.Need-array-read-raise-rows
+array-read-raise-rows c = search needs
+
+mul-raise-rows-2 : tie.Need-mul-raise-rows-2
+mul-raise-rows-2 c = omega (arith, raise-small (c .before .before .before .pre) (ap (λ (l : List ℕ). at l (c .before .before .before .args .v)) (c .strides-of .ensures)) refl refl .0)
+
+mul-raise-rows-3 : tie.Need-mul-raise-rows-3
+mul-raise-rows-3 c = search needs
+
+array-read-raise-rows-2 : tie.Need-array-read-raise-rows-2
+array-read-raise-rows-2 c = search needs
+
+mul-raise-rows-4 : tie.Need-mul-raise-rows-4
+mul-raise-rows-4 c = omega (arith, raise-small (c .before .before .before .pre) (ap (λ (l : List ℕ). at l (c .before .before .before .args .v)) (c .strides-of .ensures)) refl refl .1)
+
+raise-rows-requires : tie.Need-raise-rows-requires
+raise-rows-requires c κs = raise-rows (c .before .before .before .before .pre) (ap (λ (l : List ℕ). at l (c .before .before .before .before .args .v)) (c .before .strides-of .ensures)) refl refl
+
+same-length : tie.Need-same-length
+same-length c = search needs
+
+returns : tie.Need-returns
+returns c = raise-is (c .before .before .before .before .before .before .before .pre) (ap (λ (l : List ℕ). at l (c .before .before .before .before .before .before .before .args .v)) (c .before .before .before .before .strides-of .ensures)) refl refl (c .before .before .before .before .before .before .before .args .m) (c .before .before .before .before .before .before .before .args .a .now) (c .before .before .raise-rows .ensures)
+
+pub raise-spec : {M : Type 1} → statement M
+raise-spec =
+    tie.close
+    (tie.spec
+    strides-of-requires
+    mul-s
+    array-read-s
+    mul-raise-rows
+    array-read-raise-rows
+    mul-raise-rows-2
+    mul-raise-rows-3
+    array-read-raise-rows-2
+    mul-raise-rows-4
+    raise-rows-requires
+    same-length
+    returns)

@@ -1,0 +1,39 @@
+use mathlib.Core.Path.{refl, sym, _∙_}
+use lib.Seq.{length-take-le}
+use Rattle.product.specs.Ways.{put-front, raises-lens, raises-whole, raises-fits, raises-raise, raised-is}
+use borrow.Author.Needs.{needs}
+use Rattle.product.proofs.kernel.raise_to.Statement.{statement}
+use Rattle.product.proofs.kernel.raise_to.Tie as tie
+
+grown-to-requires : tie.Need-grown-to-requires
+grown-to-requires c κs = (c .before .before .pre .var, raises-lens (c .before .before .pre))
+
+count-of-requires : tie.Need-count-of-requires
+count-of-requires c κs = raises-whole (c .before .before .before .pre) (c .grown-to .ensures)
+
+slice-relend-prefix-raise : tie.Need-slice-relend-prefix-raise
+slice-relend-prefix-raise c = raises-fits (c .before .before .before .before .pre) (c .before .grown-to .ensures) (c .count-of .ensures)
+
+slice-aggregate-raise : tie.Need-slice-aggregate-raise
+slice-aggregate-raise c = sym (length-take-le _ (c .before .before .before .before .before .args .out .now) (raises-fits (c .before .before .before .before .before .pre) (c .before .before .grown-to .ensures) (c .before .count-of .ensures)))
+
+raise-requires : tie.Need-raise-requires
+raise-requires c κs = raises-raise (c .before .before .before .before .before .pre) (c .before .before .grown-to .ensures) (length-take-le _ (c .before .before .before .before .before .args .out .now) (raises-fits (c .before .before .before .before .before .pre) (c .before .before .grown-to .ensures) (c .before .count-of .ensures)) ∙ c .before .count-of .ensures)
+
+same-length : tie.Need-same-length
+same-length c = search needs
+
+returns : tie.Need-returns
+returns c = let j = raised-is (c .before .before .before .before .before .before .before .before .args .limits) (c .before .before .before .before .before .before .before .before .args .n) (c .before .before .before .before .before .before .before .before .args .line .variable) (c .before .before .before .before .before .before .before .before .args .line .m) (c .before .before .before .before .before .before .before .before .args .a .now) (c .before .before .before .before .before .grown-to .ensures) (c .before .before .raise .ensures) in put-front (c .before .before .before .before .count-of .result) (j .0) (j .1) (c .before .before .raise .kept .1 .1 .1 .1 .1 .0 ∙ length-take-le _ (c .before .before .before .before .before .before .before .before .args .out .now) (raises-fits (c .before .before .before .before .before .before .before .before .pre) (c .before .before .before .before .before .grown-to .ensures) (c .before .before .before .before .count-of .ensures))) refl
+
+pub raise-to-spec : {M : Type 1} → statement M
+raise-to-spec =
+    tie.close
+    (tie.spec
+    grown-to-requires
+    count-of-requires
+    slice-relend-prefix-raise
+    slice-aggregate-raise
+    raise-requires
+    same-length
+    returns)

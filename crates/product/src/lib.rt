@@ -1,0 +1,64 @@
+// The product of two polynomials (document 01, port order 4). The entry takes any words and buffers.
+pub mod kernel;
+
+use model::Answer;
+use model::Family;
+use model::Header;
+use shape::announce::announced_of;
+use words::word::header_of;
+use words::word::pack;
+ghost use mathlib.Core.Path.{_≡_};
+ghost use Rattle.model.specs.Product.{productAnswer, productOut, productScratch};
+
+// a * b, cut to the smaller limits: refusals 1, 2, 5, 6.
+pub fn multiply(
+    ah: u64,
+    a: &[f64],
+    bh: u64,
+    b: &[f64],
+    out: &mut [f64],
+    scratch: &mut [f64],
+) -> Answer
+    ensures answer { λ r. ⌜ r ≡ productAnswer ah (now (a .entry)) bh (now (b .entry)) (now (out .entry)) (now (scratch .entry)) ⌝ }
+    ensures written { λ r. ⌜ now (out .exit) ≡ productOut ah (now (a .entry)) bh (now (b .entry)) (now (out .entry)) (now (scratch .entry)) ⌝ }
+    ensures cleared { λ r. ⌜ now (scratch .exit) ≡ productScratch ah (now (a .entry)) bh (now (b .entry)) (now (out .entry)) (now (scratch .entry)) ⌝ }
+{
+    let refusal = gates::pair_gate(
+        Family::Product,
+        ah,
+        a.len(),
+        bh,
+        b.len(),
+        out.len(),
+        scratch.len(),
+    );
+    if refusal.number != 0 {
+        return Answer::Refused(refusal);
+    }
+    let x = header_of(ah);
+    let y = header_of(bh);
+    let h = announced_of(Family::Product, x, y);
+    let la = x.lengths;
+    let lb = y.lengths;
+    let l = h.limits;
+    let na = gates::stored_of(x);
+    let nb = gates::stored_of(y);
+    let n = gates::stored_of(h);
+    let room = 8 * n;
+    let r = kernel::multiply_into(
+        &a[..na],
+        la,
+        &b[..nb],
+        lb,
+        l,
+        n,
+        &mut out[..n],
+        &mut scratch[..room],
+    );
+    blocks::clear(&mut scratch[..room]);
+    Answer::Done(pack(Header {
+        vars: h.vars,
+        limits: l,
+        lengths: r,
+    }))
+}
