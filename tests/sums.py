@@ -1,4 +1,4 @@
-"""Stored cases for crates/replay_sums and what has to come out, worked out from document 01 (port order 2 and 3, 'Tail', 'Refusal numbers')
+"""Stored cases for crates/replay_sums and what has to come out, worked out from document 01 (port order 2 to 4, 'Tail', 'Refusal numbers')
 and from nothing of the crates. Python's floats are IEEE 754 binary64.
 
     python3 tests/sums.py cases > crates/replay_sums/stdin
@@ -94,6 +94,69 @@ def linear(p):
     return None
 
 
+def is_constant(p, x):
+    return count(p[1]) == 1 and p[2][(0,) * len(p[1])] == x
+
+
+def times_number(c, p):
+    return p[0], p[1], {i: c * x for i, x in p[2].items()}
+
+
+def by_line(line, p, stage):
+    """m times the other factor, one up in v, and the other times c, unless c is zero."""
+    c, m, v = line
+    limits, lengths, values = p
+    new = [min(limits[k], n + 1) if k == v else n for k, n in enumerate(lengths)]
+    one_less = lambda i: tuple(x - 1 if k == v else x for k, x in enumerate(i))
+    up = limits, new, {i: values[one_less(i)] * m if i[v] else 0.0 for i in indices(new)}
+    return up if c == 0 else combine(False, up, product(p, poly(limits, [1] * len(limits), [c]), stage - 1))
+
+
+def general(a, b):
+    limits = a[0]
+    lengths = [min(l, x + y - 1) for l, x, y in zip(limits, a[1], b[1])]
+    out = {i: 0.0 for i in indices(lengths)}
+
+    def rows(x, y, r):
+        v = len(r)
+        if v == len(limits):
+            out[r] = out[r] + a[2][x] * b[2][y]
+            return
+        rest = (0,) * (len(limits) - v - 1)
+        for k in range(lengths[v]):
+            js = range(max(0, k + 1 - b[1][v]), min(k + 1, a[1][v]))
+            if lengths[v] > 1 and all(n == 1 for n in lengths[v + 1 :]):
+                total = 0.0
+                for j in js:
+                    total = total + a[2][x + (j,) + rest] * b[2][y + (k - j,) + rest]
+                out[r + (k,) + rest] = out[r + (k,) + rest] + total
+            else:
+                for j in js:
+                    rows(x + (j,), y + (k - j,), r + (k,))
+
+    rows((), (), ())
+    return limits, lengths, out
+
+
+def product(a, b, stage):
+    if is_constant(a, 1.0) or is_constant(b, 1.0):
+        return b if is_constant(a, 1.0) else a
+    for x, y in ((a, b), (b, a)):
+        if count(x[1]) == 1:
+            return times_number(x[2][(0,) * len(x[1])], y)
+    for x, y in ((a, b), (b, a)):
+        if stage and linear(x):
+            return by_line(linear(x), y, stage)
+    return general(a, b)
+
+
+def multiply(a, b):
+    limits = smaller(a[0], b[0])
+    if is_constant(a, 0.0) or is_constant(b, 0.0):
+        return poly(limits, [1] * len(limits), [0.0])
+    return product(cut(limits, a), cut(limits, b), 1)
+
+
 def held(w, values):
     limits, lengths = read(w)
     return poly(limits, lengths, values[: count(lengths)])
@@ -143,18 +206,21 @@ class Case:
         if self.op >= 10:
             return self.constructor()
         good = lambda w: lambda: read(w) is not None
-        if self.op in (1, 2):
+        if self.op in (1, 2, 5):
             def announced():
                 (la, na), (lb, nb) = read(self.ah), read(self.bh)
                 limits = smaller(la, lb)
                 n = [[min(limits[k], x[k]) if k < len(x) else 1 for k in range(len(limits))] for x in (na, nb)]
+                if self.op == 5:
+                    return count(min(l, x + y - 1) for l, x, y in zip(limits, *n))
                 return count(max(x, y) for x, y in zip(*n))
             r = first_refusal(
                 (good(self.ah), 1), (good(self.bh), 1), (self.full(self.ah, self.a), 2), (self.full(self.bh, self.b), 2),
                 (lambda: announced() <= 4096 and announced() <= self.lent, 5), (lambda: 8 * announced() <= self.scratch, 6))
             if r:
                 return self.poly(None, r, 0)
-            return self.poly(combine(self.op == 2, held(self.ah, self.a), held(self.bh, self.b)), 0, announced(), 8 * announced())
+            a, b = held(self.ah, self.a), held(self.bh, self.b)
+            return self.poly(multiply(a, b) if self.op == 5 else combine(self.op == 2, a, b), 0, announced(), 8 * announced())
         tests = [(good(self.ah), 1), (self.full(self.ah, self.a), 2)]
         if self.op == 0:
             r = first_refusal(*tests, (lambda: count(read(self.ah)[1]) <= self.lent, 5))
@@ -266,6 +332,19 @@ def cases():
     yield Case(1, line, ok[1][:2], two3, ok[3], lent=0, scratch=0)
     yield Case(1, line, ok[1], two3, ok[3][:1], lent=0, scratch=0)
     yield Case(2, word([64, 64], [64, 1]), [1.0] * 16, none, [1.0], lent=16, scratch=128)
+    # products: zero, one, constant, linear from either side, general; special values; edges of result and scratch
+    six, both, cube = word([6], [3]), word([4, 3], [2, 2]), word([2, 2, 2], [2, 2, 2])
+    for ah, a, bh, b in (
+        (none, [0.0], line, [INF, NAN, -0.0]), (line, [1.0, 2.0, 3.0], one3, [-0.0]), (word([1], [1]), [0.5], line, [0.0, 1.0, 2.0]),
+        (none, [1.0], line, [-0.0, NAN, 3.0]), (line, [1.0, INF, 3.0], none, [1.0]), (none, [-2.0], line, [0.0, INF, 3.0]), (line, [0.1, 0.2, NAN], one3, [INF]),
+        (two3, [3.0, 2.0], square, [1.0, 2.0, 3.0, 4.0]), (line, [1.0, 2.0, 3.0], row, [0.0, -1.5]), (line, [0.1, 0.2, 0.3], two3, [1.0, INF]),
+        (square, [3.0, 0.0, 0.0, -0.0], both, [1.0, 2.0, 3.0, 4.0]), (square, [1.0, 2.0, 3.0, 4.0], square, [5.0, 6.0, 7.0, 8.0]),
+        (six, [0.1, 0.2, 0.3], six, [0.7, -0.0, 1e308]), (both, [0.1, 0.2, 0.3, 0.4], both, [INF, -0.0, 5e-324, 0.7]), (six, [1.0, 2.0, 3.0], both, [4.0, 5.0, 6.0, 7.0]),
+        (cube, [0.1, 0.2, 0.3, 0.4, 0.5, 0.6, 0.7, 0.8], cube, [1e16, 1.0, -1.0, 3.0, 0.1, 0.7, -0.0, 1e-16]),
+    ):
+        yield Case(5, ah, a, bh, b, lent=9, scratch=80)
+    for lent, scratch in ((4, 32), (3, 32), (4, 31), (3, 31)):
+        yield Case(5, square, [1.0, 2.0, 3.0, 4.0], square, [5.0, 6.0, 7.0, 8.0], lent=lent, scratch=scratch)
     # constructors
     for lent in (0, 1, 2):
         yield Case(16, lent=lent)
