@@ -35,10 +35,10 @@ pub fn clear(to: &mut [f64])
     ensures { λ _. ⌜ now (to .exit) ≡ zeros (length (now (to .entry))) ⌝ }
 {
     let n = to.len();
-    let mut k = 0;
-    while k < n {
-        to[k] = 0.0;
-        k += 1;
+    let mut i = 0;
+    while i < n {
+        to[i] = 0.0;
+        i += 1;
     }
 }
 

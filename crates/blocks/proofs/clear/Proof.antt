@@ -12,10 +12,10 @@ use Rattle.blocks.proofs.clear.Reads as reads
 use Rattle.blocks.proofs.clear.Lts as lts
 
 abbrev Inv-loop : tie.InvT-loop
-Inv-loop to₀ n k₀ to k = (k ≤ n) × ((n ≡ length to₀) × Filled k (λ j. zeroF) to₀ to)
+Inv-loop to₀ n i₀ to i = (i ≤ n) × ((n ≡ length to₀) × Filled i (λ j. zeroF) to₀ to)
 
 abbrev μ-loop : tie.MeasureT-loop
-μ-loop to₀ n k₀ to k = n - k
+μ-loop to₀ n i₀ to i = n - i
 
 loop-holds : tie.Need-loop-holds Inv-loop μ-loop
 loop-holds c = (omega arith, (refl, filled-none))
@@ -26,8 +26,8 @@ mul-to c = omega arith
 slice-write-to : tie.Need-slice-write-to Inv-loop μ-loop
 slice-write-to c = omega arith
 
-add-k : tie.Need-add-k Inv-loop μ-loop
-add-k c = omega arith
+add-i : tie.Need-add-i Inv-loop μ-loop
+add-i c = omega arith
 
 loop-less : tie.Need-loop-less Inv-loop μ-loop
 loop-less c = omega arith
@@ -50,7 +50,7 @@ clear-spec =
     loop-holds
     mul-to
     slice-write-to
-    add-k
+    add-i
     loop-less
     loop-again
     same-length
