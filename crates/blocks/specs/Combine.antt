@@ -4,13 +4,12 @@ use mathlib.Core.List.{List}
 use mathlib.Core.Bool.{Bool, true, false, cond}
 use mathlib.Core.Path.{_≡_, refl, sym, ap, _∙_}
 use native.Mathlib.Omega.{arith}
-use native.Mathlib.Nat.{le-mul-of-pos-right, mul-pos, mul-comm}
 use lib.Dec.{eqb, lit<}
 use lib.ListN.{length, getD, set, take, length-set}
 use lib.Seq.{take-all, take-length}
 use lib.Ieee.{Float, nan}
 use borrow.Author.Tests.{eq-eqb, ne-eqb}
-use Rattle.lists.specs.Four.{at, four, at-four, each}
+use Rattle.lists.specs.Four.{at, four, at-four}
 use Rattle.lists.specs.Table.{table, table-same, table-at, length-table}
 use Rattle.model.specs.Header.{count, span}
 use Rattle.model.specs.Limits.{maxShape}
@@ -20,7 +19,8 @@ use Rattle.model.specs.Refusals.{zeros, zeroF}
 use Rattle.model.specs.Negate.{negatedAt}
 use Rattle.model.specs.Readings.{first}
 use Rattle.model.specs.Add.{join, joinAt, firstJoined, turned, joined, placeJoined}
-use Rattle.words.specs.Lengths.{Lengths, count-is, count-pos}
+use Rattle.words.specs.Lengths.{Lengths, count-is, count-pos, lengths-pos}
+use Rattle.words.specs.Spans.{count-one}
 use Rattle.blocks.specs.Rows.{Inner, Joining}
 
 -- n and m the operands' lengths, r the result's; la, lb and lt the lengths of the buffers
@@ -33,33 +33,17 @@ pub record Combining (n m r : List ℕ) (la lb lt : ℕ) : Type 0 where
   pub full-b : lb ≡ count m
   pub full : lt ≡ count r
 
--- a count of 1 has lengths of 1
-one-factor : {a b : ℕ} → 0 < a → 0 < b → a * b ≡ 1 → a ≡ 1
-one-factor {a} {b} p q e = let h = le-mul-of-pos-right a q in omega arith
-
-pub count-one : {m : List ℕ} → Lengths m → count m ≡ 1 → (k : ℕ) → k < 4 → at m k ≡ 1
-count-one {m} g e =
-    let e0 : at m 0 * (at m 1 * (at m 2 * at m 3)) ≡ 1 = sym (count-is m) ∙ e in
-    let p3 = g .p3 in
-    let p2 = mul-pos (g .p2) (g .p3) in
-    let p1 = mul-pos (g .p1) p2 in
-    let a0 = one-factor (g .p0) p1 e0 in
-    let e1 = one-factor p1 (g .p0) (mul-comm _ (at m 0) ∙ e0) in
-    let a1 = one-factor (g .p1) p2 e1 in
-    let e2 = one-factor p2 (g .p1) (mul-comm _ (at m 1) ∙ e1) in
-    each (λ k. at m k ≡ 1) a0 a1 (one-factor (g .p2) p3 e2) (one-factor p3 (g .p2) (mul-comm _ (at m 2) ∙ e2))
-
 -- the result of a sum with a block of count 1 has the other's count
 pub count-left : {n m : List ℕ} → Lengths n → Lengths m → count m ≡ 1 → count (maxShape n m) ≡ count n
 unfolding maxShape
 count-left {n} {m} g h e =
-    let k : (v : ℕ) → v < 4 → 0 < at n v → max (at n v) (at m v) ≡ at n v = λ v l p. let o = count-one h e v l in omega arith in
+    let k : (v : ℕ) → v < 4 → 0 < at n v → max (at n v) (at m v) ≡ at n v = λ v l p. let o = count-one m (lengths-pos h) e v l in omega arith in
     rw (count-is (maxShape n m), count-is n) (simp (k 0 (lit< tt) (g .p0), k 1 (lit< tt) (g .p1), k 2 (lit< tt) (g .p2), k 3 (lit< tt) (g .p3)))
 
 pub count-right : {n m : List ℕ} → Lengths n → Lengths m → count n ≡ 1 → count (maxShape n m) ≡ count m
 unfolding maxShape
 count-right {n} {m} g h e =
-    let k : (v : ℕ) → v < 4 → 0 < at m v → max (at n v) (at m v) ≡ at m v = λ v l p. let o = count-one g e v l in omega arith in
+    let k : (v : ℕ) → v < 4 → 0 < at m v → max (at n v) (at m v) ≡ at m v = λ v l p. let o = count-one n (lengths-pos g) e v l in omega arith in
     rw (count-is (maxShape n m), count-is m) (simp (k 0 (lit< tt) (h .p0), k 1 (lit< tt) (h .p1), k 2 (lit< tt) (h .p2), k 3 (lit< tt) (h .p3)))
 
 inner-left : (n m : List ℕ) → Inner (maxShape n m) n

@@ -7,15 +7,16 @@ use mathlib.Core.List.{List, [], _∷_, map}
 use Prim.Native.Nat.{ℕ, _*_}
 use lib.Dec.{eqb}
 use lib.ListN.{take}
-use lib.Ieee.{Float, nan, binary64, ofBits, toBits, add, sub, mul, eq}
+use lib.Ieee.{Float, nan, binary64, ofBits, toBits, neg, add, sub, mul, div, eq}
 use Rattle.lists.specs.Walk.{walk}
 use Rattle.lists.specs.Table.{table}
+use Rattle.lists.specs.Grow.{grow}
 use Rattle.model.specs.declared.Header.{Header}
 use Rattle.model.specs.declared.Answer.{Answer}
 use Rattle.model.specs.declared.Answer.the-variants as answer-is
 use Rattle.model.specs.declared.Reading.{Reading}
 use Rattle.model.specs.declared.Reading.the-variants as reading-is
-use Rattle.model.specs.declared.Family.the-variants.{Product}
+use Rattle.model.specs.declared.Family.the-variants.{Product, Quotient}
 use Rattle.model.specs.Header.{span, stored, goodVar, goodVars, goodHeader}
 use Rattle.model.specs.Word.{headerOf, goodWord, fields, wordOf}
 use Rattle.model.specs.Places.{strides, offset, index, inside}
@@ -30,6 +31,7 @@ use Rattle.model.specs.Linear.{zerosBut, linearIn, lineOf, linearFrom}
 use Rattle.model.specs.Add.{joinAt, joined, joinedBlock}
 use Rattle.model.specs.General.{line, alone, productAt, general}
 use Rattle.model.specs.Product.{grown, raisedAt, raised, chosen, plainProduct, linearProduct, productOf, multiplied, productPoly, productAnswer, productOut}
+use Rattle.model.specs.Quotient.{taken, lessened, quotientAt, recurred, quotientShape, quotientOf, divided, quotientPoly, quotientAnswer, quotientOut}
 
 pub record Operand : Type 0 where
   pub word : ℕ
@@ -45,7 +47,7 @@ nothing = operand 0 []
 pub data Operation : Type 0 where
   -- at k
   Tail : ℕ → Operation
-  Times : Operation
+  Times Over : Operation
 
 pub record Row : Type 0 where
   pub operation : Operation
@@ -84,6 +86,10 @@ answer Times a b =
     made (announcedPair Product (a .word) (b .word))
     (productAnswer (a .word) (floats a) (b .word) (floats b))
     (productOut (a .word) (floats a) (b .word) (floats b))
+answer Over a b =
+    made (announcedPair Quotient (a .word) (b .word))
+    (quotientAnswer (a .word) (floats a) (b .word) (floats b))
+    (quotientOut (a .word) (floats a) (b .word) (floats b))
 
 -- ---- the test
 
@@ -128,8 +134,13 @@ rows =
     row Times (square (0x3ff0000000000000 ∷ 0x4000000000000000 ∷ 0x4008000000000000 ∷ 0x4010000000000000 ∷ []))
     (two (0x4008000000000000 ∷ 0x4000000000000000 ∷ []))
     (square (0x4008000000000000 ∷ 0x4018000000000000 ∷ 0x4026000000000000 ∷ 0x4030000000000000 ∷ []))
+    ∷
+    -- [1] limit 3 over [1,1] limit 3: [1,-1,1]
+    row Over (operand 0x2100000000000000 (0x3ff0000000000000 ∷ []))
+    (operand 0x2102000000000000 (0x3ff0000000000000 ∷ 0x3ff0000000000000 ∷ []))
+    (three (0x3ff0000000000000 ∷ 0xbff0000000000000 ∷ 0x3ff0000000000000 ∷ []))
     ∷ []
 
 pub examples-hold : hold rows ≡ true
-unfolding hold equal same rows tailAnswer tailGate readBy tailOf sumTo productAnswer productOut pairGate answerBy leaves written goodWord goodHeader goodVars goodVar productPoly multiplied productOf chosen plainProduct linearProduct linearFrom lineOf linearIn zerosBut grown raised raisedAt joinedBlock joined joinAt general productAt line alone walk table cut cutTo maxShape sumShape minDegreesP1 minLimit announced paired headerOf wordOf fields strides offset index inside span ofBits toBits add sub mul eq
+unfolding hold equal same rows tailAnswer tailGate readBy tailOf sumTo productAnswer productOut pairGate answerBy leaves written goodWord goodHeader goodVars goodVar productPoly multiplied productOf chosen plainProduct linearProduct linearFrom lineOf linearIn zerosBut grown raised raisedAt joinedBlock joined joinAt general productAt line alone walk table cut cutTo maxShape sumShape minDegreesP1 minLimit announced paired headerOf wordOf fields strides offset index inside span quotientAnswer quotientOut quotientPoly divided quotientOf quotientShape recurred quotientAt lessened taken grow ofBits toBits neg add sub mul div eq
 examples-hold = refl

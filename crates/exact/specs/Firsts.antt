@@ -24,7 +24,7 @@ use Rattle.words.specs.Lengths.{Inside, inside-is, is-inside, inside-four, insi
 use Rattle.words.specs.Places.{place-lt}
 use Rattle.exact.specs.Windows.{degree-origin}
 use Rattle.exact.specs.Sits.{Sits}
-use Rattle.exact.specs.Spans.{count-one}
+use Rattle.words.specs.Spans.{count-one}
 use Rattle.exact.specs.Wholes.{Is, whole-at, stored-at, past-at, place-one, place-origin}
 
 -- a test that cannot hold

@@ -1,4 +1,3 @@
-pub mod Spans
 pub mod Sits
 pub mod Keeps
 pub mod Windows

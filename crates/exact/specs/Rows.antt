@@ -25,7 +25,7 @@ use Rattle.words.specs.Lengths.{Inside, inside-at}
 use Rattle.exact.specs.Sits.{Sits}
 use Rattle.exact.specs.Windows.{times-nil, sizes-nil}
 use Rattle.exact.specs.Remaining.{from, from-count, from-in-box, from-degree}
-use Rattle.exact.specs.Spans.{span-ones, ones-of-span}
+use Rattle.words.specs.Spans.{span-ones, ones-of-span}
 use Rattle.exact.specs.Terms.{Stores, row-stores, times-window, sizes-window, line-whole}
 
 module _ {r k : List ℕ} {a b : Block} (s : Sits r a) (t : Sits r b) (i : Inside r k) where

@@ -11,7 +11,7 @@ use Rattle.model.specs.Header.{count}
 use Rattle.model.specs.Limits.{cutTo, maxShape, sumShape}
 use Rattle.model.specs.Poly.{Block, cut}
 use Rattle.shape.specs.Cut.{cut-full}
-use Rattle.exact.specs.Spans.{count-one}
+use Rattle.words.specs.Spans.{count-one}
 
 pub record Sits (r : List ℕ) (b : Block) : Type 0 where
   pub ns : b .lengths ≡ four (at (b .lengths))

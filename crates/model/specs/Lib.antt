@@ -15,6 +15,7 @@ pub mod Constructed
 pub mod Add
 pub mod General
 pub mod Product
+pub mod Quotient
 pub mod Sum
 pub mod Box
 pub mod Textbook

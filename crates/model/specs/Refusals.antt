@@ -67,9 +67,13 @@ zeros n = table n (λ k. zeroF)
 unfoldable pub leaves : Refusal → List Float → List Float → List Float
 leaves r new old = cond (isNone r) new old
 
--- n announced places: the answer, then +0.0; the rest of the buffer as it was
+-- n places: the answer, then +0.0
+abbrev pub padded : ℕ → List Float → List Float
+padded n xs = xs ++ zeros (n - length xs)
+
+-- n announced places; the rest of the buffer as it was
 unfoldable pub written : ℕ → List Float → List Float → List Float
-written n xs old = (xs ++ zeros (n - length xs)) ++ drop n old
+written n xs old = padded n xs ++ drop n old
 
 -- the first 8 n places of a scratch at +0.0, the rest as it was
 unfoldable pub cleared : ℕ → List Float → List Float

@@ -3,3 +3,4 @@ pub mod Ways
 pub mod Raise
 pub mod Line
 pub mod Times
+pub mod Zero

@@ -11,7 +11,7 @@ use Rattle.lists.specs.Four.{at, four}
 use Rattle.model.specs.declared.Way.{Way}
 use Rattle.model.specs.Header.{count}
 use Rattle.model.specs.Limits.{cutTo, sumShape, maxShape}
-use Rattle.model.specs.Refusals.{zeroF, zeros}
+use Rattle.model.specs.Refusals.{zeroF}
 use Rattle.model.specs.Poly.{Block}
 use Rattle.model.specs.Linear.{noLinear, linear}
 use Rattle.model.specs.Product.{way, grown}
@@ -130,7 +130,3 @@ pub record Stands (p : Block) (out : List Float) (r : List ℕ) : Type 0 where
 pub record Made (p : Block) (s : ℕ) (w w' out : List Float) (r : List ℕ) : Type 0 where
   pub stands : Stands p out r
   pub below : Below s w w'
-
--- then +0.0, n places in all
-abbrev pub padded : ℕ → List Float → List Float
-padded n xs = xs ++ zeros (n - length xs)

@@ -20,7 +20,7 @@ use Rattle.model.specs.Word.{headerOf}
 use Rattle.model.specs.Places.{index}
 use Rattle.model.specs.Limits.{cutTo, sumShape}
 use Rattle.model.specs.Announced.{announced, paired}
-use Rattle.model.specs.Refusals.{zeroF, zeros}
+use Rattle.model.specs.Refusals.{zeroF, zeros, padded}
 use Rattle.model.specs.Poly.{Block, block, held, readAt, cut}
 use Rattle.model.specs.Product.{isZero, constantBlock, productOf, multiplied, productPoly}
 use Rattle.words.specs.Rules.{Ruled, ruled-at}
@@ -31,7 +31,7 @@ use Rattle.blocks.specs.Rows.{Inner}
 use Rattle.blocks.specs.Two.{Two, Holds, cutPlaces, cut-is}
 use Rattle.exact.specs.Sits.{Sits, cut-at, cut-sits}
 use Rattle.exact.specs.ProductKeeps.{product-sits, constant-sits, left-fits, product-keeps}
-use Rattle.product.specs.Room.{Under, Room, Times, Put, Stands, Made, padded}
+use Rattle.product.specs.Room.{Under, Room, Times, Put, Stands, Made}
 use Rattle.product.specs.Ways.{under-lengths, inner-of, count-less, shape-under, shape-left, shape-right}
 
 -- cutting changes nothing where all lies under the limits

@@ -10,12 +10,12 @@ ghost use Rattle.lists.specs.Table.{table};
 ghost use Rattle.lists.specs.Part.{part, Kept};
 ghost use Rattle.model.specs.Header.{count};
 ghost use Rattle.model.specs.Places.{index};
-ghost use Rattle.model.specs.Refusals.{zeroF};
+ghost use Rattle.model.specs.Refusals.{zeroF, padded};
 ghost use Rattle.model.specs.Poly.{block};
 ghost use Rattle.model.specs.Add.{joinedBlock};
 ghost use Rattle.model.specs.Product.{isZero, justC, constantBlock, scaledAt, scaled, grown, raisedAt, raised, chosen, plainProduct, linearProduct, productOf, multiplied};
 ghost use Rattle.words.specs.Lengths.{Lengths};
-ghost use Rattle.product.specs.Room.{lineWay, Raising, RaisesTo, raisedRow, raisedFlat, Rows, Plain, Joins, Room, LineRoom, Times, Put, Stands, Made, padded};
+ghost use Rattle.product.specs.Room.{lineWay, Raising, RaisesTo, raisedRow, raisedFlat, Rows, Plain, Joins, Room, LineRoom, Times, Put, Stands, Made};
 
 // A constant alone.
 fn just(c: f64) -> Linear
@@ -306,10 +306,10 @@ fn linear_product(
 
 // Whether the block with the lengths n is the constant zero.
 fn is_zero(a: &[f64], n: [usize; 4]) -> bool
-    requires { ⌜ Lengths n ⌝ ∗ ⌜ 0 < length (now a) ⌝ }
+    requires { ⌜ 0 < length (now a) ⌝ }
     ensures { λ r. ⌜ r ≡ isZero (block n (now (a .entry))) ⌝ }
 {
-    (words::places::count_of(n) == 1) & (a[0] == 0.0)
+    (n[0] == 1) & (n[1] == 1) & (n[2] == 1) & (n[3] == 1) & (a[0] == 0.0)
 }
 
 // The constant zero.

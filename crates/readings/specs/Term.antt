@@ -17,7 +17,7 @@ use Rattle.model.specs.declared.Family.the-variants.{Term, Order}
 use Rattle.model.specs.Header.{header, limit, len, stored, ones, noHeader}
 use Rattle.model.specs.Places.{index}
 use Rattle.model.specs.Announced.{limitAfter, lengthAfter, single, announced}
-use Rattle.model.specs.Refusals.{zeroF, zeros, written}
+use Rattle.model.specs.Refusals.{zeroF, zeros, padded, written}
 use Rattle.model.specs.Poly.{Poly, poly, blockOf, readAt}
 use Rattle.model.specs.Readings.{coefficientsOfTerm}
 use Rattle.words.specs.Rules.{Ruled, Regular, ruled-at}
@@ -26,10 +26,6 @@ use Rattle.shape.specs.Announced.{single-regular}
 use Rattle.blocks.specs.Fill.{table-add}
 use Rattle.blocks.specs.Rows.{Cutting}
 use Rattle.readings.specs.Rows.{Picking}
-
--- n places: xs, then +0.0
-abbrev pub padded : ℕ → List Float → List Float
-padded n xs = xs ++ zeros (n - length xs)
 
 pub padded-full : {n : ℕ} (xs : List Float) → length xs ≡ n → xs ≡ padded n xs
 unfolding table

@@ -9,7 +9,7 @@ ghost use Rattle.model.specs.declared.Answer.the-variants.{Done};
 ghost use Rattle.model.specs.Header.{count, stored, header, ones, zeroWith};
 ghost use Rattle.model.specs.Word.{wordOf};
 ghost use Rattle.model.specs.Places.{index};
-ghost use Rattle.model.specs.Refusals.{written};
+ghost use Rattle.model.specs.Refusals.{written, padded};
 ghost use Rattle.model.specs.Gates.{withGate};
 ghost use Rattle.model.specs.Poly.{poly, block, readAt};
 ghost use Rattle.model.specs.Answers.{answered, outAfter};
@@ -17,7 +17,7 @@ ghost use Rattle.model.specs.Readings.{sumTo, coefficientsOfTerm};
 ghost use Rattle.model.specs.Constructed.{constant, variable};
 ghost use Rattle.gates.specs.Gate.{HeaderReady};
 ghost use Rattle.readings.specs.Rows.{Picking};
-ghost use Rattle.readings.specs.Term.{Termed, padded};
+ghost use Rattle.readings.specs.Term.{Termed};
 
 // The sum of the first n places, from +0.0 upwards.
 pub fn sum_to(a: &[f64], n: usize) -> f64

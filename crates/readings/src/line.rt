@@ -40,8 +40,9 @@ pub fn linear_of(a: &[f64], n: [usize; 4]) -> Linear
     ensures { λ r. ⌜ r ≡ linear (block n (now (a .entry))) ⌝ }
 {
     let s = words::places::strides_of(n);
-    let mut v = 0;
-    while v < 4 {
+    let mut left = 4;
+    while 0 < left {
+        let v = 4 - left;
         let t = s[v];
         if fits_in(a, n[v], t) {
             return Linear {
@@ -51,7 +52,7 @@ pub fn linear_of(a: &[f64], n: [usize; 4]) -> Linear
                 variable: v,
             };
         }
-        v += 1;
+        left -= 1;
     }
     Linear::none()
 }

@@ -14,10 +14,10 @@ cut-to-requires-2 : tie.Need-cut-to-requires-2
 cut-to-requires-2 c κs = search needs
 
 is-zero-requires : tie.Need-is-zero-requires
-is-zero-requires c κs = (c .before .before .before .before .before .before .pre .left, times-any (c .before .before .before .before .before .before .pre) .0)
+is-zero-requires c κs = times-any (c .before .before .before .before .before .before .pre) .0
 
 is-zero-requires-2 : tie.Need-is-zero-requires-2
-is-zero-requires-2 c κs = (c .before .before .before .before .before .before .before .pre .right, times-any (c .before .before .before .before .before .before .before .pre) .1)
+is-zero-requires-2 c κs = times-any (c .before .before .before .before .before .before .before .pre) .1
 
 zero-to-requires : tie.Need-zero-to-requires
 zero-to-requires c κs = omega (arith, times-some (c .before .before .before .before .before .before .before .before .before .before .pre), c .before .before .before .before .before .before .before .before .before .before .pre .out)

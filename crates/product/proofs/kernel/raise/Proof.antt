@@ -36,7 +36,9 @@ mul-raise-rows-4 : tie.Need-mul-raise-rows-4
 mul-raise-rows-4 c = omega (arith, raise-small (c .before .before .before .pre) (ap (λ (l : List ℕ). at l (c .before .before .before .args .v)) (c .strides-of .ensures)) refl refl .1)
 
 raise-rows-requires : tie.Need-raise-rows-requires
-raise-rows-requires c κs = raise-rows (c .before .before .before .before .pre) (ap (λ (l : List ℕ). at l (c .before .before .before .before .args .v)) (c .before .strides-of .ensures)) refl refl
+raise-rows-requires c κs =
+    let t = raise-rows (c .before .before .before .before .pre) (ap (λ (l : List ℕ). at l (c .before .before .before .before .args .v)) (c .before .strides-of .ensures)) refl refl in
+    record { turns = t .turns; full = t .full; room = t .room; small = omega (arith, t .small); most = omega (arith, t .most); pos = t .pos }
 
 same-length : tie.Need-same-length
 same-length c = search needs

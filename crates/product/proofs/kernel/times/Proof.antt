@@ -23,7 +23,7 @@ part-is-zero-end : tie.Need-part-is-zero-end
 part-is-zero-end c = search needs
 
 is-zero-requires : tie.Need-is-zero-requires
-is-zero-requires c κs = (room-lens (c .before .before .before .before .pre) .0, omega (arith, room-full (c .before .before .before .before .pre) .0, count-pos (room-lens (c .before .before .before .before .pre) .0)))
+is-zero-requires c κs = omega (arith, room-full (c .before .before .before .before .pre) .0, count-pos (room-lens (c .before .before .before .before .pre) .0))
 
 mul-is-zero-2 : tie.Need-mul-is-zero-2
 mul-is-zero-2 c = search needs
@@ -38,7 +38,7 @@ part-is-zero-end-2 : tie.Need-part-is-zero-end-2
 part-is-zero-end-2 c = search needs
 
 is-zero-requires-2 : tie.Need-is-zero-requires-2
-is-zero-requires-2 c κs = (room-lens (c .before .before .before .before .before .before .before .pre) .1, omega (arith, room-full (c .before .before .before .before .before .before .before .pre) .1, count-pos (room-lens (c .before .before .before .before .before .before .before .pre) .1)))
+is-zero-requires-2 c κs = omega (arith, room-full (c .before .before .before .before .before .before .before .pre) .1, count-pos (room-lens (c .before .before .before .before .before .before .before .pre) .1))
 
 zero-to-requires : tie.Need-zero-to-requires
 zero-to-requires c κs = room-some (c .before .before .before .before .before .before .before .before .before .before .pre)

@@ -1,10 +1,10 @@
 use mathlib.Core.Path.{sym, ap, _∙_}
 use Rattle.model.specs.Header.{stored}
-use Rattle.model.specs.Refusals.{zeros}
+use Rattle.model.specs.Refusals.{zeros, padded}
 use Rattle.model.specs.Poly.{Poly, poly}
 use Rattle.lists.specs.Table.{length-table}
 use Rattle.words.specs.Lengths.{lengths-of, count-pos}
-use Rattle.readings.specs.Term.{padded, padded-zero, padded-full, termed-regular, termed-picking, term-past, term-row}
+use Rattle.readings.specs.Term.{padded-zero, padded-full, termed-regular, termed-picking, term-past, term-row}
 use borrow.Author.Needs.{needs}
 use Rattle.readings.proofs.kernel.take_term.Statement.{statement}
 use Rattle.readings.proofs.kernel.take_term.Tie as tie

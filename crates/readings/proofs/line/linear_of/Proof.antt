@@ -2,7 +2,7 @@ use borrow.Author.Needs.{needs}
 use mathlib.Core.Path.{_≡_, refl, sym, _∙_}
 use mathlib.Core.Bool.{true}
 use native.Mathlib.Omega.{arith}
-use Prim.Native.Nat.{_≤_, _-_, _<_}
+use Prim.Native.Nat.{_≤_, _+_, _-_, _<_}
 use lib.ListN.{length}
 use Rattle.lists.specs.Four.{at}
 use Rattle.model.specs.Poly.{block}
@@ -13,22 +13,25 @@ use Rattle.readings.proofs.line.linear_of.Statement.{statement}
 use Rattle.readings.proofs.line.linear_of.Tie as tie
 
 abbrev Inv-loop : tie.InvT-loop
-Inv-loop a n s v₀ v = (v ≤ 4) × (linear (block n a) ≡ linearFrom (block n a) (4 - v) v)
+Inv-loop a n s left₀ left = (left ≤ 4) × (linear (block n a) ≡ linearFrom (block n a) (4 - (4 - left)) (4 - left))
 
 abbrev μ-loop : tie.MeasureT-loop
-μ-loop a n s v₀ v = 4 - v
+μ-loop a n s left₀ left = left
 
-is : (c : tie.After-fits-in Inv-loop μ-loop) → c .fits-in .result ≡ linearIn (block ((c .before .before .before .before .before) .args .t2) ((c .before .before .before .before .before) .args .a .now)) (c .before .before .loop .v)
-is c = fits-is ((c .before .before .before .before .before) .args .a .now) ((c .before .before .before .before .before) .args .t2) ((c .before .before .before .before .before) .pre .1) (c .before .before .before .strides-of .ensures) (c .before .before .loop .v) (c .fits-in .ensures)
+is : (c : tie.After-fits-in Inv-loop μ-loop) → c .fits-in .result ≡ linearIn (block ((c .before .before .before .before .before) .args .t2) ((c .before .before .before .before .before) .args .a .now)) (4 - c .before .before .loop .left)
+is c = fits-is ((c .before .before .before .before .before) .args .a .now) ((c .before .before .before .before .before) .args .t2) ((c .before .before .before .before .before) .pre .1) (c .before .before .before .strides-of .ensures) (4 - c .before .before .loop .left) (c .fits-in .ensures)
 
-low : (c : tie.After-fits-in Inv-loop μ-loop) → c .fits-in .result ≡ true → at (c .before .before .before .strides-of .result) (c .before .before .loop .v) < length ((c .before .before .before .before .before) .args .a .now)
-low c t = fits-low ((c .before .before .before .before .before) .args .a .now) ((c .before .before .before .before .before) .args .t2) ((c .before .before .before .before .before) .pre .1) (c .before .before .before .strides-of .ensures) (c .before .before .loop .v) (c .fits-in .ensures) ((c .before .before .before .before .before) .pre .0) (c .before .loop-test .taken) t
+low : (c : tie.After-fits-in Inv-loop μ-loop) → c .fits-in .result ≡ true → at (c .before .before .before .strides-of .result) (4 - c .before .before .loop .left) < length ((c .before .before .before .before .before) .args .a .now)
+low c t = fits-low ((c .before .before .before .before .before) .args .a .now) ((c .before .before .before .before .before) .args .t2) ((c .before .before .before .before .before) .pre .1) (c .before .before .before .strides-of .ensures) (4 - c .before .before .loop .left) (c .fits-in .ensures) ((c .before .before .before .before .before) .pre .0) (omega arith) t
 
 strides-of-requires : tie.Need-strides-of-requires Inv-loop μ-loop
 strides-of-requires c κs = (c .before) .pre .0
 
 loop-holds : tie.Need-loop-holds Inv-loop μ-loop
 loop-holds c = (omega arith, refl)
+
+sub-v : tie.Need-sub-v Inv-loop μ-loop
+sub-v c = omega arith
 
 mul-t : tie.Need-mul-t Inv-loop μ-loop
 mul-t c = omega arith
@@ -45,33 +48,35 @@ array-read-fits-in c = omega arith
 fits-in-requires : tie.Need-fits-in-requires Inv-loop μ-loop
 fits-in-requires c κs = search needs
 
-shared-slice-read-t18 : tie.Need-shared-slice-read-t18 Inv-loop μ-loop
-shared-slice-read-t18 c = omega (arith, (c .before .before .before .before .before .before .before) .pre .1, count-pos ((c .before .before .before .before .before .before .before) .pre .0))
+shared-slice-read-t19 : tie.Need-shared-slice-read-t19 Inv-loop μ-loop
+shared-slice-read-t19 c = omega (arith, (c .before .before .before .before .before .before .before) .pre .1, count-pos ((c .before .before .before .before .before .before .before) .pre .0))
 
-mul-t19 : tie.Need-mul-t19 Inv-loop μ-loop
-mul-t19 c = omega (arith, low (c .before .before) (c .before .if1 .taken))
+mul-t20 : tie.Need-mul-t20 Inv-loop μ-loop
+mul-t20 c = omega (arith, low (c .before .before) (c .before .if1 .taken))
 
-shared-slice-read-t21 : tie.Need-shared-slice-read-t21 Inv-loop μ-loop
-shared-slice-read-t21 c = low (c .before .before .before) (c .before .before .if1 .taken)
+shared-slice-read-t22 : tie.Need-shared-slice-read-t22 Inv-loop μ-loop
+shared-slice-read-t22 c = low (c .before .before .before) (c .before .before .if1 .taken)
 
 returns : tie.Need-returns Inv-loop μ-loop
 unfolding lineOf
-returns c = rw (c .before .before .before .before .before .before .strides-of .ensures) (sym (c .before .before .before .before .before .loop .inv .1 ∙ from-found (block ((c .before .before .before .before .before .before .before .before) .args .t2) ((c .before .before .before .before .before .before .before .before) .args .a .now)) (c .before .before .before .before .before .loop .v) (c .before .before .before .before .loop-test .taken) (sym (is (c .before .before .before)) ∙ c .before .before .if1 .taken)))
+returns c = rw (c .before .before .before .before .before .before .strides-of .ensures) (sym (c .before .before .before .before .before .loop .inv .1 ∙ from-found (block ((c .before .before .before .before .before .before .before .before) .args .t2) ((c .before .before .before .before .before .before .before .before) .args .a .now)) (4 - c .before .before .before .before .before .loop .left) (omega arith) (sym (is (c .before .before .before)) ∙ c .before .before .if1 .taken)))
 
-add-v : tie.Need-add-v Inv-loop μ-loop
-add-v c = omega arith
+sub-left : tie.Need-sub-left Inv-loop μ-loop
+sub-left c = omega arith
 
 loop-less : tie.Need-loop-less Inv-loop μ-loop
 loop-less c = omega arith
 
 loop-again : tie.Need-loop-again Inv-loop μ-loop
-loop-again c = (omega arith, c .before .before .before .loop .inv .1 ∙ from-next (block ((c .before .before .before .before .before .before) .args .t2) ((c .before .before .before .before .before .before) .args .a .now)) (c .before .before .before .loop .v) (c .before .before .loop-test .taken) (sym (is (c .before)) ∙ c .if1 .left))
+loop-again c =
+    let e : 4 - (c .before .before .before .loop .left - 1) ≡ 4 - c .before .before .before .loop .left + 1 = omega arith in
+    (omega arith, rw e (c .before .before .before .loop .inv .1 ∙ from-next (block ((c .before .before .before .before .before .before) .args .t2) ((c .before .before .before .before .before .before) .args .a .now)) (4 - c .before .before .before .loop .left) (omega arith) (sym (is (c .before)) ∙ c .if1 .left)))
 
 none-requires : tie.Need-none-requires Inv-loop μ-loop
 none-requires c κs = search needs
 
 returns-2 : tie.Need-returns-2 Inv-loop μ-loop
-returns-2 c = c .none .ensures ∙ sym (c .before .before .loop .inv .1 ∙ from-end (block ((c .before .before .before .before .before) .args .t2) ((c .before .before .before .before .before) .args .a .now)) (c .before .before .loop .v) (c .before .loop-test .left))
+returns-2 c = c .none .ensures ∙ sym (c .before .before .loop .inv .1 ∙ from-end (block ((c .before .before .before .before .before) .args .t2) ((c .before .before .before .before .before) .args .a .now)) (4 - c .before .before .loop .left) (omega arith))
 
 pub linear-of-spec : {M : Type 1} → statement M
 linear-of-spec =
@@ -81,16 +86,17 @@ linear-of-spec =
     μ-loop
     strides-of-requires
     loop-holds
+    sub-v
     mul-t
     array-read-t
     mul-fits-in
     array-read-fits-in
     fits-in-requires
-    shared-slice-read-t18
-    mul-t19
-    shared-slice-read-t21
+    shared-slice-read-t19
+    mul-t20
+    shared-slice-read-t22
     returns
-    add-v
+    sub-left
     loop-less
     loop-again
     none-requires

@@ -18,7 +18,7 @@ unfolding span
 span-ones l zero v h = refl
 span-ones l (suc n) v h = rw (h v (omega arith) (omega arith), span-ones l n (suc v) (λ w p q. h w (omega arith) (omega arith)))
 
-span-pos : (l : List ℕ) (n v : ℕ) → ((w : ℕ) → v ≤ w → w < v + n → 1 ≤ at l w) → 1 ≤ span l n v
+pub span-pos : (l : List ℕ) (n v : ℕ) → ((w : ℕ) → v ≤ w → w < v + n → 1 ≤ at l w) → 1 ≤ span l n v
 unfolding span
 span-pos l zero v h = omega arith
 span-pos l (suc n) v h = mul-pos (h v (omega arith) (omega arith)) (span-pos l n (suc v) (λ w p q. h w (omega arith) (omega arith)))
