@@ -63,7 +63,7 @@ join-whole false p q h = whole-add p q h
 join-whole true p q h = whole-sub p q h
 
 -- joined with a coefficient, stored or not
-join-at : (minus : Bool) {x : Float} {c z : ℤ} (b : Block) (k : List ℕ) → Whole x c → Whole (coefficientAt b k) z → natAbs (joinZ minus c z) ≤ 2 ^ 53 → Whole (joinAt minus x b k) (joinZ minus c z)
+pub join-at : (minus : Bool) {x : Float} {c z : ℤ} (b : Block) (k : List ℕ) → Whole x c → Whole (coefficientAt b k) z → natAbs (joinZ minus c z) ≤ 2 ^ 53 → Whole (joinAt minus x b k) (joinZ minus c z)
 unfolding joinAt
 join-at minus {x} {c} b k p q h =
     decide (inside (b .lengths) k)

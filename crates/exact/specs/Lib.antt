@@ -20,6 +20,15 @@ pub mod Stages
 pub mod Multiplied
 pub mod Products
 pub mod Results
+pub mod Inverses
+pub mod QuotientKeeps
+pub mod Earlier
+pub mod Lasts
+pub mod Lessened
+pub mod Pasts
+pub mod Recurred
+pub mod Divided
+pub mod Quotients
 pub mod Outcome
 pub mod Examples
 pub mod Held

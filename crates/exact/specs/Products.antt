@@ -34,7 +34,7 @@ abbrev pub generalBlock : List ℕ → Block → Block → Block
 generalBlock l a b = let r = sumShape l (a .lengths) (b .lengths) in block r (general (a .lengths) (b .lengths) r (a .places) (b .places))
 
 -- a polynomial's block under its own lengths
-own-sits : (p : Poly) → Regular (p .head) → {a : ℕ → ℤ} → Wholes (blockOf p) a → Sits (p .head .lengths) (blockOf p)
+pub own-sits : (p : Poly) → Regular (p .head) → {a : ℕ → ℤ} → Wholes (blockOf p) a → Sits (p .head .lengths) (blockOf p)
 own-sits p g u = record { ns = g .ns; lo = λ k h. ruled-at (g .rules) k h .pos; hi = λ k h. le-refl _; full = u .full }
 
 module _ (p q : Poly) (g : Regular (p .head)) (h : Regular (q .head)) (a b : ℕ → ℤ) (u : Wholes (blockOf p) a) (v : Wholes (blockOf q) b)

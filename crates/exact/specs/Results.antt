@@ -50,7 +50,7 @@ keeps-sits k = record {
   full = k .full;
 }
 
-result : {h : Header} {p : Poly} {Z : Series} {n : ℕ} → Keeps h p → Is (h .limits) (blockOf p) Z → weight (p .head .lengths) Z ≤ n → Result (h .limits) p Z n
+pub result : {h : Header} {p : Poly} {Z : Series} {n : ℕ} → Keeps h p → Is (h .limits) (blockOf p) Z → weight (p .head .lengths) Z ≤ n → Result (h .limits) p Z n
 result k w b = let s = keeps-sits k in record { wholes = is-wholes s w; agrees = wholes-agree s w; light = le-trans (wholes-weight s w) b }
 
 -- ---- weights over other lengths

@@ -47,7 +47,7 @@ module _ {n k : ℕ} {ns ks : List ℕ} {xs : List Float} {P : Series} (s : Stor
     past = λ j w o. s .past (i ∷ j) (Within.more le w) (λ u. o (in-rest u));
   }
 
-  row-past : n ≤ i → (j : List ℕ) → Within j ks → P (i ∷ j) ≡ pos 0
+  pub row-past : n ≤ i → (j : List ℕ) → Within j ks → P (i ∷ j) ≡ pos 0
   row-past h j w = s .past (i ∷ j) (Within.more le w) (λ u. let l = in-first u in omega arith)
 
 -- ---- the terms that the source's range leaves out are zero
