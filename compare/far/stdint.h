@@ -1,0 +1,3 @@
+/* what face/taylor.h needs of it, for a compiler without its headers */
+typedef __UINT32_TYPE__ uint32_t;
+typedef __UINT64_TYPE__ uint64_t;

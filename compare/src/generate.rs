@@ -1,0 +1,211 @@
+//! Cases from a seed: every short one, and random ones around each boundary.
+
+use crate::case::Case;
+use crate::operations::{Kind, Operation};
+use crate::rng::Rng;
+use crate::words::{Header, COUNT};
+use crate::{shapes, values};
+
+/// The most places that operands store and a result announces.
+#[derive(Copy, Clone)]
+pub struct Size {
+    pub operand: usize,
+    pub announced: usize,
+    /// lent places past those needed, and coefficients past those stored
+    pub more: usize,
+}
+
+/// Most cases are small; a few announce about 4,096 places.
+pub fn size(rng: &mut Rng) -> Size {
+    let most = match rng.below(1000) {
+        0..=249 => 16,
+        250..=649 => 64,
+        650..=949 => 256,
+        950..=995 => 1024,
+        _ => COUNT,
+    };
+    Size { operand: most, announced: most, more: 40 }
+}
+
+/// A random case of an operation.
+pub fn random(op: &'static Operation, rng: &mut Rng, size: Size) -> Case {
+    for _ in 0..20 {
+        let (a, b) = operands(op, rng, size);
+        let numbers = numbers(op, rng, &a);
+        let case = draft(op, rng, (a, b), numbers);
+        let announced = announced(&case);
+        let seldom = announced == 0 || announced > COUNT;
+        if announced <= size.announced && !seldom || seldom && rng.chance(100) {
+            return finished(case, rng, size);
+        }
+    }
+    let none = Header::new(&[], &[]);
+    let numbers = numbers(op, rng, &none);
+    finished(draft(op, rng, (none, none), numbers), rng, size)
+}
+
+fn operands(op: &Operation, rng: &mut Rng, size: Size) -> (Header, Header) {
+    if size.operand == COUNT && rng.chance(600) {
+        let (a, b) = shapes::big(rng);
+        return if op.operands == 2 || rng.chance(500) { (a, b) } else { (b, a) };
+    }
+    let a = shapes::random(rng, size.operand);
+    let b = shapes::second(rng, &a, size.operand);
+    (a, b)
+}
+
+/// Headers, coefficients and numbers, with buffers that nothing is too long for.
+fn draft(op: &'static Operation, rng: &mut Rng, heads: (Header, Header), numbers: Vec<u64>) -> Case {
+    let mut operand = |header: &Header, there: bool| match there {
+        true => (header.word(), values::coefficients(rng, header)),
+        false => (0, vec![]),
+    };
+    let (ah, a) = operand(&heads.0, op.operands > 0);
+    let (bh, b) = operand(&heads.1, op.operands > 1);
+    Case { op, numbers, ah, a, bh, b, out: usize::MAX, scratch: usize::MAX }
+}
+
+/// The count that a draft announces, 0 where its numbers are refused, one more than 4,096 where that count is above it.
+fn announced(case: &Case) -> usize {
+    match (case.op.gate)(case) {
+        Ok(header) => header.count(),
+        Err(refusal) if refusal.0 == 5 => COUNT + 1,
+        Err(_) => 0,
+    }
+}
+
+/// Buffers as long as needed, longer or one short; in some cases a header, or the number of coefficients, is spoilt.
+fn finished(mut case: Case, rng: &mut Rng, size: Size) -> Case {
+    let needed = match announced(&case) {
+        count if count > COUNT => rng.below(3),
+        count => count,
+    };
+    if case.op.operands > 0 && rng.chance(350) {
+        spoil(&mut case, rng, size);
+    }
+    case.out = lent(rng, needed, size.more);
+    case.scratch = if case.op.scratch { lent(rng, 8 * needed, size.more) } else { 0 };
+    if !case.op.gives_polynomial() {
+        case.out = case.op.cells();
+    }
+    case
+}
+
+fn lent(rng: &mut Rng, needed: usize, more: usize) -> usize {
+    match rng.below(100) {
+        0..=49 => needed,
+        50..=92 => needed + rng.between(1, more),
+        93..=97 => needed.saturating_sub(1),
+        _ => rng.below(needed + 1),
+    }
+}
+
+fn spoil(case: &mut Case, rng: &mut Rng, size: Size) {
+    let second = case.op.operands == 2 && rng.chance(500);
+    let (word, list) = if second { (&mut case.bh, &mut case.b) } else { (&mut case.ah, &mut case.a) };
+    match rng.below(10) {
+        0 => *word = shapes::bad(rng, &Header::read(*word).expect("a good header")),
+        1 => list.truncate(list.len() - 1),
+        2 if rng.chance(200) => list.clear(),
+        _ if size.operand < COUNT && list.len() + 1 >= size.operand => {}
+        _ => (0..rng.between(1, size.more.min(4))).for_each(|_| list.push(values::any(rng))),
+    }
+}
+
+fn numbers(op: &Operation, rng: &mut Rng, a: &Header) -> Vec<u64> {
+    op.numbers.iter().fold(vec![], |mut so_far, kind| {
+        so_far.push(number(op, rng, a, *kind, &so_far));
+        so_far
+    })
+}
+
+const HUGE: [u64; 6] = [4, 64, 65, 1 << 32, 1 << 63, u64::MAX];
+
+fn number(op: &Operation, rng: &mut Rng, a: &Header, kind: Kind, so_far: &[u64]) -> u64 {
+    let last = so_far.last().copied().unwrap_or(0);
+    match kind {
+        Kind::Variable if op.operands > 0 && a.vars > 0 && rng.chance(900) => rng.below(a.vars) as u64,
+        Kind::Variable if rng.chance(950) => rng.below(4) as u64,
+        Kind::Order => below_limit(rng, a, if op.numbers.len() > 1 { last } else { 0 }),
+        Kind::Index => below_limit(rng, a, so_far.len() as u64),
+        Kind::Vars if so_far.len() > 1 && so_far[0] < 4 && rng.chance(900) => rng.between(so_far[0] as usize + 1, 4) as u64,
+        Kind::Vars if rng.chance(900) => rng.below(5) as u64,
+        Kind::Limit if rng.chance(970) => shapes::limit(rng) as u64,
+        Kind::Limit => rng.pick(&[0, 65, u64::MAX, 1 << 32 | 1]),
+        Kind::Constant => rng.pick(&[0, 1, 2, 3, u32::MAX, 1 << 31, 0x0123_4567]).into(),
+        Kind::Float => values::any(rng).to_bits(),
+        _ => rng.pick(&HUGE),
+    }
+}
+
+/// A number around the length and the limit of a variable, seldom at or past the limit; of a missing one mostly 0.
+fn below_limit(rng: &mut Rng, a: &Header, v: u64) -> u64 {
+    if v >= a.vars as u64 {
+        return if rng.chance(970) { 0 } else { rng.pick(&[1, 2, 1 << 32, u64::MAX]) };
+    }
+    let (limit, length) = (a.limits[v as usize], a.lengths[v as usize]);
+    let number = match rng.below(16) {
+        0 | 1 => 0,
+        2 => 1,
+        3..=5 => length - 1,
+        6 | 7 => length,
+        8 | 9 => limit - 1,
+        10..=14 => rng.below(limit),
+        _ => return rng.pick(&[limit as u64, limit as u64 + 1, 64, 1 << 32, u64::MAX]),
+    };
+    if rng.chance(900) {
+        number.min(limit - 1) as u64
+    } else {
+        number as u64
+    }
+}
+
+/// The numbers that short cases go through.
+fn short_numbers(kind: Kind) -> Vec<u64> {
+    match kind {
+        Kind::Variable => (0..=4).collect(),
+        Kind::Order | Kind::Index => (0..=3).collect(),
+        Kind::Vars => (0..=5).collect(),
+        Kind::Limit => vec![0, 1, 2, 64, 65],
+        Kind::Constant => vec![0, 1, u64::from(u32::MAX)],
+        Kind::Float => [0.0, -0.0, 1.0, f64::NAN].map(f64::to_bits).to_vec(),
+    }
+}
+
+fn number_combinations(op: &Operation) -> Vec<Vec<u64>> {
+    op.numbers.iter().fold(vec![vec![]], |all, kind| {
+        let choices = short_numbers(*kind);
+        all.iter().flat_map(|front| choices.iter().map(|n| [front.as_slice(), &[*n]].concat())).collect()
+    })
+}
+
+/// Every short case of an operation: all short headers of its operands with all short numbers, each with exact buffers and then,
+/// where there are not too many, twice more with other coefficients and buffers.
+pub fn short(op: &'static Operation, seed: u64, mut visit: impl FnMut(Case)) {
+    let all = shapes::short();
+    let firsts = if op.operands > 0 { all.as_slice() } else { &all[..1] };
+    let seconds = if op.operands > 1 { all.as_slice() } else { &all[..1] };
+    let numbers = number_combinations(op);
+    let times = if numbers.len() > 100 { 1 } else { 3 };
+    let mut rng = Rng::new(seed, op.code, u64::MAX);
+    for a in firsts {
+        for b in seconds {
+            for numbers in &numbers {
+                for time in 0..times {
+                    visit(short_case(op, &mut rng, (*a, *b), numbers.clone(), time == 0));
+                }
+            }
+        }
+    }
+}
+
+fn short_case(op: &'static Operation, rng: &mut Rng, heads: (Header, Header), numbers: Vec<u64>, exact: bool) -> Case {
+    let mut case = draft(op, rng, heads, numbers);
+    if !exact {
+        return finished(case, rng, Size { operand: 64, announced: COUNT, more: 3 });
+    }
+    let needed = announced(&case);
+    case.out = if op.gives_polynomial() { needed } else { op.cells() };
+    case.scratch = if op.scratch { 8 * needed } else { 0 };
+    case
+}

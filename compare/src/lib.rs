@@ -1,0 +1,14 @@
+//! What a call has to answer and leave, worked out without the library; and cases to ask it for.
+
+pub mod case;
+#[cfg(test)]
+mod differences;
+pub mod generate;
+pub mod operations;
+pub mod oracle;
+pub mod outcome;
+pub mod refusals;
+pub mod rng;
+pub mod shapes;
+pub mod values;
+pub mod words;

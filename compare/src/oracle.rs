@@ -1,0 +1,161 @@
+//! What a call that is not refused answers: the source's own operation on a `TaylorPoly` made from header and coefficients.
+
+use crate::case::Case;
+use crate::words::Header;
+use genfer::multivariate_taylor::{linear_of, TaylorPoly};
+use genfer::number::F64;
+use genfer::ppl::Var;
+use ndarray::ArrayD;
+use num_traits::{One, Zero};
+
+pub type Poly = TaylorPoly<F64>;
+
+/// What the source answers: a polynomial, or a word and the numbers read.
+pub enum Given {
+    Poly(Poly),
+    Read(u64, Vec<f64>),
+}
+
+fn poly(word: u64, coefficients: &[f64]) -> Poly {
+    let header = Header::read(word).expect("a good header");
+    let shape = header.lengths[..header.vars].to_vec();
+    let stored = coefficients[..header.count()].iter().map(|x| F64::from(*x)).collect();
+    let array = ArrayD::from_shape_vec(shape, stored).expect("as many as the lengths say");
+    TaylorPoly::new(array, header.limits[..header.vars].to_vec())
+}
+
+fn a(case: &Case) -> Poly {
+    poly(case.ah, &case.a)
+}
+
+fn b(case: &Case) -> Poly {
+    poly(case.bh, &case.b)
+}
+
+fn number(case: &Case, i: usize) -> usize {
+    case.numbers[i] as usize
+}
+
+fn float(case: &Case, i: usize) -> F64 {
+    F64::from(f64::from_bits(case.numbers[i]))
+}
+
+/// Limits given to a constructor, how many of them first.
+fn limits(numbers: &[u64]) -> Vec<usize> {
+    numbers[1..][..numbers[0] as usize].iter().map(|l| *l as usize).collect()
+}
+
+/// Header and coefficients of a result of the source.
+pub fn taken(p: &Poly) -> (Header, Vec<f64>) {
+    let header = Header::new(p.shape(), p.array().shape());
+    (header, p.array().iter().map(|x| x.to_f64()).collect())
+}
+
+pub fn negate(case: &Case) -> Given {
+    Given::Poly(-a(case))
+}
+
+pub fn add(case: &Case) -> Given {
+    Given::Poly(a(case) + b(case))
+}
+
+pub fn subtract(case: &Case) -> Given {
+    Given::Poly(a(case) - b(case))
+}
+
+pub fn multiply(case: &Case) -> Given {
+    Given::Poly(a(case) * b(case))
+}
+
+pub fn divide(case: &Case) -> Given {
+    Given::Poly(a(case) / b(case))
+}
+
+pub fn taylor_polynomial(case: &Case) -> Given {
+    Given::Poly(a(case).taylor_polynomial(Var(number(case, 0)), number(case, 1)))
+}
+
+pub fn coefficients_of_term(case: &Case) -> Given {
+    Given::Poly(a(case).coefficients_of_term(Var(number(case, 0)), number(case, 1)))
+}
+
+pub fn zero(_: &Case) -> Given {
+    Given::Poly(Poly::zero())
+}
+
+pub fn one(_: &Case) -> Given {
+    Given::Poly(Poly::one())
+}
+
+pub fn from_u32(case: &Case) -> Given {
+    Given::Poly(Poly::from_u32(case.numbers[0] as u32))
+}
+
+pub fn zero_with(case: &Case) -> Given {
+    Given::Poly(Poly::zero_with(limits(&case.numbers)))
+}
+
+/// One coefficient under limits: the shape is `zero_with`'s.
+fn constant_under(x: F64, limits: Vec<usize>) -> Poly {
+    let array = Poly::zero_with(limits.clone()).array().map(|_| x);
+    TaylorPoly::new(array, limits)
+}
+
+/// With limits the source stores no axes, which its own invariant forbids: what is left of it is the constant (docs/DIFFERENCES.md).
+pub fn from_u32_with(case: &Case) -> Given {
+    let (c, limits) = (case.numbers[0] as u32, limits(&case.numbers[1..]));
+    if limits.is_empty() {
+        return Given::Poly(Poly::from_u32_with(c, limits));
+    }
+    Given::Poly(constant_under(Poly::from_u32(c).constant_term(), limits))
+}
+
+pub fn var(case: &Case) -> Given {
+    Given::Poly(Poly::var(Var(number(case, 0)), float(case, 1), number(case, 2)))
+}
+
+/// At limit 1 the source stores length 2 above it; `var` does not, and has the same values.
+pub fn var_at_zero(case: &Case) -> Given {
+    let (v, limit) = (Var(number(case, 0)), number(case, 1));
+    Given::Poly(if limit == 1 { Poly::var(v, F64::zero(), 1) } else { Poly::var_at_zero(v, limit) })
+}
+
+/// At limit 1 the source stores length 2 above it; what is left is x.
+pub fn var_with_degrees_p1(case: &Case) -> Given {
+    let (v, x, limits) = (number(case, 0), float(case, 1), limits(&case.numbers[2..]));
+    if limits[v] == 1 {
+        return Given::Poly(constant_under(x, limits));
+    }
+    Given::Poly(Poly::var_with_degrees_p1(Var(v), x, limits))
+}
+
+fn reads(x: F64) -> Given {
+    Given::Read(0, vec![x.to_f64()])
+}
+
+pub fn coefficient(case: &Case) -> Given {
+    let index: Vec<usize> = (0..case.numbers.len()).map(|i| number(case, i)).collect();
+    reads(a(case).coefficient(&index))
+}
+
+pub fn constant_term(case: &Case) -> Given {
+    reads(a(case).constant_term())
+}
+
+pub fn evaluate_all_one(case: &Case) -> Given {
+    reads(a(case).evaluate_all_one())
+}
+
+/// The word is 0 for no, else 1 more than the variable.
+pub fn extract_linear(case: &Case) -> Given {
+    match linear_of(&a(case)) {
+        None => Given::Read(0, vec![0.0, 0.0]),
+        Some((c, m, v)) => Given::Read(1 + v as u64, vec![c.to_f64(), m.to_f64()]),
+    }
+}
+
+/// Not in the source: 1.0 minus the sum that the source makes of coefficients 0 to k.
+pub fn tail(case: &Case) -> Given {
+    let sum = a(case).taylor_polynomial(Var(0), number(case, 0)).evaluate_all_one();
+    reads(F64::one() - sum)
+}

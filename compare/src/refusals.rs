@@ -1,0 +1,167 @@
+//! Which calls are refused, by which number, and what the others announce: document 01's 'Announced limits and lengths' and 'Refusal
+//! numbers', on plain numbers. The source asserts, panics or goes on where these refuse, so nothing here is from it.
+
+use crate::case::Case;
+use crate::words::{Header, COUNT, LIMIT, VARIABLES};
+
+/// A refusal's number. Its place is 64 in a single operation.
+pub struct Refusal(pub u64);
+pub const PLACE: u64 = 64;
+
+pub type Gate = Result<Header, Refusal>;
+
+fn demand(holds: bool, number: u64) -> Result<(), Refusal> {
+    holds.then_some(()).ok_or(Refusal(number))
+}
+
+fn good(word: u64) -> Gate {
+    Header::read(word).ok_or(Refusal(1))
+}
+
+fn is_limit(limit: u64) -> bool {
+    (1..=LIMIT).contains(&limit)
+}
+
+/// Tests 1 and 2 of one operand.
+fn operand(case: &Case) -> Gate {
+    let a = good(case.ah)?;
+    demand(case.a.len() >= a.count(), 2)?;
+    Ok(a)
+}
+
+/// Tests 3 and 4: a variable of the polynomial, and a number below its limit.
+fn below_limit(a: &Header, v: u64, n: u64) -> Result<usize, Refusal> {
+    demand(v < a.vars as u64, 3)?;
+    demand(n < a.limits[v as usize] as u64, 4)?;
+    Ok(v as usize)
+}
+
+/// Test 5.
+fn lent(case: &Case, announced: Header) -> Gate {
+    let count = announced.count();
+    demand(count <= COUNT && case.out >= count, 5)?;
+    Ok(announced)
+}
+
+/// Tests 1, 2, 5 and 6 of two operands; `length` gives a length from the limit and the two cut lengths.
+fn pair(case: &Case, length: fn(usize, usize, usize) -> usize) -> Gate {
+    let (a, b) = (good(case.ah)?, good(case.bh)?);
+    demand(case.a.len() >= a.count() && case.b.len() >= b.count(), 2)?;
+    let announced = lent(case, joined(&a, &b, length))?;
+    demand(case.scratch >= 8 * announced.count(), 6)?;
+    Ok(announced)
+}
+
+/// The smaller limits (a variable that one lacks takes the other's), and lengths by `length` after cutting.
+fn joined(a: &Header, b: &Header, length: fn(usize, usize, usize) -> usize) -> Header {
+    let vars = a.vars.max(b.vars);
+    let limits: Vec<usize> = (0..vars)
+        .map(|v| match (v < a.vars, v < b.vars) {
+            (true, true) => a.limits[v].min(b.limits[v]),
+            (true, false) => a.limits[v],
+            _ => b.limits[v],
+        })
+        .collect();
+    let cut = |h: &Header, v: usize| h.lengths[v].min(limits[v]);
+    let lengths: Vec<usize> = (0..vars).map(|v| length(limits[v], cut(a, v), cut(b, v))).collect();
+    Header::new(&limits, &lengths)
+}
+
+pub fn sum(case: &Case) -> Gate {
+    pair(case, |_, a, b| a.max(b))
+}
+
+pub fn product(case: &Case) -> Gate {
+    pair(case, |limit, a, b| limit.min(a + b - 1))
+}
+
+pub fn quotient(case: &Case) -> Gate {
+    pair(case, |limit, a, b| if b == 1 { a } else { limit })
+}
+
+pub fn negate(case: &Case) -> Gate {
+    let a = operand(case)?;
+    lent(case, a)
+}
+
+/// Numbers v and order.
+pub fn taylor_polynomial(case: &Case) -> Gate {
+    let mut a = operand(case)?;
+    let v = below_limit(&a, case.numbers[0], case.numbers[1])?;
+    a.lengths[v] = a.lengths[v].min(case.numbers[1] as usize + 1);
+    lent(case, a)
+}
+
+/// Numbers v and order.
+pub fn coefficients_of_term(case: &Case) -> Gate {
+    let mut a = operand(case)?;
+    let v = below_limit(&a, case.numbers[0], case.numbers[1])?;
+    a.lengths[v] = 1;
+    lent(case, a)
+}
+
+/// A reading announces nothing; what is answered is the operand's header.
+pub fn reading(case: &Case) -> Gate {
+    operand(case)
+}
+
+/// Numbers: an index a variable.
+pub fn coefficient(case: &Case) -> Gate {
+    let a = operand(case)?;
+    demand(case.numbers[a.vars..].iter().all(|i| *i == 0), 3)?;
+    demand((0..a.vars).all(|v| case.numbers[v] < a.limits[v] as u64), 4)?;
+    Ok(a)
+}
+
+/// Number k.
+pub fn tail(case: &Case) -> Gate {
+    let a = operand(case)?;
+    demand(a.vars == 1, 3)?;
+    below_limit(&a, 0, case.numbers[0])?;
+    Ok(a)
+}
+
+/// Limits given to a constructor: how many, then four numbers.
+fn given(numbers: &[u64]) -> Gate {
+    demand(numbers[0] <= VARIABLES as u64, 1)?;
+    let limits = &numbers[1..][..numbers[0] as usize];
+    demand(limits.iter().all(|l| is_limit(*l)), 1)?;
+    let limits: Vec<usize> = limits.iter().map(|l| *l as usize).collect();
+    Ok(Header::new(&limits, &vec![1; limits.len()]))
+}
+
+/// No number that matters: no variables.
+pub fn bare(case: &Case) -> Gate {
+    lent(case, Header::new(&[], &[]))
+}
+
+/// Numbers: how many limits, then four.
+pub fn zero_with(case: &Case) -> Gate {
+    lent(case, given(&case.numbers)?)
+}
+
+/// Numbers: the constant, how many limits, then four.
+pub fn from_u32_with(case: &Case) -> Gate {
+    lent(case, given(&case.numbers[1..])?)
+}
+
+/// Variable v's limit is `limits[v]`, its length min(2, limit).
+fn variable(case: &Case, v: u64, mut header: Header) -> Gate {
+    demand(v < header.vars as u64, 3)?;
+    header.lengths[v as usize] = header.limits[v as usize].min(2);
+    lent(case, header)
+}
+
+/// Numbers v, x, how many limits, then four.
+pub fn var_with_degrees_p1(case: &Case) -> Gate {
+    variable(case, case.numbers[0], given(&case.numbers[2..])?)
+}
+
+/// Numbers v, .., limit: every variable up to v has the limit.
+pub fn var(case: &Case) -> Gate {
+    let (v, limit) = (case.numbers[0], case.numbers[case.numbers.len() - 1]);
+    demand(is_limit(limit), 1)?;
+    demand(v < VARIABLES as u64, 3)?;
+    let limits = vec![limit as usize; v as usize + 1];
+    variable(case, v, Header::new(&limits, &vec![1; limits.len()]))
+}

@@ -1,0 +1,193 @@
+-- The face: the two kinds of answer cannot be confused. The low five bits of an answered word are the refusal's number, 0 where there is none:
+-- a header word ends in 13 zero bits, and gates refuse by 1 to 6. What was answered is read back from the word.
+use Prim.Native.Nat.{ℕ, zero, suc, _+_, _/_, _%_, _^_, _≤_, _<_}
+use mathlib.Core.List.{List}
+use mathlib.Core.Bool.{Bool, true, false, _&&_, cond}
+use mathlib.Core.Path.{_≡_, refl}
+use native.Mathlib.Omega.{arith}
+use lib.Dec.{eqb, leb, ltb, lit<}
+use lib.ListN.{length}
+use lib.Ieee.{Float}
+use borrow.Author.Tests.{eqb-true, eqb-false, ne-eqb}
+use Rattle.lists.specs.Test.{decide, of-both}
+use Rattle.model.specs.declared.Header.{Header}
+use Rattle.model.specs.declared.Refusal.{Refusal}
+use Rattle.model.specs.declared.Answer.{Answer}
+use Rattle.model.specs.declared.Answer.the-variants.{Done, Refused}
+use Rattle.model.specs.declared.Linear.{Linear}
+use Rattle.model.specs.declared.LinearReading.{LinearReading}
+use Rattle.model.specs.declared.Family.{Family}
+use Rattle.model.specs.declared.Family.the-variants.{Same, Sum, Product, Term, Order}
+use Rattle.model.specs.Header.{limit, zeroWith, varWith}
+use Rattle.model.specs.Word.{headerOf, goodWord, wordOf}
+use Rattle.model.specs.Places.{inside}
+use Rattle.model.specs.Refusals.{refusedAt, noRefusal, isNone, ask, fits, roomy, answerBy, readBy, linearBy}
+use Rattle.model.specs.Gates.{full, noMissing, readGate, indexGate, tailGate, oneGate, inGate, pairGate, goodLimit, goodLimits, withGate, varWithGate, varHeader, varGate, announcedOne, announcedPair}
+use Rattle.model.specs.Poly.{Poly, Block, blockOf, held}
+use Rattle.model.specs.Linear.{linearIn, lineOf, linearFrom, linear}
+use Rattle.model.specs.Answers.{answered}
+use Rattle.model.specs.Readings.{coefficientAnswer, constantTermAnswer, evaluateAllOneAnswer, extractLinearAnswer, taylorPolynomialGate, taylorPolynomialAnswer, coefficientsOfTermGate, coefficientsOfTermAnswer}
+use Rattle.model.specs.Tail.{tailAnswer}
+use Rattle.model.specs.Negate.{negateGate, negateAnswer}
+use Rattle.model.specs.Add.{sumGate, sumAnswer}
+use Rattle.model.specs.Product.{productGate, productAnswer}
+use Rattle.taylor.specs.Face.{wordOfRefusal, wordOfAnswer, wordOfReading, wordOfLinear, variableOf}
+
+-- ---- any answer, by the refusal r that decides it
+
+module _ (r : Refusal) (few : r .number < 32) where
+  pub low : (h : Header) → wordOfAnswer (answerBy r (wordOf h)) % 32 ≡ r .number
+  unfolding answerBy wordOf
+  low h = decide (isNone r) (λ t. simp t (omega (arith, eqb-true (r .number) 0 t))) (λ t. simp t (omega arith))
+
+  pub read-low : (x : Float) → wordOfReading (readBy r x) % 32 ≡ r .number
+  unfolding readBy
+  read-low x = decide (isNone r) (λ t. simp t (omega (arith, eqb-true (r .number) 0 t))) (λ t. simp t (omega arith))
+
+-- the answer that a word stands for
+unfoldable pub answerFrom : ℕ → Answer
+answerFrom w = cond (eqb (w % 32) 0) (Done w) (Refused (refusedAt (w % 256) (w / 256)))
+
+-- done
+word-back : (w : ℕ) → w % 32 ≡ 0 → answerFrom w ≡ Done w
+unfolding answerFrom
+word-back w e = rw e
+
+-- refused
+refusal-back : (r : Refusal) → r .number < 32 → (r .number ≡ 0 → ⊥) → answerFrom (wordOfRefusal r) ≡ Refused r
+unfolding answerFrom
+refusal-back r few n =
+    let w = wordOfRefusal r in
+    let a : w % 32 ≡ r .number = omega arith in
+    let b : w % 256 ≡ r .number = omega arith in
+    let d : w / 256 ≡ r .place = omega arith in
+    rw (a, b, d, ne-eqb _ _ n)
+
+pub back : (r : Refusal) → r .number < 32 → (h : Header) → answerFrom (wordOfAnswer (answerBy r (wordOf h))) ≡ answerBy r (wordOf h)
+unfolding answerBy wordOf
+back r few h =
+    decide (isNone r) (λ t. simp t (word-back (wordOf h) (omega arith))) (λ t. simp t (refusal-back r few (eqb-false (r .number) 0 t)))
+
+-- the linear test: a variable is below 4, so that done the word is 4 at most; refused it is 2^32 at least
+module _ (b : Block) where
+  from-small : (n v : ℕ) → n + v ≡ 4 → linearFrom b n v .variable < 4
+  unfolding linearFrom lineOf
+  from-small zero v e = lit< tt
+  from-small (suc n) v e = of-both (λ (x : Linear). x .variable < 4) (linearIn b v) (omega arith) (from-small n (suc v) (omega arith))
+
+  module _ (r : Refusal) where
+    linear-small : variableOf (linearBy r (linear b)) < 4
+    unfolding linearBy
+    linear-small = of-both (λ (x : LinearReading). variableOf x < 4) (isNone r) (from-small 4 0 refl) (lit< tt)
+
+    pub linear-done : isNone r ≡ true → wordOfLinear (linearBy r (linear b)) ≤ 4
+    unfolding linearBy
+    linear-done t = rw t (of-both (λ (n : ℕ). n ≤ 4) (linear b .yes) (omega (arith, from-small 4 0 refl)) (omega arith))
+
+    pub linear-refused : isNone r ≡ false → 2 ^ 32 ≤ wordOfLinear (linearBy r (linear b))
+    unfolding linearBy
+    linear-refused t = rw t (omega arith)
+
+pub extract-small : (w : ℕ) (a : List Float) → variableOf (extractLinearAnswer w a) < 4
+unfolding extractLinearAnswer
+extract-small w a = linear-small (blockOf (held w a)) (readGate w (length a))
+
+-- ---- the gates refuse by 1 to 6
+
+asked : (a b c d e f : Bool) → ask a 1 (ask b 2 (ask c 3 (ask d 4 (ask e 5 (ask f 6 noRefusal))))) .number < 32
+asked false b c d e f = lit< tt
+asked true false c d e f = lit< tt
+asked true true false d e f = lit< tt
+asked true true true false e f = lit< tt
+asked true true true true false f = lit< tt
+asked true true true true true false = lit< tt
+asked true true true true true true = lit< tt
+
+read-few : (w m : ℕ) → readGate w m .number < 32
+unfolding readGate
+read-few w m = asked (goodWord w) (full w m) true true true true
+
+index-few : (w m : ℕ) (i : List ℕ) → indexGate w m i .number < 32
+unfolding indexGate
+index-few w m i = asked (goodWord w) (full w m) (noMissing (headerOf w) i) (inside (headerOf w .limits) i) true true
+
+tail-few : (w m k : ℕ) → tailGate w m k .number < 32
+unfolding tailGate
+tail-few w m k = asked (goodWord w) (full w m) (eqb (headerOf w .vars) 1) (ltb k (limit (headerOf w) 0)) true true
+
+one-few : (f : Family) (w m n : ℕ) → oneGate f w m n .number < 32
+unfolding oneGate
+one-few f w m n = asked (goodWord w) (full w m) true true (fits (announcedOne f w) n) true
+
+in-few : (f : Family) (v d w m n : ℕ) → inGate f v d w m n .number < 32
+unfolding inGate
+in-few f v d w m n = asked (goodWord w) (full w m) (ltb v (headerOf w .vars)) (ltb d (limit (headerOf w) v)) (fits (announcedOne f w) n) true
+
+pair-few : (f : Family) (w m u l n s : ℕ) → pairGate f w m u l n s .number < 32
+unfolding pairGate
+pair-few f w m u l n s =
+    asked (goodWord w && goodWord u) (full w m && full u l) true true (fits (announcedPair f w u) n) (roomy (announcedPair f w u) s)
+
+with-few : (vars : ℕ) (l : List ℕ) (n : ℕ) → withGate vars l n .number < 32
+unfolding withGate
+with-few vars l n = asked (goodLimits vars l) true true true (fits (zeroWith vars l) n) true
+
+var-with-few : (v vars : ℕ) (l : List ℕ) (n : ℕ) → varWithGate v vars l n .number < 32
+unfolding varWithGate
+var-with-few v vars l n = asked (goodLimits vars l) true (ltb v vars) true (fits (varWith v vars l) n) true
+
+var-few : (v l n : ℕ) → varGate v l n .number < 32
+unfolding varGate
+var-few v l n = asked (goodLimit l) true (leb v 3) true (fits (varHeader v l) n) true
+
+-- ---- the entries: each answer is read back from its word
+
+module _ (p : Poly) (l : List ℕ) (n : ℕ) where
+  pub with-back : (vars : ℕ) → answerFrom (wordOfAnswer (answered (withGate vars l n) p)) ≡ answered (withGate vars l n) p
+  with-back vars = back (withGate vars l n) (with-few vars l n) (p .head)
+
+  pub var-with-back : (v vars : ℕ) → answerFrom (wordOfAnswer (answered (varWithGate v vars l n) p)) ≡ answered (varWithGate v vars l n) p
+  var-with-back v vars = back (varWithGate v vars l n) (var-with-few v vars l n) (p .head)
+
+pub var-back : (p : Poly) (v l n : ℕ) → answerFrom (wordOfAnswer (answered (varGate v l n) p)) ≡ answered (varGate v l n) p
+var-back p v l n = back (varGate v l n) (var-few v l n) (p .head)
+
+module _ (w : ℕ) (a : List Float) where
+  pub coefficient-low : (i : List ℕ) → wordOfReading (coefficientAnswer w a i) % 32 ≡ indexGate w (length a) i .number
+  unfolding coefficientAnswer
+  coefficient-low i = read-low (indexGate w (length a) i) (index-few w (length a) i) _
+
+  pub constant-term-low : wordOfReading (constantTermAnswer w a) % 32 ≡ readGate w (length a) .number
+  unfolding constantTermAnswer
+  constant-term-low = read-low (readGate w (length a)) (read-few w (length a)) _
+
+  pub evaluate-all-one-low : wordOfReading (evaluateAllOneAnswer w a) % 32 ≡ readGate w (length a) .number
+  unfolding evaluateAllOneAnswer
+  evaluate-all-one-low = read-low (readGate w (length a)) (read-few w (length a)) _
+
+  pub tail-low : (k : ℕ) → wordOfReading (tailAnswer w a k) % 32 ≡ tailGate w (length a) k .number
+  unfolding tailAnswer
+  tail-low k = read-low (tailGate w (length a) k) (tail-few w (length a) k) _
+
+  module _ (out : List Float) where
+    pub taylor-polynomial-back : (v n : ℕ) → answerFrom (wordOfAnswer (taylorPolynomialAnswer w a v n out)) ≡ taylorPolynomialAnswer w a v n out
+    unfolding taylorPolynomialAnswer
+    taylor-polynomial-back v n = back (taylorPolynomialGate w a v n out) (in-few (Order v n) v n w (length a) (length out)) _
+
+    pub coefficients-of-term-back : (v n : ℕ) → answerFrom (wordOfAnswer (coefficientsOfTermAnswer w a v n out)) ≡ coefficientsOfTermAnswer w a v n out
+    unfolding coefficientsOfTermAnswer
+    coefficients-of-term-back v n = back (coefficientsOfTermGate w a v n out) (in-few (Term v) v n w (length a) (length out)) _
+
+    pub negate-back : answerFrom (wordOfAnswer (negateAnswer w a out)) ≡ negateAnswer w a out
+    unfolding negateAnswer
+    negate-back = back (negateGate w a out) (one-few Same w (length a) (length out)) _
+
+    module _ (u : ℕ) (b scratch : List Float) where
+      pub sum-back : (minus : Bool) → answerFrom (wordOfAnswer (sumAnswer minus w a u b out scratch)) ≡ sumAnswer minus w a u b out scratch
+      unfolding sumAnswer
+      sum-back minus =
+          back (sumGate minus w a u b out scratch) (pair-few Sum w (length a) u (length b) (length out) (length scratch)) _
+
+      pub product-back : answerFrom (wordOfAnswer (productAnswer w a u b out scratch)) ≡ productAnswer w a u b out scratch
+      unfolding productAnswer
+      product-back = back (productGate w a u b out scratch) (pair-few Product w (length a) u (length b) (length out) (length scratch)) _

@@ -1,0 +1,53 @@
+-- The face: one word an answer. Done, the header word; refused, number + 256 * place. A reading that gives a float answers 0 and writes the
+-- float, or answers the refusal and writes nothing; `extract_linear` answers 0 for no, 1 + variable for yes, and a refusal + 2^32.
+use Prim.Native.Nat.{ℕ, _+_, _*_, _^_}
+use mathlib.Core.Bool.{cond}
+use mathlib.Core.List.{List, [], _∷_}
+use lib.Ieee.{Float}
+use Rattle.model.specs.declared.Refusal.{Refusal}
+use Rattle.model.specs.declared.Answer.{Answer}
+use Rattle.model.specs.declared.Answer.the-variants as answer
+use Rattle.model.specs.declared.Reading.{Reading}
+use Rattle.model.specs.declared.Reading.the-variants as reading
+use Rattle.model.specs.declared.LinearReading.{LinearReading}
+use Rattle.model.specs.declared.LinearReading.the-variants as linear-reading
+
+-- four limits or four indices of a call, as the entry takes them
+abbrev pub fourOf : ℕ → ℕ → ℕ → ℕ → List ℕ
+fourOf a b c d = a ∷ b ∷ c ∷ d ∷ []
+
+abbrev pub wordOfRefusal : Refusal → ℕ
+wordOfRefusal r = r .number + 256 * r .place
+
+-- a polynomial was made, or not
+abbrev pub wordOfAnswer : Answer → ℕ
+wordOfAnswer (answer.Done w) = w
+wordOfAnswer (answer.Refused r) = wordOfRefusal r
+
+-- a float was read, or not
+abbrev pub wordOfReading : Reading → ℕ
+wordOfReading (reading.Done x) = 0
+wordOfReading (reading.Refused r) = wordOfRefusal r
+
+-- what stands where `old` stood
+abbrev pub valueAfter : Reading → Float → Float
+valueAfter (reading.Done x) old = x
+valueAfter (reading.Refused r) old = old
+
+-- the linear test
+abbrev pub wordOfLinear : LinearReading → ℕ
+wordOfLinear (linear-reading.Done l) = cond (l .yes) (1 + l .variable) 0
+wordOfLinear (linear-reading.Refused r) = wordOfRefusal r + 2 ^ 32
+
+-- 0 where there is none
+abbrev pub variableOf : LinearReading → ℕ
+variableOf (linear-reading.Done l) = l .variable
+variableOf (linear-reading.Refused r) = 0
+
+abbrev pub constantAfter : LinearReading → Float → Float
+constantAfter (linear-reading.Done l) old = l .c
+constantAfter (linear-reading.Refused r) old = old
+
+abbrev pub factorAfter : LinearReading → Float → Float
+factorAfter (linear-reading.Done l) old = l .m
+factorAfter (linear-reading.Refused r) old = old

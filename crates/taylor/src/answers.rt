@@ -1,0 +1,56 @@
+// Answers as words, and what a reading writes.
+use model::Answer;
+use model::LinearReading;
+use model::Reading;
+use model::Refusal;
+ghost use mathlib.Core.Path.{_≡_};
+ghost use Prim.Native.Nat.{_<_};
+ghost use Rattle.taylor.specs.Face.{wordOfRefusal, wordOfAnswer, wordOfReading, valueAfter, variableOf, wordOfLinear, constantAfter, factorAfter};
+
+// A refusal as one word.
+fn refusal_word(r: Refusal) -> u64
+    ensures { λ w. ⌜ w ≡ wordOfRefusal r ⌝ }
+{
+    (r.number as u64) + 256 * (r.place as u64)
+}
+
+// An answer as one word.
+pub fn word_of(r: Answer) -> u64
+    ensures { λ w. ⌜ w ≡ wordOfAnswer r ⌝ }
+{
+    match r {
+        Answer::Done(w) => w,
+        Answer::Refused(e) => refusal_word(e),
+    }
+}
+
+// A float that was read, written through `value`; a refusal writes nothing.
+pub fn put(r: Reading, value: &mut f64) -> u64
+    ensures answer { λ w. ⌜ w ≡ wordOfReading r ⌝ }
+    ensures value { λ w. ⌜ now (value .exit) ≡ valueAfter r (now (value .entry)) ⌝ }
+{
+    match r {
+        Reading::Done(x) => {
+            *value = x;
+            0
+        }
+        Reading::Refused(e) => refusal_word(e),
+    }
+}
+
+// c and m of the linear test, written through `c` and `m`; a refusal writes nothing.
+pub fn put_linear(r: LinearReading, c: &mut f64, m: &mut f64) -> u64
+    requires { ⌜ variableOf r < 4 ⌝ }
+    ensures answer { λ w. ⌜ w ≡ wordOfLinear r ⌝ }
+    ensures constant { λ w. ⌜ now (c .exit) ≡ constantAfter r (now (c .entry)) ⌝ }
+    ensures factor { λ w. ⌜ now (m .exit) ≡ factorAfter r (now (m .entry)) ⌝ }
+{
+    match r {
+        LinearReading::Done(l) => {
+            *c = l.c;
+            *m = l.m;
+            if l.yes { 1 + (l.variable as u64) } else { 0 }
+        }
+        LinearReading::Refused(e) => refusal_word(e) + 4294967296,
+    }
+}

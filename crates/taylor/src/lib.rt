@@ -1,0 +1,283 @@
+// The face for C, Rust and Python: every entry under its name with `taylor_` before it, its answer as one word.
+// A header word's low five bits are zero, a refusal's are not (specs/Face.antt, specs/Apart.antt). Four limits or four indices are four words.
+mod answers;
+
+use answers::put;
+use answers::put_linear;
+use answers::word_of;
+ghost use mathlib.Core.Path.{_≡_};
+ghost use mathlib.Core.Bool.{true, false};
+ghost use lib.ListN.{length};
+ghost use Rattle.model.specs.Header.{ones, noHeader, zeroWith, varWith};
+ghost use Rattle.model.specs.Refusals.{zeroF};
+ghost use Rattle.model.specs.Gates.{withGate, varWithGate, varHeader, varGate};
+ghost use Rattle.model.specs.Answers.{answered, outAfter};
+ghost use Rattle.model.specs.Constructed.{constant, wholeF, variable};
+ghost use Rattle.model.specs.Readings.{oneF, coefficientAnswer, constantTermAnswer, evaluateAllOneAnswer, extractLinearAnswer, taylorPolynomialAnswer, taylorPolynomialOut, coefficientsOfTermAnswer, coefficientsOfTermOut};
+ghost use Rattle.model.specs.Tail.{tailAnswer};
+ghost use Rattle.model.specs.Negate.{negateAnswer, negateOut};
+ghost use Rattle.model.specs.Add.{sumAnswer, sumOut, sumScratch};
+ghost use Rattle.model.specs.Product.{productAnswer, productOut, productScratch};
+ghost use Rattle.taylor.specs.Face.{fourOf, wordOfAnswer, wordOfReading, valueAfter, wordOfLinear, constantAfter, factorAfter};
+
+// +0.0, with no variables: refusal 5.
+#[no_mangle]
+pub extern "C" fn taylor_zero(out: &mut [f64]) -> u64
+    ensures answer { λ r. ⌜ r ≡ wordOfAnswer (answered (withGate 0 ones (length (now (out .entry)))) (constant noHeader zeroF)) ⌝ }
+    ensures written { λ r. ⌜ now (out .exit) ≡ outAfter (withGate 0 ones (length (now (out .entry)))) noHeader (constant noHeader zeroF) (now (out .entry)) ⌝ }
+{
+    word_of(readings::zero(out))
+}
+
+// 1.0, with no variables: refusal 5.
+#[no_mangle]
+pub extern "C" fn taylor_one(out: &mut [f64]) -> u64
+    ensures answer { λ r. ⌜ r ≡ wordOfAnswer (answered (withGate 0 ones (length (now (out .entry)))) (constant noHeader oneF)) ⌝ }
+    ensures written { λ r. ⌜ now (out .exit) ≡ outAfter (withGate 0 ones (length (now (out .entry)))) noHeader (constant noHeader oneF) (now (out .entry)) ⌝ }
+{
+    word_of(readings::one(out))
+}
+
+// c, with no variables: refusal 5.
+#[no_mangle]
+pub extern "C" fn taylor_from_u32(c: u32, out: &mut [f64]) -> u64
+    ensures answer { λ r. ⌜ r ≡ wordOfAnswer (answered (withGate 0 ones (length (now (out .entry)))) (constant noHeader (wholeF c))) ⌝ }
+    ensures written { λ r. ⌜ now (out .exit) ≡ outAfter (withGate 0 ones (length (now (out .entry)))) noHeader (constant noHeader (wholeF c)) (now (out .entry)) ⌝ }
+{
+    word_of(readings::from_u32(c, out))
+}
+
+// +0.0 under the first `vars` of the limits: refusals 1, 5.
+#[no_mangle]
+pub extern "C" fn taylor_zero_with(
+    vars: u64,
+    l0: u64,
+    l1: u64,
+    l2: u64,
+    l3: u64,
+    out: &mut [f64],
+) -> u64
+    ensures answer { λ r. ⌜ r ≡ wordOfAnswer (answered (withGate vars (fourOf l0 l1 l2 l3) (length (now (out .entry)))) (constant (zeroWith vars (fourOf l0 l1 l2 l3)) zeroF)) ⌝ }
+    ensures written { λ r. ⌜ now (out .exit) ≡ outAfter (withGate vars (fourOf l0 l1 l2 l3) (length (now (out .entry)))) (zeroWith vars (fourOf l0 l1 l2 l3)) (constant (zeroWith vars (fourOf l0 l1 l2 l3)) zeroF) (now (out .entry)) ⌝ }
+{
+    word_of(readings::zero_with(
+        vars as usize,
+        [l0 as usize, l1 as usize, l2 as usize, l3 as usize],
+        out,
+    ))
+}
+
+// c under the first `vars` of the limits: refusals 1, 5.
+#[no_mangle]
+pub extern "C" fn taylor_from_u32_with(
+    c: u32,
+    vars: u64,
+    l0: u64,
+    l1: u64,
+    l2: u64,
+    l3: u64,
+    out: &mut [f64],
+) -> u64
+    ensures answer { λ r. ⌜ r ≡ wordOfAnswer (answered (withGate vars (fourOf l0 l1 l2 l3) (length (now (out .entry)))) (constant (zeroWith vars (fourOf l0 l1 l2 l3)) (wholeF c))) ⌝ }
+    ensures written { λ r. ⌜ now (out .exit) ≡ outAfter (withGate vars (fourOf l0 l1 l2 l3) (length (now (out .entry)))) (zeroWith vars (fourOf l0 l1 l2 l3)) (constant (zeroWith vars (fourOf l0 l1 l2 l3)) (wholeF c)) (now (out .entry)) ⌝ }
+{
+    word_of(readings::from_u32_with(
+        c,
+        vars as usize,
+        [l0 as usize, l1 as usize, l2 as usize, l3 as usize],
+        out,
+    ))
+}
+
+// x + v under the first `vars` of the limits: refusals 1, 3, 5.
+#[no_mangle]
+pub extern "C" fn taylor_var_with_degrees_p1(
+    v: u64,
+    x: f64,
+    vars: u64,
+    l0: u64,
+    l1: u64,
+    l2: u64,
+    l3: u64,
+    out: &mut [f64],
+) -> u64
+    ensures answer { λ r. ⌜ r ≡ wordOfAnswer (answered (varWithGate v vars (fourOf l0 l1 l2 l3) (length (now (out .entry)))) (variable (varWith v vars (fourOf l0 l1 l2 l3)) x)) ⌝ }
+    ensures written { λ r. ⌜ now (out .exit) ≡ outAfter (varWithGate v vars (fourOf l0 l1 l2 l3) (length (now (out .entry)))) (varWith v vars (fourOf l0 l1 l2 l3)) (variable (varWith v vars (fourOf l0 l1 l2 l3)) x) (now (out .entry)) ⌝ }
+{
+    word_of(readings::var_with_degrees_p1(
+        v as usize,
+        x,
+        vars as usize,
+        [l0 as usize, l1 as usize, l2 as usize, l3 as usize],
+        out,
+    ))
+}
+
+// x + v, every variable up to v under one limit: refusals 1, 3, 5.
+#[no_mangle]
+pub extern "C" fn taylor_var(v: u64, x: f64, limit: u64, out: &mut [f64]) -> u64
+    ensures answer { λ r. ⌜ r ≡ wordOfAnswer (answered (varGate v limit (length (now (out .entry)))) (variable (varHeader v limit) x)) ⌝ }
+    ensures written { λ r. ⌜ now (out .exit) ≡ outAfter (varGate v limit (length (now (out .entry)))) (varHeader v limit) (variable (varHeader v limit) x) (now (out .entry)) ⌝ }
+{
+    word_of(readings::var(v as usize, x, limit as usize, out))
+}
+
+// v itself, every variable up to it under one limit: refusals 1, 3, 5.
+#[no_mangle]
+pub extern "C" fn taylor_var_at_zero(v: u64, limit: u64, out: &mut [f64]) -> u64
+    ensures answer { λ r. ⌜ r ≡ wordOfAnswer (answered (varGate v limit (length (now (out .entry)))) (variable (varHeader v limit) zeroF)) ⌝ }
+    ensures written { λ r. ⌜ now (out .exit) ≡ outAfter (varGate v limit (length (now (out .entry)))) (varHeader v limit) (variable (varHeader v limit) zeroF) (now (out .entry)) ⌝ }
+{
+    word_of(readings::var_at_zero(v as usize, limit as usize, out))
+}
+
+// The coefficient at an index, +0.0 past a stored length: refusals 1, 2, 3, 4.
+#[no_mangle]
+pub extern "C" fn taylor_coefficient(
+    head: u64,
+    a: &[f64],
+    i0: u64,
+    i1: u64,
+    i2: u64,
+    i3: u64,
+    value: &mut f64,
+) -> u64
+    ensures answer { λ r. ⌜ r ≡ wordOfReading (coefficientAnswer head (now (a .entry)) (fourOf i0 i1 i2 i3)) ⌝ }
+    ensures value { λ r. ⌜ now (value .exit) ≡ valueAfter (coefficientAnswer head (now (a .entry)) (fourOf i0 i1 i2 i3)) (now (value .entry)) ⌝ }
+{
+    put(
+        readings::coefficient(
+            head,
+            a,
+            [i0 as usize, i1 as usize, i2 as usize, i3 as usize],
+        ),
+        value,
+    )
+}
+
+// The coefficient at the index 0, 0, 0, 0: refusals 1, 2.
+#[no_mangle]
+pub extern "C" fn taylor_constant_term(head: u64, a: &[f64], value: &mut f64) -> u64
+    ensures answer { λ r. ⌜ r ≡ wordOfReading (constantTermAnswer head (now (a .entry))) ⌝ }
+    ensures value { λ r. ⌜ now (value .exit) ≡ valueAfter (constantTermAnswer head (now (a .entry))) (now (value .entry)) ⌝ }
+{
+    put(readings::constant_term(head, a), value)
+}
+
+// The value where every variable is 1: refusals 1, 2.
+#[no_mangle]
+pub extern "C" fn taylor_evaluate_all_one(head: u64, a: &[f64], value: &mut f64) -> u64
+    ensures answer { λ r. ⌜ r ≡ wordOfReading (evaluateAllOneAnswer head (now (a .entry))) ⌝ }
+    ensures value { λ r. ⌜ now (value .exit) ≡ valueAfter (evaluateAllOneAnswer head (now (a .entry))) (now (value .entry)) ⌝ }
+{
+    put(readings::evaluate_all_one(head, a), value)
+}
+
+// Whether the polynomial is c + m * v: 0 for no, 1 + v for yes; refusals 1, 2, each plus 2^32.
+#[no_mangle]
+pub extern "C" fn taylor_extract_linear(head: u64, a: &[f64], c: &mut f64, m: &mut f64) -> u64
+    ensures answer { λ r. ⌜ r ≡ wordOfLinear (extractLinearAnswer head (now (a .entry))) ⌝ }
+    ensures constant { λ r. ⌜ now (c .exit) ≡ constantAfter (extractLinearAnswer head (now (a .entry))) (now (c .entry)) ⌝ }
+    ensures factor { λ r. ⌜ now (m .exit) ≡ factorAfter (extractLinearAnswer head (now (a .entry))) (now (m .entry)) ⌝ }
+{
+    put_linear(readings::extract_linear(head, a), c, m)
+}
+
+// One variable: 1.0 less the sum of the stored coefficients 0 to k; refusals 1, 2, 3, 4.
+#[no_mangle]
+pub extern "C" fn taylor_tail(head: u64, a: &[f64], k: u64, value: &mut f64) -> u64
+    ensures answer { λ r. ⌜ r ≡ wordOfReading (tailAnswer head (now (a .entry)) k) ⌝ }
+    ensures value { λ r. ⌜ now (value .exit) ≡ valueAfter (tailAnswer head (now (a .entry)) k) (now (value .entry)) ⌝ }
+{
+    put(readings::tail(head, a, k as usize), value)
+}
+
+// The powers of v up to `order`: refusals 1, 2, 3, 4, 5.
+#[no_mangle]
+pub extern "C" fn taylor_taylor_polynomial(
+    head: u64,
+    a: &[f64],
+    v: u64,
+    order: u64,
+    out: &mut [f64],
+) -> u64
+    ensures answer { λ r. ⌜ r ≡ wordOfAnswer (taylorPolynomialAnswer head (now (a .entry)) v order (now (out .entry))) ⌝ }
+    ensures written { λ r. ⌜ now (out .exit) ≡ taylorPolynomialOut head (now (a .entry)) v order (now (out .entry)) ⌝ }
+{
+    word_of(readings::taylor_polynomial(head, a, v as usize, order as usize, out))
+}
+
+// The row `order` of v, a zero past the stored length: refusals 1, 2, 3, 4, 5.
+#[no_mangle]
+pub extern "C" fn taylor_coefficients_of_term(
+    head: u64,
+    a: &[f64],
+    v: u64,
+    order: u64,
+    out: &mut [f64],
+) -> u64
+    ensures answer { λ r. ⌜ r ≡ wordOfAnswer (coefficientsOfTermAnswer head (now (a .entry)) v order (now (out .entry))) ⌝ }
+    ensures written { λ r. ⌜ now (out .exit) ≡ coefficientsOfTermOut head (now (a .entry)) v order (now (out .entry)) ⌝ }
+{
+    word_of(readings::coefficients_of_term(head, a, v as usize, order as usize, out))
+}
+
+// The polynomial with every coefficient negated: refusals 1, 2, 5.
+#[no_mangle]
+pub extern "C" fn taylor_negate(head: u64, a: &[f64], out: &mut [f64]) -> u64
+    ensures answer { λ r. ⌜ r ≡ wordOfAnswer (negateAnswer head (now (a .entry)) (now (out .entry))) ⌝ }
+    ensures written { λ r. ⌜ now (out .exit) ≡ negateOut head (now (a .entry)) (now (out .entry)) ⌝ }
+{
+    word_of(sums::negate(head, a, out))
+}
+
+// a + b, cut to the smaller limits: refusals 1, 2, 5, 6.
+#[no_mangle]
+pub extern "C" fn taylor_add(
+    ah: u64,
+    a: &[f64],
+    bh: u64,
+    b: &[f64],
+    out: &mut [f64],
+    scratch: &mut [f64],
+) -> u64
+    ensures answer { λ r. ⌜ r ≡ wordOfAnswer (sumAnswer false ah (now (a .entry)) bh (now (b .entry)) (now (out .entry)) (now (scratch .entry))) ⌝ }
+    ensures written { λ r. ⌜ now (out .exit) ≡ sumOut false ah (now (a .entry)) bh (now (b .entry)) (now (out .entry)) (now (scratch .entry)) ⌝ }
+    ensures cleared { λ r. ⌜ now (scratch .exit) ≡ sumScratch false ah (now (a .entry)) bh (now (b .entry)) (now (out .entry)) (now (scratch .entry)) ⌝ }
+{
+    word_of(sums::add(ah, a, bh, b, out, scratch))
+}
+
+// a - b, cut to the smaller limits: refusals 1, 2, 5, 6.
+#[no_mangle]
+pub extern "C" fn taylor_subtract(
+    ah: u64,
+    a: &[f64],
+    bh: u64,
+    b: &[f64],
+    out: &mut [f64],
+    scratch: &mut [f64],
+) -> u64
+    ensures answer { λ r. ⌜ r ≡ wordOfAnswer (sumAnswer true ah (now (a .entry)) bh (now (b .entry)) (now (out .entry)) (now (scratch .entry))) ⌝ }
+    ensures written { λ r. ⌜ now (out .exit) ≡ sumOut true ah (now (a .entry)) bh (now (b .entry)) (now (out .entry)) (now (scratch .entry)) ⌝ }
+    ensures cleared { λ r. ⌜ now (scratch .exit) ≡ sumScratch true ah (now (a .entry)) bh (now (b .entry)) (now (out .entry)) (now (scratch .entry)) ⌝ }
+{
+    word_of(sums::subtract(ah, a, bh, b, out, scratch))
+}
+
+// a * b, cut to the smaller limits: refusals 1, 2, 5, 6.
+#[no_mangle]
+pub extern "C" fn taylor_multiply(
+    ah: u64,
+    a: &[f64],
+    bh: u64,
+    b: &[f64],
+    out: &mut [f64],
+    scratch: &mut [f64],
+) -> u64
+    ensures answer { λ r. ⌜ r ≡ wordOfAnswer (productAnswer ah (now (a .entry)) bh (now (b .entry)) (now (out .entry)) (now (scratch .entry))) ⌝ }
+    ensures written { λ r. ⌜ now (out .exit) ≡ productOut ah (now (a .entry)) bh (now (b .entry)) (now (out .entry)) (now (scratch .entry)) ⌝ }
+    ensures cleared { λ r. ⌜ now (scratch .exit) ≡ productScratch ah (now (a .entry)) bh (now (b .entry)) (now (out .entry)) (now (scratch .entry)) ⌝ }
+{
+    word_of(product::multiply(ah, a, bh, b, out, scratch))
+}

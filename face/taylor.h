@@ -1,0 +1,92 @@
+/* taylor.h: truncated power series in up to four variables, on buffers that the caller lends.
+ *
+ * A polynomial is a header word and its coefficients, last variable fastest. The header word has, most significant bit first, the number of
+ * variables (3 bits), then four times limit less one (6) and length less one (6), then 13 zero bits; fields of missing variables are zero.
+ *
+ * Every function answers one word.
+ *   - A function that makes a polynomial answers its header word, whose low five bits are zero, or a refusal, whose low five bits are not:
+ *     number + 256 * place. Done, `out` holds the announced places and `scratch` is cleared as far as it was used; refused, no buffer changes.
+ *   - A function that reads a float answers 0 and writes it through its last pointer, or answers a refusal and writes nothing.
+ *   - taylor_extract_linear answers 0 for no and 1 + variable for yes, or a refusal + 2^32.
+ *
+ * Refusals: 1 header word or limit breaks the rules; 2 fewer coefficients than the header says; 3 variable, or a missing variable's index;
+ * 4 k, order or index not below the limit; 5 more than 4,096 places, or `out` too short; 6 `scratch` shorter than 8 times the announced
+ * count. The lowest wins. The place of these refusals is 64, for none in particular.
+ *
+ * A buffer is a pointer and a count of doubles. The pointer is aligned and not null, also where the count is 0. `out`, `scratch` and what a
+ * float is written to overlap nothing else that is passed. */
+#ifndef TAYLOR_H
+#define TAYLOR_H
+
+#include <stddef.h>
+#include <stdint.h>
+
+#ifdef __cplusplus
+extern "C" {
+#endif
+
+/* ---- answers */
+
+/* whether a polynomial was made, or a float read */
+static inline int taylor_done(uint64_t answer) { return (answer & 31) == 0; }
+static inline unsigned taylor_refusal_number(uint64_t answer) { return (unsigned)(answer & 255); }
+static inline unsigned taylor_refusal_place(uint64_t answer) { return (unsigned)((answer >> 8) & 255); }
+/* whether taylor_extract_linear was refused; number and place are read as above */
+static inline int taylor_linear_refused(uint64_t answer) { return answer >> 32 != 0; }
+
+/* ---- constructors */
+
+/* +0.0, 1.0 and c, with no variables: refusal 5 */
+uint64_t taylor_zero(double *out, size_t out_len);
+uint64_t taylor_one(double *out, size_t out_len);
+uint64_t taylor_from_u32(uint32_t c, double *out, size_t out_len);
+
+/* +0.0 and c, under the first `vars` of four limits: refusals 1, 5 */
+uint64_t taylor_zero_with(uint64_t vars, uint64_t l0, uint64_t l1, uint64_t l2, uint64_t l3, double *out, size_t out_len);
+uint64_t taylor_from_u32_with(uint32_t c, uint64_t vars, uint64_t l0, uint64_t l1, uint64_t l2, uint64_t l3, double *out, size_t out_len);
+
+/* x + v, under the first `vars` of four limits: refusals 1, 3, 5 */
+uint64_t taylor_var_with_degrees_p1(uint64_t v, double x, uint64_t vars, uint64_t l0, uint64_t l1, uint64_t l2, uint64_t l3, double *out,
+                                    size_t out_len);
+
+/* x + v, and v itself, every variable up to v under one limit: refusals 1, 3, 5 */
+uint64_t taylor_var(uint64_t v, double x, uint64_t limit, double *out, size_t out_len);
+uint64_t taylor_var_at_zero(uint64_t v, uint64_t limit, double *out, size_t out_len);
+
+/* ---- readings */
+
+/* the coefficient at an index, +0.0 past a stored length: refusals 1, 2, 3, 4 */
+uint64_t taylor_coefficient(uint64_t head, const double *a, size_t a_len, uint64_t i0, uint64_t i1, uint64_t i2, uint64_t i3, double *value);
+
+/* the coefficient at 0, 0, 0, 0; the value where every variable is 1: refusals 1, 2 */
+uint64_t taylor_constant_term(uint64_t head, const double *a, size_t a_len, double *value);
+uint64_t taylor_evaluate_all_one(uint64_t head, const double *a, size_t a_len, double *value);
+
+/* whether the polynomial is c + m * v; c and m are 0.0 for no: refusals 1, 2 */
+uint64_t taylor_extract_linear(uint64_t head, const double *a, size_t a_len, double *c, double *m);
+
+/* one variable: 1.0 less the sum of the stored coefficients 0 to k; refusals 1, 2, 3, 4 */
+uint64_t taylor_tail(uint64_t head, const double *a, size_t a_len, uint64_t k, double *value);
+
+/* the powers of v up to `order`; the row `order` of v: refusals 1, 2, 3, 4, 5 */
+uint64_t taylor_taylor_polynomial(uint64_t head, const double *a, size_t a_len, uint64_t v, uint64_t order, double *out, size_t out_len);
+uint64_t taylor_coefficients_of_term(uint64_t head, const double *a, size_t a_len, uint64_t v, uint64_t order, double *out, size_t out_len);
+
+/* ---- operations */
+
+/* -a: refusals 1, 2, 5 */
+uint64_t taylor_negate(uint64_t head, const double *a, size_t a_len, double *out, size_t out_len);
+
+/* a + b, a - b, a * b, cut to the smaller limits: refusals 1, 2, 5, 6 */
+uint64_t taylor_add(uint64_t ah, const double *a, size_t a_len, uint64_t bh, const double *b, size_t b_len, double *out, size_t out_len,
+                    double *scratch, size_t scratch_len);
+uint64_t taylor_subtract(uint64_t ah, const double *a, size_t a_len, uint64_t bh, const double *b, size_t b_len, double *out, size_t out_len,
+                         double *scratch, size_t scratch_len);
+uint64_t taylor_multiply(uint64_t ah, const double *a, size_t a_len, uint64_t bh, const double *b, size_t b_len, double *out, size_t out_len,
+                         double *scratch, size_t scratch_len);
+
+#ifdef __cplusplus
+}
+#endif
+
+#endif
