@@ -5,7 +5,8 @@
  *
  * Every function answers one word.
  *   - A function that makes a polynomial answers its header word, whose low five bits are zero, or a refusal, whose low five bits are not:
- *     number + 256 * place. Done, `out` holds the announced places and `scratch` is cleared as far as it was used; refused, no buffer changes.
+ *     number + 256 * place. Done, the announced places of `out` hold the coefficients, then +0.0, and 8 times as many of `scratch` hold +0.0;
+ *     the rest is untouched. Refused, no buffer changes.
  *   - A function that reads a float answers 0 and writes it through its last pointer, or answers a refusal and writes nothing.
  *   - taylor_extract_linear answers 0 for no and 1 + variable for yes, or a refusal + 2^32.
  *

@@ -1,8 +1,8 @@
-"""Stored cases for crates/replay_sums and what has to come out, worked out from document 01 (port order 2 to 4, 'Tail', 'Refusal numbers')
+"""Stored cases for crates/replay_entries and what has to come out, worked out from document 01 (port order 2 to 4, 'Tail', 'Refusal numbers')
 and from nothing of the crates. Python's floats are IEEE 754 binary64.
 
-    python3 tests/sums.py cases > crates/replay_sums/stdin
-    python3 tests/sums.py answers > crates/replay_sums/stdout
+    python3 tests/sums.py cases > crates/replay_entries/stdin
+    python3 tests/sums.py answers > crates/replay_entries/stdout
 """
 import itertools
 import math
@@ -167,14 +167,22 @@ def first_refusal(*tests):
 
 
 class Case:
-    def __init__(self, op, ah=0, a=(), bh=0, b=(), lent=8, scratch=0, v=0, x=(0, 0, 0, 0), nb=None):
-        self.op, self.ah, self.a, self.bh, self.b, self.lent, self.scratch, self.v, self.x = op, ah, list(a), bh, list(b), lent, scratch, v, x
-        self.nb = len(self.b) if nb is None else nb
+    """Headers and coefficients of a and b, places lent, and the numbers: x a variable, an order, limits or an index; v a variable, c a constant."""
+
+    def __init__(self, op, ah=0, a=(), bh=0, b=(), lent=8, scratch=0, v=0, x=(0, 0, 0, 0), at=0.0, c=0, variables=0):
+        self.op, self.ah, self.a, self.bh, self.b, self.lent, self.scratch = op, ah, list(a), bh, list(b), lent, scratch
+        self.v, self.x, self.at, self.c, self.variables = v, x, at, c, variables
+
+    def numbers(self):
+        v, x, at, c, variables = self.v, self.x, bits(self.at), self.c, self.variables
+        of = {3: x[:2], 4: x[:2], 10: (variables, *x), 11: (c,), 12: (c, variables, *x), 13: (v, x[0]), 14: (v, at, x[0])}
+        of.update({15: (v, at, variables, *x), 20: x, 24: x[:1]})
+        return of.get(self.op, ())
 
     def text(self):
-        words = [self.op, self.ah, len(self.a), self.bh, self.nb, self.lent, self.scratch, self.v, *self.x]
-        words += [bits(x) for x in self.a + (self.b + [0.0] * (self.nb - len(self.b)))]
-        return " ".join("%016x" % w for w in words)
+        numbers = self.numbers()
+        counts = self.op | len(self.a) << 8 | len(self.b) << 16 | self.lent << 24 | self.scratch << 32 | len(numbers) << 48
+        return " ".join("%016x" % w for w in (counts, self.ah, self.bh, *numbers, *map(bits, self.a + self.b)))
 
     # what comes out
 
@@ -245,20 +253,20 @@ class Case:
         return self.poly((limits, lengths(), row), 0, count(lengths()))
 
     def constructor(self):
-        x, c, v, limits = (self.a + [0.0])[0], self.bh, self.v, list(self.x)
+        x, c, v, limits = self.at, self.c, self.v, list(self.x)
         bad = lambda ls: any(not 1 <= l <= 64 for l in ls)
         room = lambda n: (lambda: n <= self.lent, 5)
         if self.op in (11, 16, 17):
             r = first_refusal(room(1))
             return self.write(r, word([], []), 1, [{11: float(c), 16: 0.0, 17: 1.0}[self.op]])
         if self.op in (10, 12):
-            r = first_refusal((lambda: self.nb <= 4 and not bad(limits[: self.nb]), 1), room(1))
-            return self.write(r, 0 if r else word(limits[: self.nb], [1] * self.nb), 1, [0.0 if self.op == 10 else float(c)])
+            r = first_refusal((lambda: self.variables <= 4 and not bad(limits[: self.variables]), 1), room(1))
+            return self.write(r, 0 if r else word(limits[: self.variables], [1] * self.variables), 1, [0.0 if self.op == 10 else float(c)])
         if self.op in (13, 14):
             given, variables, first = [limits[0]], v + 1, [(lambda: v <= 3, 3)]
             all_limits = [limits[0]] * (min(v, 3) + 1)
         else:
-            given, variables, first = limits[: self.nb], self.nb, [(lambda: v < self.nb, 3)]
+            given, variables, first = limits[: self.variables], self.variables, [(lambda: v < self.variables, 3)]
             all_limits = given
         two = lambda: min(2, all_limits[v])
         r = first_refusal((lambda: (self.op != 15 or variables <= 4) and not bad(given), 1), *first, (lambda: two() <= self.lent, 5))
@@ -349,16 +357,16 @@ def cases():
     for lent in (0, 1, 2):
         yield Case(16, lent=lent)
         yield Case(17, lent=lent)
-        yield Case(11, bh=2**32 - 1, lent=lent)
+        yield Case(11, c=2**32 - 1, lent=lent)
         yield Case(13, v=0, x=(2, 0, 0, 0), lent=lent)
         yield Case(13, v=3, x=(1, 0, 0, 0), lent=lent)
     for limits, n in (((3, 4, 0, 99), 2), ((1, 64, 1, 64), 4), ((0, 1, 1, 1), 1), ((1, 65, 1, 1), 2), ((1, 65, 1, 1), 1), ((1, 1, 1, 1), 5), ((7, 7, 7, 7), 0)):
-        yield Case(10, x=limits, nb=n, lent=3)
-        yield Case(12, bh=12345, x=limits, nb=n, lent=3)
+        yield Case(10, x=limits, variables=n, lent=3)
+        yield Case(12, c=12345, x=limits, variables=n, lent=3)
         for v in (0, 1, 4):
-            yield Case(15, a=[-2.5], v=v, x=limits, nb=n, lent=3)
+            yield Case(15, at=-2.5, v=v, x=limits, variables=n, lent=3)
     for v, limit in ((0, 1), (3, 64), (4, 64), (4, 65), (0, 0), (2**64 - 1, 2)):
-        yield Case(14, a=[NAN], v=v, x=(limit, 0, 0, 0), lent=4)
+        yield Case(14, at=NAN, v=v, x=(limit, 0, 0, 0), lent=4)
     # readings
     cube = word([3, 4, 2], [2, 3, 1])
     values = [1.0, -0.0, 2.0, NAN, INF, -3.0]
