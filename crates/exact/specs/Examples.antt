@@ -7,23 +7,24 @@ use mathlib.Core.List.{List, [], _∷_, map}
 use Prim.Native.Nat.{ℕ, _*_}
 use lib.Dec.{eqb}
 use lib.ListN.{take}
-use lib.Ieee.{Float, nan, binary64, ofBits, toBits, neg, add, sub, mul, div, eq}
+use lib.Ieee.{Float, nan, binary64, ofBits, toBits, neg, add, sub, mul, div, eq, ofInt}
 use Rattle.lists.specs.Walk.{walk}
 use Rattle.lists.specs.Table.{table}
 use Rattle.lists.specs.Grow.{grow}
+use Rattle.lists.specs.Stack.{stack}
 use Rattle.model.specs.declared.Header.{Header}
 use Rattle.model.specs.declared.Answer.{Answer}
 use Rattle.model.specs.declared.Answer.the-variants as answer-is
 use Rattle.model.specs.declared.Reading.{Reading}
 use Rattle.model.specs.declared.Reading.the-variants as reading-is
-use Rattle.model.specs.declared.Family.the-variants.{Product, Quotient}
+use Rattle.model.specs.declared.Family.the-variants.{Product, Quotient, Series, Power, Shift, Substitution}
 use Rattle.model.specs.Header.{span, stored, goodVar, goodVars, goodHeader}
 use Rattle.model.specs.Word.{headerOf, goodWord, fields, wordOf}
 use Rattle.model.specs.Places.{strides, offset, index, inside}
 use Rattle.model.specs.Limits.{minLimit, minDegreesP1, cutTo, maxShape, sumShape}
-use Rattle.model.specs.Announced.{paired, announced}
+use Rattle.model.specs.Announced.{single, paired, announced}
 use Rattle.model.specs.Refusals.{answerBy, readBy, leaves, written}
-use Rattle.model.specs.Gates.{announcedPair, tailGate, pairGate}
+use Rattle.model.specs.Gates.{announcedOne, announcedPair, tailGate, inGate, workGate, pairGate}
 use Rattle.model.specs.Poly.{cut}
 use Rattle.model.specs.Readings.{sumTo}
 use Rattle.model.specs.Tail.{tailOf, tailAnswer}
@@ -32,6 +33,10 @@ use Rattle.model.specs.Add.{joinAt, joined, joinedBlock}
 use Rattle.model.specs.General.{line, alone, productAt, general}
 use Rattle.model.specs.Product.{grown, raisedAt, raised, chosen, plainProduct, linearProduct, productOf, multiplied, productPoly, productAnswer, productOut}
 use Rattle.model.specs.Quotient.{taken, lessened, quotientAt, recurred, quotientShape, quotientOf, divided, quotientPoly, quotientAnswer, quotientOut}
+use Rattle.model.specs.Series.{expRow, expRows, logNext, logGathered, logRow, logRows, seriesShape, expOf, logOf, expPoly, logPoly, expAnswer, expOut, logAnswer, logOut}
+use Rattle.model.specs.Shifts.{rowsFrom, derivativeFactor, derivativePoly, rowSum, shiftDownPoly, derivativeAnswer, derivativeOut, shiftDownAnswer, shiftDownOut}
+use Rattle.model.specs.Power.{squared, powerPoly, powerAnswer, powerOut}
+use Rattle.model.specs.Substitute.{rowAt, powered, horner, substituted, substitutePoly, substituteAnswer, substituteOut}
 
 pub record Operand : Type 0 where
   pub word : ℕ
@@ -48,6 +53,13 @@ pub data Operation : Type 0 where
   -- at k
   Tail : ℕ → Operation
   Times Over : Operation
+  -- with the bits of the head
+  Exp Log : ℕ → Operation
+  -- in variable 0, by n
+  Derivative ShiftDown : ℕ → Operation
+  Pow : ℕ → Operation
+  -- for variable 0
+  Substitute : Operation
 
 pub record Row : Type 0 where
   pub operation : Operation
@@ -90,6 +102,19 @@ answer Over a b =
     made (announcedPair Quotient (a .word) (b .word))
     (quotientAnswer (a .word) (floats a) (b .word) (floats b))
     (quotientOut (a .word) (floats a) (b .word) (floats b))
+answer (Exp head) a b =
+    made (announcedOne Series (a .word)) (expAnswer (a .word) (floats a) (ofBits binary64 head)) (expOut (a .word) (floats a) (ofBits binary64 head))
+answer (Log head) a b =
+    made (announcedOne Series (a .word)) (logAnswer (a .word) (floats a) (ofBits binary64 head)) (logOut (a .word) (floats a) (ofBits binary64 head))
+answer (Derivative n) a b =
+    made (announcedOne (Shift 0 n) (a .word)) (λ out s. derivativeAnswer (a .word) (floats a) 0 n out) (λ out s. derivativeOut (a .word) (floats a) 0 n out)
+answer (ShiftDown n) a b =
+    made (announcedOne (Shift 0 n) (a .word)) (λ out s. shiftDownAnswer (a .word) (floats a) 0 n out) (λ out s. shiftDownOut (a .word) (floats a) 0 n out)
+answer (Pow e) a b = made (announcedOne (Power e) (a .word)) (powerAnswer (a .word) (floats a) e) (powerOut (a .word) (floats a) e)
+answer Substitute a b =
+    made (announcedPair (Substitution 0) (a .word) (b .word))
+    (substituteAnswer 0 (a .word) (floats a) (b .word) (floats b))
+    (substituteOut 0 (a .word) (floats a) (b .word) (floats b))
 
 -- ---- the test
 
@@ -139,8 +164,53 @@ rows =
     row Over (operand 0x2100000000000000 (0x3ff0000000000000 ∷ []))
     (operand 0x2102000000000000 (0x3ff0000000000000 ∷ 0x3ff0000000000000 ∷ []))
     (three (0x3ff0000000000000 ∷ 0xbff0000000000000 ∷ 0x3ff0000000000000 ∷ []))
+    ∷
+    -- `log` of [1,2,3], head 0: [0,2,1]
+    row (Log 0) (three (0x3ff0000000000000 ∷ 0x4000000000000000 ∷ 0x4008000000000000 ∷ []))
+    nothing
+    (three (0 ∷ 0x4000000000000000 ∷ 0x3ff0000000000000 ∷ []))
+    ∷
+    -- `exp` of [0,1] limit 3, head 1: [1,1,0.5]
+    row (Exp 0x3ff0000000000000) (operand 0x2102000000000000 (0 ∷ 0x3ff0000000000000 ∷ []))
+    nothing
+    (three (0x3ff0000000000000 ∷ 0x3ff0000000000000 ∷ 0x3fe0000000000000 ∷ []))
+    ∷
+    -- [2,3,1] shifted by 1: [5,1], limit 2
+    row (ShiftDown 1) (three (0x4000000000000000 ∷ 0x4008000000000000 ∷ 0x3ff0000000000000 ∷ []))
+    nothing
+    (two (0x4014000000000000 ∷ 0x3ff0000000000000 ∷ []))
+    ∷
+    -- by 2: [6], limit 1
+    row (ShiftDown 2) (three (0x4000000000000000 ∷ 0x4008000000000000 ∷ 0x3ff0000000000000 ∷ []))
+    nothing
+    (operand 0x2000000000000000 (0x4018000000000000 ∷ []))
+    ∷
+    -- `derivative` of [1,2,3,4], n 1: [2,6,12]
+    row (Derivative 1) (operand 0x2186000000000000 (0x3ff0000000000000 ∷ 0x4000000000000000 ∷ 0x4008000000000000 ∷ 0x4010000000000000 ∷ []))
+    nothing
+    (three (0x4000000000000000 ∷ 0x4018000000000000 ∷ 0x4028000000000000 ∷ []))
+    ∷
+    -- `pow` 0 of [1,2]: 1, no variables
+    row (Pow 0) (two (0x3ff0000000000000 ∷ 0x4000000000000000 ∷ []))
+    nothing
+    (operand 0 (0x3ff0000000000000 ∷ []))
+    ∷
+    -- [1,2,3], v replaced by the constant 0: [1], limit 3
+    row Substitute (three (0x3ff0000000000000 ∷ 0x4000000000000000 ∷ 0x4008000000000000 ∷ []))
+    (operand 0 (0 ∷ []))
+    (operand 0x2100000000000000 (0x3ff0000000000000 ∷ []))
+    ∷
+    -- by [0,2] limit 3: [1,4,12]
+    row Substitute (three (0x3ff0000000000000 ∷ 0x4000000000000000 ∷ 0x4008000000000000 ∷ []))
+    (operand 0x2102000000000000 (0 ∷ 0x4000000000000000 ∷ []))
+    (three (0x3ff0000000000000 ∷ 0x4010000000000000 ∷ 0x4028000000000000 ∷ []))
+    ∷
+    -- by [1,1] limit 3: [6,8,3]
+    row Substitute (three (0x3ff0000000000000 ∷ 0x4000000000000000 ∷ 0x4008000000000000 ∷ []))
+    (operand 0x2102000000000000 (0x3ff0000000000000 ∷ 0x3ff0000000000000 ∷ []))
+    (three (0x4018000000000000 ∷ 0x4020000000000000 ∷ 0x4008000000000000 ∷ []))
     ∷ []
 
 pub examples-hold : hold rows ≡ true
-unfolding hold equal same rows tailAnswer tailGate readBy tailOf sumTo productAnswer productOut pairGate answerBy leaves written goodWord goodHeader goodVars goodVar productPoly multiplied productOf chosen plainProduct linearProduct linearFrom lineOf linearIn zerosBut grown raised raisedAt joinedBlock joined joinAt general productAt line alone walk table cut cutTo maxShape sumShape minDegreesP1 minLimit announced paired headerOf wordOf fields strides offset index inside span quotientAnswer quotientOut quotientPoly divided quotientOf quotientShape recurred quotientAt lessened taken grow ofBits toBits neg add sub mul div eq
+unfolding hold equal same rows tailAnswer tailGate readBy tailOf sumTo productAnswer productOut pairGate answerBy leaves written goodWord goodHeader goodVars goodVar productPoly multiplied productOf chosen plainProduct linearProduct linearFrom lineOf linearIn zerosBut grown raised raisedAt joinedBlock joined joinAt general productAt line alone walk table cut cutTo maxShape sumShape minDegreesP1 minLimit announced paired headerOf wordOf fields strides offset index inside span quotientAnswer quotientOut quotientPoly divided quotientOf quotientShape recurred quotientAt lessened taken inGate workGate single rowsFrom derivativeFactor derivativePoly rowSum shiftDownPoly derivativeAnswer derivativeOut shiftDownAnswer shiftDownOut squared powerPoly powerAnswer powerOut rowAt powered horner substituted substitutePoly substituteAnswer substituteOut expAnswer expOut expPoly expOf seriesShape expRows expRow logAnswer logOut logPoly logOf logRows logNext logRow logGathered stack grow ofInt ofBits toBits neg add sub mul div eq
 examples-hold = refl

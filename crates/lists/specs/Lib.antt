@@ -6,3 +6,4 @@ pub mod Part
 pub mod First
 pub mod All
 pub mod Four
+pub mod Stack

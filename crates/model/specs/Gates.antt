@@ -60,6 +60,15 @@ oneGate f w m n =
     (ask (fits (announcedOne f w) n) 5
     noRefusal))
 
+-- One operand: n the places lent for the result, s those of the scratch.
+unfoldable pub workGate : Family → ℕ → ℕ → ℕ → ℕ → Refusal
+workGate f w m n s =
+    ask (goodWord w) 1
+    (ask (full w m) 2
+    (ask (fits (announcedOne f w) n) 5
+    (ask (roomy (announcedOne f w) s) 6
+    noRefusal)))
+
 -- One operand, a variable v and a number d below its limit, no scratch.
 unfoldable pub inGate : Family → ℕ → ℕ → ℕ → ℕ → ℕ → Refusal
 inGate f v d w m n =

@@ -16,6 +16,10 @@ pub mod Add
 pub mod General
 pub mod Product
 pub mod Quotient
+pub mod Series
 pub mod Sum
 pub mod Box
 pub mod Textbook
+pub mod Shifts
+pub mod Power
+pub mod Substitute
