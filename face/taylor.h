@@ -78,13 +78,15 @@ uint64_t taylor_coefficients_of_term(uint64_t head, const double *a, size_t a_le
 /* -a: refusals 1, 2, 5 */
 uint64_t taylor_negate(uint64_t head, const double *a, size_t a_len, double *out, size_t out_len);
 
-/* a + b, a - b, a * b, cut to the smaller limits: refusals 1, 2, 5, 6 */
+/* a + b, a - b, a * b, a / b, cut to the smaller limits: refusals 1, 2, 5, 6 */
 uint64_t taylor_add(uint64_t ah, const double *a, size_t a_len, uint64_t bh, const double *b, size_t b_len, double *out, size_t out_len,
                     double *scratch, size_t scratch_len);
 uint64_t taylor_subtract(uint64_t ah, const double *a, size_t a_len, uint64_t bh, const double *b, size_t b_len, double *out, size_t out_len,
                          double *scratch, size_t scratch_len);
 uint64_t taylor_multiply(uint64_t ah, const double *a, size_t a_len, uint64_t bh, const double *b, size_t b_len, double *out, size_t out_len,
                          double *scratch, size_t scratch_len);
+uint64_t taylor_divide(uint64_t ah, const double *a, size_t a_len, uint64_t bh, const double *b, size_t b_len, double *out, size_t out_len,
+                       double *scratch, size_t scratch_len);
 
 #ifdef __cplusplus
 }

@@ -38,6 +38,10 @@ mod face {
             ah: u64, a: *const f64, a_len: usize, bh: u64, b: *const f64, b_len: usize,
             out: *mut f64, out_len: usize, scratch: *mut f64, scratch_len: usize,
         ) -> u64;
+        pub fn taylor_divide(
+            ah: u64, a: *const f64, a_len: usize, bh: u64, b: *const f64, b_len: usize,
+            out: *mut f64, out_len: usize, scratch: *mut f64, scratch_len: usize,
+        ) -> u64;
     }
 }
 
@@ -172,6 +176,16 @@ pub fn subtract(ah: u64, a: &[f64], bh: u64, b: &[f64], out: &mut [f64], scratch
 pub fn multiply(ah: u64, a: &[f64], bh: u64, b: &[f64], out: &mut [f64], scratch: &mut [f64]) -> Result<u64, Refusal> {
     answer(unsafe {
         face::taylor_multiply(
+            ah, a.as_ptr(), a.len(), bh, b.as_ptr(), b.len(),
+            out.as_mut_ptr(), out.len(), scratch.as_mut_ptr(), scratch.len(),
+        )
+    })
+}
+
+/// a / b, cut to the smaller limits.
+pub fn divide(ah: u64, a: &[f64], bh: u64, b: &[f64], out: &mut [f64], scratch: &mut [f64]) -> Result<u64, Refusal> {
+    answer(unsafe {
+        face::taylor_divide(
             ah, a.as_ptr(), a.len(), bh, b.as_ptr(), b.len(),
             out.as_mut_ptr(), out.len(), scratch.as_mut_ptr(), scratch.len(),
         )

@@ -35,7 +35,8 @@ fn write(seed: u64, count: u64, cases: &str, answers: &str, names: &[String]) ->
     for op in OPERATIONS.iter().filter(|op| asked(op.name)) {
         for number in 0..count {
             let mut rng = Rng::new(seed, op.code, number);
-            let announced = rng.pick(&[8, 16, 16, 64]);
+            // Two places more may be lent: 64 at most, and 8 times as many of scratch.
+            let announced = rng.pick(&[8, 16, 16, 62]);
             let case = generate::random(op, &mut rng, Size { operand: 16, announced, more: 2 });
             questions += &(case.packed() + "\n");
             replies += &(reply(&case, &expected(&case))? + "\n");

@@ -40,13 +40,13 @@ module _ {l : List ℕ} {a : Block} {A : Series} (pos-l : (k : ℕ) → k < 4 �
       eq-zero (rw (place-origin (a .lengths)) at (stored-at a origin (p .at origin refl origin-under) (origin-stored s))) .0
       (and-right (isConstant a) (eq (first (a .places)) zeroF) e)
 
-  zero-series : (k : List ℕ) → length k ≡ 4 → Inside l k → A k ≡ pos 0
+  pub zero-series : (k : List ℕ) → length k ≡ 4 → Inside l k → A k ≡ pos 0
   zero-series k f i =
       at-origin k f
       (λ o. ap A o ∙ first-zero)
       (λ o. only-first s p (eqb-true _ _ (and-left (isConstant a) (eq (first (a .places)) zeroF) e)) k f i o)
 
-zero-is : {l : List ℕ} {Z : Series} → ((k : List ℕ) → length k ≡ 4 → Inside l k → Z k ≡ pos 0) → Is l (constantBlock zeroF) Z
+pub zero-is : {l : List ℕ} {Z : Series} → ((k : List ℕ) → length k ≡ 4 → Inside l k → Z k ≡ pos 0) → Is l (constantBlock zeroF) Z
 zero-is {Z = Z} h = is-same (λ k f i. of-both (λ x. x ≡ Z k) (eqb (degree k) 0) (sym (h k f i)) (sym (h k f i))) (constant-is (λ k. pos 0) whole-zero)
 
 -- ---- the product

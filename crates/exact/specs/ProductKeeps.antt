@@ -48,7 +48,7 @@ pub scaled-sits : {r : List ℕ} {b : Block} (c : Float) → Sits r b → Sits r
 scaled-sits {b = b} c s = record { ns = s .ns; lo = s .lo; hi = s .hi; full = length-table (scaledAt c (b .places)) (count (b .lengths)) }
 
 -- four numbers, one of them changed
-set-four : (n : List ℕ) (v x : ℕ) → n ≡ four (at n) → set n v x ≡ four (at (set n v x))
+pub set-four : (n : List ℕ) (v x : ℕ) → n ≡ four (at n) → set n v x ≡ four (at (set n v x))
 set-four n v x e = ap (λ (m : List ℕ). set m v x) e ∙ by v ∙ ap (λ (m : List ℕ). four (at (set m v x))) (sym e)
   where
     by : (v : ℕ) → set (four (at n)) v x ≡ four (at (set (four (at n)) v x))

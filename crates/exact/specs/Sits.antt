@@ -3,7 +3,7 @@
 use mathlib.Core.Path.{_≡_, refl, sym, _∙_}
 use mathlib.Core.List.{List}
 use Prim.Native.Nat.{ℕ, _+_, _-_, _≤_, _<_, min, max}
-use native.Mathlib.Nat.{le-trans}
+use native.Mathlib.Nat.{le-trans, le-refl}
 use native.Mathlib.Omega.{arith}
 use lib.ListN.{length}
 use Rattle.lists.specs.Four.{at, four, at-four, four-same}
@@ -21,6 +21,10 @@ pub record Sits (r : List ℕ) (b : Block) : Type 0 where
 
 pub sits-more : {r t : List ℕ} {b : Block} → ((k : ℕ) → k < 4 → at r k ≤ at t k) → Sits r b → Sits t b
 sits-more h s = record { ns = s .ns; lo = s .lo; hi = λ k l. le-trans (s .hi k l) (h k l); full = s .full }
+
+-- under its own lengths
+pub sits-self : {r : List ℕ} {b : Block} → Sits r b → Sits (b .lengths) b
+sits-self s = record { ns = s .ns; lo = s .lo; hi = λ k l. le-refl _; full = s .full }
 
 pub cut-at : (l n : List ℕ) (k : ℕ) → k < 4 → at (cutTo l n) k ≡ min (at l k) (at n k)
 unfolding cutTo

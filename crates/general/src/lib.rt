@@ -65,7 +65,7 @@ fn each_row(
 }
 
 // The sub-block of the variables from v on: what they add to each of its places.
-fn rows(
+pub fn rows(
     xs: &[f64],
     lx: [usize; 4],
     sx: [usize; 4],

@@ -25,7 +25,7 @@ pub fn upto(k: usize, n: usize) -> usize
 }
 
 // acc, and xs[j] * ys[k - j] for each j from a up to b, ascending.
-fn sum_on(xs: &[f64], ys: &[f64], k: usize, a: usize, b: usize, acc: f64) -> f64
+pub fn sum_on(xs: &[f64], ys: &[f64], k: usize, a: usize, b: usize, acc: f64) -> f64
     requires { ⌜ Summing k a b (length (now xs)) (length (now ys)) ⌝ }
     ensures { λ z. ⌜ z ≡ walk (term (now (xs .entry)) (now (ys .entry)) k) (b - a) a acc ⌝ }
 {

@@ -112,6 +112,8 @@ fn combine(
         show_answer(readings::coefficients_of_term(ah, a, x[0] as usize, x[1] as usize, out));
     } else if op == 5 {
         show_answer(product::multiply(ah, a, bh, b, out, scratch));
+    } else if op == 6 {
+        show_answer(quotient::divide(ah, a, bh, b, out, scratch));
     } else {
         show_unknown();
     }

@@ -17,7 +17,7 @@ use Rattle.model.specs.declared.Answer.the-variants.{Done, Refused}
 use Rattle.model.specs.declared.Linear.{Linear}
 use Rattle.model.specs.declared.LinearReading.{LinearReading}
 use Rattle.model.specs.declared.Family.{Family}
-use Rattle.model.specs.declared.Family.the-variants.{Same, Sum, Product, Term, Order}
+use Rattle.model.specs.declared.Family.the-variants.{Same, Sum, Product, Quotient, Term, Order}
 use Rattle.model.specs.Header.{limit, zeroWith, varWith}
 use Rattle.model.specs.Word.{headerOf, goodWord, wordOf}
 use Rattle.model.specs.Places.{inside}
@@ -31,6 +31,7 @@ use Rattle.model.specs.Tail.{tailAnswer}
 use Rattle.model.specs.Negate.{negateGate, negateAnswer}
 use Rattle.model.specs.Add.{sumGate, sumAnswer}
 use Rattle.model.specs.Product.{productGate, productAnswer}
+use Rattle.model.specs.Quotient.{quotientGate, quotientAnswer}
 use Rattle.taylor.specs.Face.{wordOfRefusal, wordOfAnswer, wordOfReading, wordOfLinear, variableOf}
 
 -- ---- any answer, by the refusal r that decides it
@@ -191,3 +192,7 @@ module _ (w : ℕ) (a : List Float) where
       pub product-back : answerFrom (wordOfAnswer (productAnswer w a u b out scratch)) ≡ productAnswer w a u b out scratch
       unfolding productAnswer
       product-back = back (productGate w a u b out scratch) (pair-few Product w (length a) u (length b) (length out) (length scratch)) _
+
+      pub quotient-back : answerFrom (wordOfAnswer (quotientAnswer w a u b out scratch)) ≡ quotientAnswer w a u b out scratch
+      unfolding quotientAnswer
+      quotient-back = back (quotientGate w a u b out scratch) (pair-few Quotient w (length a) u (length b) (length out) (length scratch)) _

@@ -18,6 +18,7 @@ ghost use Rattle.model.specs.Tail.{tailAnswer};
 ghost use Rattle.model.specs.Negate.{negateAnswer, negateOut};
 ghost use Rattle.model.specs.Add.{sumAnswer, sumOut, sumScratch};
 ghost use Rattle.model.specs.Product.{productAnswer, productOut, productScratch};
+ghost use Rattle.model.specs.Quotient.{quotientAnswer, quotientOut, quotientScratch};
 ghost use Rattle.taylor.specs.Face.{fourOf, wordOfAnswer, wordOfReading, valueAfter, wordOfLinear, constantAfter, factorAfter};
 
 // +0.0, with no variables: refusal 5.
@@ -280,4 +281,21 @@ pub extern "C" fn taylor_multiply(
     ensures cleared { λ r. ⌜ now (scratch .exit) ≡ productScratch ah (now (a .entry)) bh (now (b .entry)) (now (out .entry)) (now (scratch .entry)) ⌝ }
 {
     word_of(product::multiply(ah, a, bh, b, out, scratch))
+}
+
+// a / b, cut to the smaller limits: refusals 1, 2, 5, 6.
+#[no_mangle]
+pub extern "C" fn taylor_divide(
+    ah: u64,
+    a: &[f64],
+    bh: u64,
+    b: &[f64],
+    out: &mut [f64],
+    scratch: &mut [f64],
+) -> u64
+    ensures answer { λ r. ⌜ r ≡ wordOfAnswer (quotientAnswer ah (now (a .entry)) bh (now (b .entry)) (now (out .entry)) (now (scratch .entry))) ⌝ }
+    ensures written { λ r. ⌜ now (out .exit) ≡ quotientOut ah (now (a .entry)) bh (now (b .entry)) (now (out .entry)) (now (scratch .entry)) ⌝ }
+    ensures cleared { λ r. ⌜ now (scratch .exit) ≡ quotientScratch ah (now (a .entry)) bh (now (b .entry)) (now (out .entry)) (now (scratch .entry)) ⌝ }
+{
+    word_of(quotient::divide(ah, a, bh, b, out, scratch))
 }

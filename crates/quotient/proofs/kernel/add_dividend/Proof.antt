@@ -1,0 +1,81 @@
+use lib.Dec.{lit<}
+use native.Mathlib.Omega.{arith}
+use mathlib.Core.Path.{refl, sym, ap, _∙_}
+use lib.ListN.{length, length-take, length-drop}
+use Rattle.lists.specs.Table.{length-table}
+use Rattle.quotient.specs.First.{row-lengths, dividend-in, adding-row, row-added, row-kept, row-count}
+use Rattle.quotient.proofs.kernel.add_dividend.Statement.{statement}
+use Rattle.quotient.proofs.kernel.add_dividend.Tie as tie
+
+array-read-if1 : tie.Need-array-read-if1
+array-read-if1 c = lit< tt
+
+returns : tie.Need-returns
+returns c = row-kept (c .before .before .before .args .xs .now) ((c .before .before .before) .pre) (c .if1 .taken) (c .before .before .before .args .row .now) refl
+
+array-read-from : tie.Need-array-read-from
+array-read-from c = lit< tt
+
+array-read-join-block : tie.Need-array-read-join-block
+array-read-join-block c = lit< tt
+
+array-read-t22 : tie.Need-array-read-t22
+array-read-t22 c = lit< tt
+
+array-read-from-2 : tie.Need-array-read-from-2
+array-read-from-2 c = lit< tt
+
+array-read-t22-2 : tie.Need-array-read-t22-2
+array-read-t22-2 c = lit< tt
+
+array-read-join-block-2 : tie.Need-array-read-join-block-2
+array-read-join-block-2 c = lit< tt
+
+count-of-requires : tie.Need-count-of-requires
+count-of-requires c κs = row-lengths ((c .before .before .before) .pre .left)
+
+mul-from : tie.Need-mul-from
+mul-from c = omega (arith, dividend-in ((c .before .before .before .before) .pre) (omega (arith, c .before .if1 .left)) (c .count-of .ensures))
+
+mul-join-block : tie.Need-mul-join-block
+mul-join-block c = omega (arith, dividend-in ((c .before .before .before .before) .pre) (omega (arith, c .before .if1 .left)) (c .count-of .ensures))
+
+sub-join-block : tie.Need-sub-join-block
+sub-join-block c = omega (arith, dividend-in ((c .before .before .before .before) .pre) (omega (arith, c .before .if1 .left)) (c .count-of .ensures))
+
+part-join-block-start : tie.Need-part-join-block-start
+part-join-block-start c = omega (arith, dividend-in ((c .before .before .before .before) .pre) (omega (arith, c .before .if1 .left)) (c .count-of .ensures))
+
+part-join-block-end : tie.Need-part-join-block-end
+part-join-block-end c = omega arith
+
+join-block-requires : tie.Need-join-block-requires
+join-block-requires c κs = adding-row ((c .before .before .before .before .before .before) .pre) (omega (arith, c .before .before .before .if1 .left)) (c .before .before .count-of .ensures) (simp (length-take, length-drop) (omega arith)) refl
+
+same-length : tie.Need-same-length
+same-length c = ap length (c .before .before .join-block .ensures) ∙ (length-table _ _ ∙ (row-count (c .before .before .before .before .before .before .before .before .before .args .t3) ∙ sym ((c .before .before .before .before .before .before .before .before .before) .pre .row)))
+
+returns-2 : tie.Need-returns-2
+returns-2 c = row-added (c .before .before .before .before .before .before .before .before .before .args .xs .now) ((c .before .before .before .before .before .before .before .before .before) .pre) (omega (arith, c .before .before .before .before .before .before .if1 .left)) (c .before .before .before .before .before .before .before .before .before .args .row .now) (c .before .before .before .before .before .count-of .ensures) (c .before .before .join-block .ensures)
+
+pub add-dividend-spec : {M : Type 1} → statement M
+add-dividend-spec =
+    tie.close
+    (tie.spec
+    array-read-if1
+    returns
+    array-read-from
+    array-read-join-block
+    array-read-t22
+    array-read-from-2
+    array-read-t22-2
+    array-read-join-block-2
+    count-of-requires
+    mul-from
+    mul-join-block
+    sub-join-block
+    part-join-block-start
+    part-join-block-end
+    join-block-requires
+    same-length
+    returns-2)

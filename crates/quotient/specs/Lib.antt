@@ -1,0 +1,12 @@
+pub mod Grows
+pub mod Laid
+pub mod Level
+pub mod Room
+pub mod Taken
+pub mod Gather
+pub mod Line
+pub mod Levels
+pub mod First
+pub mod Firsts
+pub mod Into
+pub mod Entry

@@ -1,0 +1,103 @@
+-- What the functions of the quotient ask. The m.. are the lengths of buffers.
+use Prim.Native.Nat.{ℕ, _+_, _-_, _*_, _≤_, _<_}
+use mathlib.Core.List.{List}
+use mathlib.Core.Path.{_≡_}
+use Rattle.lists.specs.Four.{at}
+use Rattle.model.specs.Header.{span, count}
+use Rattle.model.specs.Limits.{cutTo}
+use Rattle.model.specs.Quotient.{quotientShape}
+use Rattle.words.specs.Lengths.{Lengths}
+use Rattle.blocks.specs.Rows.{Inner}
+use Rattle.general.specs.Index.{inRow}
+use Rattle.general.specs.Rows.{Strided}
+
+-- ly and r the lengths of the divisor and of the result, sy and sr their strides
+pub record Dividing (ly sy r sr : List ℕ) : Type 0 where
+  pub strided : Strided r sr ly sy r sr
+  pub inner : Inner r ly
+
+-- the row k of the variable v: the rows before it, the divisor, the row
+pub record Taking (ly r : List ℕ) (v k mb my mr : ℕ) : Type 0 where
+  pub some : v < 4
+  pub row : k < at r v
+  pub before : mb ≡ k * inRow r v
+  pub room : span ly (4 - v) v ≤ my
+  pub full : mr ≡ inRow r v
+
+-- the sub-block of the variables from v on: its c lies from p up to e, its result goes to q, the divisor lies from b up to f
+pub record Room (ly r : List ℕ) (v p e q b f mw mr : ℕ) : Type 0 where
+  pub some : v < 4
+  pub divisor : f ≡ b + count ly
+  pub before : f ≤ q
+  pub apart : q + span r (4 - v) v ≤ p
+  pub ends : e ≡ p + span r (4 - v) v
+  pub room : p + (5 - v) * count r ≤ mw
+  pub row : count r ≤ mr
+
+-- a row of the variable v has one place
+pub record Single (ly r : List ℕ) (v : ℕ) : Type 0 where
+  pub right : Lengths ly
+  pub result : Lengths r
+  pub inner : Inner r ly
+  pub some : v < 4
+  pub one : inRow r v ≡ 1
+
+-- the sub-block of one such variable
+pub record Line (ly r : List ℕ) (v p e q b f mw : ℕ) : Type 0 where
+  pub single : Single ly r v
+  pub divisor : f ≡ b + count ly
+  pub before : f ≤ q
+  pub apart : q + at r v ≤ p
+  pub ends : e ≡ p + at r v
+  pub room : e ≤ mw
+
+-- the row k of it; the row that is gathered fills its buffer
+pub record RowRoom (ly r : List ℕ) (v k p e q b f mw mr : ℕ) : Type 0 where
+  pub some : v < 4
+  pub turn : k < at r v
+  pub divisor : f ≡ b + count ly
+  pub before : f ≤ q
+  pub apart : q + span r (4 - v) v ≤ p
+  pub ends : e ≡ p + span r (4 - v) v
+  pub room : e + inRow r v ≤ mw
+  pub row : mr ≡ inRow r v
+
+-- the dividend, which lies at the front of the work, below q; lx its lengths
+pub record First (lx r : List ℕ) (nx q : ℕ) : Type 0 where
+  pub left : Lengths lx
+  pub inner : Inner r lx
+  pub full : nx ≡ count lx
+  pub below : nx ≤ q
+
+-- its row k
+pub record Adding (lx r : List ℕ) (k mx mr : ℕ) : Type 0 where
+  pub left : Lengths lx
+  pub result : Lengths r
+  pub inner : Inner r lx
+  pub room : count lx ≤ mx
+  pub turn : k < at r 0
+  pub row : mr ≡ inRow r 0
+
+-- the dividend and the divisor, which lie in the work from 0 and from the count of the result on
+pub record Recurring (lx ly r : List ℕ) (nx ny mw mo : ℕ) : Type 0 where
+  pub left : Lengths lx
+  pub right : Lengths ly
+  pub result : Lengths r
+  pub inner-x : Inner r lx
+  pub inner-y : Inner r ly
+  pub full-x : nx ≡ count lx
+  pub full-y : ny ≡ count ly
+  pub work : mw ≡ 8 * count r
+  pub out : mo ≡ count r
+
+-- two operands that lie where the caller has them; r the announced lengths
+pub record Divides (la lb limits r : List ℕ) (ma mb mo mw : ℕ) : Type 0 where
+  pub left : Lengths la
+  pub right : Lengths lb
+  pub positive : (k : ℕ) → k < 4 → 1 ≤ at limits k
+  pub most : (k : ℕ) → k < 4 → at limits k ≤ 64
+  pub shape : r ≡ quotientShape limits (cutTo limits la) (cutTo limits lb)
+  pub full-a : ma ≡ count la
+  pub full-b : mb ≡ count lb
+  pub out : mo ≡ count r
+  pub work : mw ≡ 8 * count r

@@ -1,0 +1,354 @@
+// The quotient of two blocks: by a constant, or by the recurrence, row by row, which recurses over the variables.
+// In the work lie the dividend, the divisor, the finished places, and behind these, used as a stack, what each level still has to divide.
+ghost use mathlib.Core.Path.{_≡_};
+ghost use Prim.Native.Nat.{_+_, _-_, _*_, _≤_, _<_};
+ghost use mathlib.Core.Bool.{false, cond};
+ghost use lib.ListN.{length, getD, take};
+ghost use lib.Ieee.{nan, add, neg, eq, binary64};
+ghost use Rattle.lists.specs.Four.{at};
+ghost use Rattle.lists.specs.Table.{table};
+ghost use Rattle.lists.specs.Walk.{walk};
+ghost use Rattle.lists.specs.Part.{part};
+ghost use Rattle.model.specs.Header.{count};
+ghost use Rattle.model.specs.Places.{index};
+ghost use Rattle.model.specs.Poly.{block};
+ghost use Rattle.model.specs.Readings.{oneF};
+ghost use Rattle.model.specs.Add.{joinAt};
+ghost use Rattle.model.specs.Quotient.{dividedAt, recurred, divided};
+ghost use Rattle.general.specs.Index.{inRow};
+ghost use Rattle.general.specs.Rows.{Strided};
+ghost use Rattle.quotient.specs.Laid.{Laid};
+ghost use Rattle.quotient.specs.Level.{takenAt, leftAt, levelOf, passed};
+ghost use Rattle.quotient.specs.Room.{Dividing, Taking, Room, RowRoom, Line, Adding, First, Recurring, Divides};
+ghost use Rattle.quotient.specs.First.{firstAt};
+
+// Each place divided by c.
+fn divide_by(c: f64, a: &[f64], to: &mut [f64])
+    requires { ⌜ length (now to) ≡ length (now a) ⌝ }
+    ensures { λ _. ⌜ now (to .exit) ≡ table (length (now (a .entry))) (dividedAt c (now (a .entry))) ⌝ }
+{
+    let n = to.len();
+    let mut k = 0;
+    while k < n {
+        to[k] = a[k] / c;
+        k += 1;
+    }
+}
+
+// What the rows before the row k of the variable v take from each of its places: the row j times the divisor's row k - j, j ascending.
+fn taken_by_rows(
+    done: &[f64],
+    ys: &[f64],
+    ly: [usize; 4],
+    sy: [usize; 4],
+    r: [usize; 4],
+    sr: [usize; 4],
+    v: usize,
+    k: usize,
+    row: &mut [f64],
+)
+    requires { ⌜ Strided r sr ly sy r sr ⌝ ∗ ⌜ Taking ly r v k (length (now done)) (length (now ys)) (length (now row)) ⌝ }
+    ensures { λ _. ⌜ now (row .exit) ≡ table (inRow r v) (takenAt ly r v k (now (done .entry)) (now (ys .entry))) ⌝ }
+{
+    blocks::clear(row);
+    let w = v + 1;
+    let s = sr[v];
+    let t = sy[v];
+    let lo = general::line::from(k, ly[v]);
+    let mut j = lo;
+    while j < k {
+        let p = j * s;
+        let q = (k - j) * t;
+        general::rows(&done[p..], r, sr, &ys[q..], ly, sy, r, sr, w, row);
+        j += 1;
+    }
+}
+
+// The same; where a row is one place, it is one sum.
+fn taken_row(
+    done: &[f64],
+    ys: &[f64],
+    ly: [usize; 4],
+    sy: [usize; 4],
+    r: [usize; 4],
+    sr: [usize; 4],
+    v: usize,
+    k: usize,
+    row: &mut [f64],
+)
+    requires { ⌜ Dividing ly sy r sr ⌝ ∗ ⌜ Taking ly r v k (length (now done)) (length (now ys)) (length (now row)) ⌝ }
+    ensures { λ _. ⌜ now (row .exit) ≡ table (inRow r v) (takenAt ly r v k (now (done .entry)) (now (ys .entry))) ⌝ }
+{
+    if sr[v] == 1 {
+        let lo = general::line::from(k, ly[v]);
+        row[0] = general::line::sum_on(done, ys, k, lo, k, 0.0);
+        return;
+    }
+    taken_by_rows(done, ys, ly, sy, r, sr, v, k, row);
+}
+
+// The row negated, then the places from `from` on added: it goes to `to`.
+fn lessen(row: &[f64], work: &mut [f64], from: usize, to: usize)
+    requires { ⌜ (from + length (now row) ≤ to) × (to + length (now row) ≤ length (now work)) ⌝ }
+    ensures { λ _. ⌜ Laid to (table (length (now (row .entry))) (λ i. add binary64 (neg (getD (now (row .entry)) i nan)) (getD (now (work .entry)) (from + i) nan))) (length (now (work .entry))) (now (work .entry)) (now (work .exit)) ⌝ }
+{
+    let n = row.len();
+    let mut i = 0;
+    while i < n {
+        work[to + i] = -row[i] + work[from + i];
+        i += 1;
+    }
+}
+
+// What the row k of a level still has to divide: its c lies from p up to e, and the rows before it from q on. It goes to e.
+fn gather(
+    work: &mut [f64],
+    p: usize,
+    e: usize,
+    q: usize,
+    b: usize,
+    f: usize,
+    ly: [usize; 4],
+    sy: [usize; 4],
+    r: [usize; 4],
+    sr: [usize; 4],
+    v: usize,
+    k: usize,
+    row: &mut [f64],
+)
+    requires { ⌜ Dividing ly sy r sr ⌝ ∗ ⌜ RowRoom ly r v k p e q b f (length (now work)) (length (now row)) ⌝ }
+    ensures { λ _. ⌜ Laid e (table (inRow r v) (leftAt ly r v k (part q (q + k * inRow r v) (now (work .entry))) (part b f (now (work .entry))) (part p e (now (work .entry))))) (length (now (work .entry))) (now (work .entry)) (now (work .exit)) ⌝ }
+{
+    let at = k * sr[v];
+    let end = q + at;
+    taken_row(&work[q..end], &work[b..f], ly, sy, r, sr, v, k, row);
+    lessen(row, work, p + at, e);
+}
+
+// c after the variables past v, in each of which its place has the number 0.
+fn through(c: f64, v: usize) -> f64
+    requires { ⌜ v < 4 ⌝ }
+    ensures { λ z. ⌜ z ≡ walk passed (4 - (v + 1)) (v + 1) c ⌝ }
+{
+    let mut x = c;
+    let mut j = v + 1;
+    while j < 4 {
+        x = -0.0 + x;
+        j += 1;
+    }
+    x
+}
+
+// The sub-block of the variables from v on, where a row of v is one place.
+fn line(
+    work: &mut [f64],
+    p: usize,
+    e: usize,
+    q: usize,
+    b: usize,
+    f: usize,
+    ly: [usize; 4],
+    r: [usize; 4],
+    v: usize,
+)
+    requires { ⌜ Line ly r v p e q b f (length (now work)) ⌝ }
+    ensures { λ _. ⌜ Laid q (levelOf ly r (part b f (now (work .entry))) v (part p e (now (work .entry)))) e (now (work .entry)) (now (work .exit)) ⌝ }
+{
+    let mut k = 0;
+    while k < r[v] {
+        let end = q + k;
+        let lo = general::line::from(k, ly[v]);
+        let sum = general::line::sum_on(&work[q..end], &work[b..f], k, lo, k, 0.0);
+        let c = through(-sum + work[p + k], v);
+        work[end] = c / work[b];
+        k += 1;
+    }
+}
+
+// Each row of the sub-block of the variables from v on.
+fn each_row(
+    work: &mut [f64],
+    p: usize,
+    e: usize,
+    q: usize,
+    b: usize,
+    f: usize,
+    ly: [usize; 4],
+    sy: [usize; 4],
+    r: [usize; 4],
+    sr: [usize; 4],
+    v: usize,
+    row: &mut [f64],
+)
+    requires { ⌜ Dividing ly sy r sr ⌝ ∗ ⌜ Room ly r v p e q b f (length (now work)) (length (now row)) ⌝ ∗ ⌜ 1 < at sr v ⌝ }
+    ensures { λ _. ⌜ Laid q (levelOf ly r (part b f (now (work .entry))) v (part p e (now (work .entry)))) e (now (work .entry)) (now (work .exit)) ⌝ }
+{
+    let w = v + 1;
+    let n = r[v];
+    let s = sr[v];
+    let end = e + s;
+    let mut k = 0;
+    while k < n {
+        let at = q + k * s;
+        gather(work, p, e, q, b, f, ly, sy, r, sr, v, k, &mut row[..s]);
+        level(work, e, end, at, b, f, ly, sy, r, sr, w, row);
+        k += 1;
+    }
+}
+
+// The sub-block of the variables from v on: what lies from p up to e, divided by the divisor, which lies from b up to f, goes to q.
+fn level(
+    work: &mut [f64],
+    p: usize,
+    e: usize,
+    q: usize,
+    b: usize,
+    f: usize,
+    ly: [usize; 4],
+    sy: [usize; 4],
+    r: [usize; 4],
+    sr: [usize; 4],
+    v: usize,
+    row: &mut [f64],
+)
+    requires { ⌜ Dividing ly sy r sr ⌝ ∗ ⌜ Room ly r v p e q b f (length (now work)) (length (now row)) ⌝ }
+    ensures { λ _. ⌜ Laid q (levelOf ly r (part b f (now (work .entry))) v (part p e (now (work .entry)))) e (now (work .entry)) (now (work .exit)) ⌝ }
+{
+    if sr[v] == 1 {
+        line(work, p, e, q, b, f, ly, r, v);
+        return;
+    }
+    each_row(work, p, e, q, b, f, ly, sy, r, sr, v, row);
+}
+
+// The row k, with what the dividend stores in it added.
+fn add_dividend(xs: &[f64], lx: [usize; 4], r: [usize; 4], k: usize, row: &mut [f64])
+    requires { ⌜ Adding lx r k (length (now xs)) (length (now row)) ⌝ }
+    ensures { λ _. ⌜ now (row .exit) ≡ table (inRow r 0) (λ i. joinAt false (getD (now (row .entry)) i nan) (block lx (now (xs .entry))) (index r (k * inRow r 0 + i))) ⌝ }
+{
+    if lx[0] <= k {
+        return;
+    }
+    let n = [1, lx[1], lx[2], lx[3]];
+    let m = [1, r[1], r[2], r[3]];
+    let from = k * words::places::count_of(n);
+    blocks::join_block(false, &xs[from..], n, m, row);
+}
+
+// What the row k of the whole still has to divide: what the rows before it take, negated, then the dividend added. It goes to p.
+fn gather_first(
+    work: &mut [f64],
+    lx: [usize; 4],
+    nx: usize,
+    p: usize,
+    q: usize,
+    b: usize,
+    f: usize,
+    ly: [usize; 4],
+    sy: [usize; 4],
+    r: [usize; 4],
+    sr: [usize; 4],
+    k: usize,
+    row: &mut [f64],
+)
+    requires { ⌜ Dividing ly sy r sr ⌝ ∗ ⌜ First lx r nx q ⌝ ∗ ⌜ RowRoom ly r 0 k p (p + count r) q b f (length (now work)) (length (now row)) ⌝ }
+    ensures { λ _. ⌜ Laid p (table (inRow r 0) (firstAt lx (take nx (now (work .entry))) ly r k (part q (q + k * inRow r 0) (now (work .entry))) (part b f (now (work .entry))))) (length (now (work .entry))) (now (work .entry)) (now (work .exit)) ⌝ }
+{
+    let s = sr[0];
+    let end = q + k * s;
+    taken_row(&work[q..end], &work[b..f], ly, sy, r, sr, 0, k, row);
+    blocks::turn(row);
+    add_dividend(&work[..nx], lx, r, k, row);
+    blocks::copy(row, &mut work[p..p + s]);
+}
+
+// Each row of the whole: the dividend lies at the front of the work, nx places; the quotient goes to q.
+fn each_first(
+    work: &mut [f64],
+    lx: [usize; 4],
+    nx: usize,
+    p: usize,
+    q: usize,
+    b: usize,
+    f: usize,
+    ly: [usize; 4],
+    sy: [usize; 4],
+    r: [usize; 4],
+    sr: [usize; 4],
+    row: &mut [f64],
+)
+    requires { ⌜ Dividing ly sy r sr ⌝ ∗ ⌜ First lx r nx q ⌝ ∗ ⌜ Room ly r 0 p (p + count r) q b f (length (now work)) (length (now row)) ⌝ }
+    ensures { λ _. ⌜ Laid q (recurred (block lx (take nx (now (work .entry)))) (block ly (part b f (now (work .entry)))) r) p (now (work .entry)) (now (work .exit)) ⌝ }
+{
+    let n = r[0];
+    let s = sr[0];
+    let end = p + s;
+    let mut k = 0;
+    while k < n {
+        let at = q + k * s;
+        gather_first(work, lx, nx, p, q, b, f, ly, sy, r, sr, k, &mut row[..s]);
+        level(work, p, end, at, b, f, ly, sy, r, sr, 1, row);
+        k += 1;
+    }
+}
+
+// The recurrence: the dividend lies in the work from 0, the divisor from as many places on as the quotient has.
+fn recur(
+    work: &mut [f64],
+    lx: [usize; 4],
+    nx: usize,
+    ly: [usize; 4],
+    ny: usize,
+    r: [usize; 4],
+    out: &mut [f64],
+)
+    requires { ⌜ Recurring lx ly r nx ny (length (now work)) (length (now out)) ⌝ }
+    ensures { λ _. ⌜ now (out .exit) ≡ recurred (block lx (take nx (now (work .entry)))) (block ly (part (length (now (out .entry))) (length (now (out .entry)) + ny) (now (work .entry)))) r ⌝ }
+{
+    let n = out.len();
+    let sy = words::places::strides_of(ly);
+    let sr = words::places::strides_of(r);
+    let q = 2 * n;
+    let p = 3 * n;
+    each_first(work, lx, nx, p, q, n, n + ny, ly, sy, r, sr, out);
+    blocks::copy(&work[q..p], out);
+}
+
+// By a constant: nothing to do where it is one.
+fn divide_constant(c: f64, a: &[f64], to: &mut [f64])
+    requires { ⌜ length (now to) ≡ length (now a) ⌝ }
+    ensures { λ _. ⌜ now (to .exit) ≡ cond (eq c oneF) (now (a .entry)) (table (length (now (a .entry))) (dividedAt c (now (a .entry)))) ⌝ }
+{
+    if c == 1.0 {
+        blocks::copy(a, to);
+        return;
+    }
+    divide_by(c, a, to);
+}
+
+// The quotient of two operands with the lengths la and lb under the limits: all of `out`. r are the announced lengths.
+pub fn divide_into(
+    a: &[f64],
+    la: [usize; 4],
+    b: &[f64],
+    lb: [usize; 4],
+    limits: [usize; 4],
+    r: [usize; 4],
+    out: &mut [f64],
+    work: &mut [f64],
+)
+    requires { ⌜ Divides la lb limits r (length (now a)) (length (now b)) (length (now out)) (length (now work)) ⌝ }
+    ensures { λ _. ⌜ now (out .exit) ≡ divided limits (block la (now (a .entry))) (block lb (now (b .entry))) .places ⌝ }
+{
+    let n = out.len();
+    let ca = shape::limits::cut_to(limits, la);
+    let cb = shape::limits::cut_to(limits, lb);
+    blocks::load_two(a, la, ca, b, lb, cb, n, work);
+    let na = words::places::count_of(ca);
+    let nb = words::places::count_of(cb);
+    if nb == 1 {
+        divide_constant(work[n], &work[..na], out);
+        return;
+    }
+    recur(work, ca, na, cb, nb, r, out);
+}

@@ -1,0 +1,60 @@
+// The quotient of two polynomials (document 01, port order 5). The entry takes any words and buffers.
+pub mod kernel;
+
+use model::Answer;
+use model::Family;
+use shape::announce::announced_of;
+use words::word::header_of;
+use words::word::pack;
+ghost use mathlib.Core.Path.{_≡_};
+ghost use Rattle.model.specs.Quotient.{quotientAnswer, quotientOut, quotientScratch};
+
+// a / b, cut to the smaller limits: refusals 1, 2, 5, 6. Division by zero, infinities and NaN go as IEEE 754 says and refuse nothing.
+pub fn divide(
+    ah: u64,
+    a: &[f64],
+    bh: u64,
+    b: &[f64],
+    out: &mut [f64],
+    scratch: &mut [f64],
+) -> Answer
+    ensures answer { λ r. ⌜ r ≡ quotientAnswer ah (now (a .entry)) bh (now (b .entry)) (now (out .entry)) (now (scratch .entry)) ⌝ }
+    ensures written { λ r. ⌜ now (out .exit) ≡ quotientOut ah (now (a .entry)) bh (now (b .entry)) (now (out .entry)) (now (scratch .entry)) ⌝ }
+    ensures cleared { λ r. ⌜ now (scratch .exit) ≡ quotientScratch ah (now (a .entry)) bh (now (b .entry)) (now (out .entry)) (now (scratch .entry)) ⌝ }
+{
+    let refusal = gates::pair_gate(
+        Family::Quotient,
+        ah,
+        a.len(),
+        bh,
+        b.len(),
+        out.len(),
+        scratch.len(),
+    );
+    if refusal.number != 0 {
+        return Answer::Refused(refusal);
+    }
+    let x = header_of(ah);
+    let y = header_of(bh);
+    let h = announced_of(Family::Quotient, x, y);
+    let la = x.lengths;
+    let lb = y.lengths;
+    let l = h.limits;
+    let r = h.lengths;
+    let na = gates::stored_of(x);
+    let nb = gates::stored_of(y);
+    let n = gates::stored_of(h);
+    let room = 8 * n;
+    kernel::divide_into(
+        &a[..na],
+        la,
+        &b[..nb],
+        lb,
+        l,
+        r,
+        &mut out[..n],
+        &mut scratch[..room],
+    );
+    blocks::clear(&mut scratch[..room]);
+    Answer::Done(pack(h))
+}
