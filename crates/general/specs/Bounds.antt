@@ -7,6 +7,8 @@ use native.Mathlib.Omega.{arith}
 use native.Mathlib.Nat.{mul-one}
 use lib.ListN.{length, take, drop, length-take, length-drop}
 use lib.Ieee.{Float}
+use mir.Val.{Fits}
+use mir.Syntax.{w64}
 use Rattle.lists.specs.Four.{at, each}
 use Rattle.model.specs.Header.{span}
 use Rattle.model.specs.General.{lo, alone}
@@ -16,7 +18,11 @@ use Rattle.general.specs.Product.{span-more, stride-at, alone-one, row-i
 use Rattle.general.specs.Rows.{Strided, Rowing, Several, Pairing}
 use Rattle.general.specs.Pairs.{fromOn}
 
-most : {l : List ℕ} → Lengths l → (v : ℕ) → v < 4 → at l v ≤ 64
+-- the place of a number in an array of four
+pub in-array : {v : ℕ} → v < 4 → Fits w64 (v * 8)
+in-array h = omega arith
+
+pub most : {l : List ℕ} → Lengths l → (v : ℕ) → v < 4 → at l v ≤ 64
 most {l} g = each (λ v. at l v ≤ 64) (g .m0) (g .m1) (g .m2) (g .m3)
 
 pub row-small : {r : List ℕ} {v k : ℕ} → Lengths r → v < 4 → k < at r v → k < 64
@@ -45,7 +51,7 @@ module _ {lx sx ly sy r sr : List ℕ} (g : Strided lx sx ly sy r sr) {v k j : �
   pub right-in : (k - j) * at sy v + at sy v ≤ ny
   right-in = row-in ly (p .some) (t .right) (stride-at ly (g .by-y) (p .some)) (p .room-y)
 
-length-on : (p : ℕ) (xs : List Float) → length (fromOn xs p) ≡ length xs - p
+pub length-on : (p : ℕ) (xs : List Float) → length (fromOn xs p) ≡ length xs - p
 length-on p xs = simp (length-take, length-drop) (omega arith)
 
 pub rowing-next : {lx sx ly sy r sr : List ℕ} (g : Strided lx sx ly sy r sr) {v k j nr mr : ℕ} (xs ys : List Float) (p : Pairing lx ly r v k (length xs) (length ys) nr) → Turn (at lx v) (at ly v) k j → mr ≡ inRow r v

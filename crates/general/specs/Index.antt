@@ -14,10 +14,10 @@ abbrev pub inRow : List ℕ → ℕ → ℕ
 inRow r v = span r (4 - (v + 1)) (v + 1)
 
 module _ (k : ℕ) {n : ℕ} (q : ℕ) (h : 0 < n) where
-  row-div : (k * n + q) / n ≡ k + q / n
+  pub row-div : (k * n + q) / n ≡ k + q / n
   row-div = let e : k * n + q ≡ q + k * n = omega arith in let f : q / n + k ≡ k + q / n = omega arith in ap (λ (x : ℕ). x / n) e ∙ (add-mul-div-right q k h ∙ f)
 
-  row-mod : (k * n + q) % n ≡ q % n
+  pub row-mod : (k * n + q) % n ≡ q % n
   row-mod = let e : k * n + q ≡ q + k * n = omega arith in ap (λ (x : ℕ). x % n) e ∙ add-mul-mod-self-right q k n
 
 module _ (k : ℕ) {a b c : ℕ} (q : ℕ) (pa : 0 < a) (pb : 0 < b) (pc : 0 < c) where

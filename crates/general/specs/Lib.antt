@@ -4,3 +4,4 @@ pub mod Rows
 pub mod Pairs
 pub mod Bounds
 pub mod Fours
+pub mod Plane

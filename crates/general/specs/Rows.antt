@@ -1,7 +1,7 @@
 -- What the functions that go through the rows ask and make: lx, ly and r the lengths of the left, the right and the result; sx, sy and sr their strides.
 use Prim.Native.Nat.{ℕ, _+_, _-_, _≤_, _<_}
 use mathlib.Core.List.{List}
-use mathlib.Core.Bool.{false}
+use mathlib.Core.Bool.{true, false}
 use mathlib.Core.Path.{_≡_}
 use lib.ListN.{getD}
 use lib.Ieee.{Float, nan, add, binary64}
@@ -43,6 +43,11 @@ pub record Rowing (lx ly r : List ℕ) (v nx ny nr : ℕ) : Type 0 where
 pub record Several (r : List ℕ) (v : ℕ) : Type 0 where
   pub some : v < 4
   pub more : alone r (4 - (v + 1)) v ≡ false
+
+-- the variable after v is the last long one
+pub record TwoLong (r : List ℕ) (v : ℕ) : Type 0 where
+  pub next : v + 1 < 4
+  pub last : alone r (4 - (v + 1 + 1)) (v + 1) ≡ true
 
 -- the row k of the variable v of the result
 pub record Pairing (lx ly r : List ℕ) (v k nx ny nr : ℕ) : Type 0 where

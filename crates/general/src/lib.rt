@@ -1,5 +1,6 @@
 // The general product of two blocks, row by row (document 01, port order 4).
 pub mod line;
+pub mod plane;
 
 ghost use mathlib.Core.Path.{_≡_};
 ghost use lib.ListN.{length};
@@ -85,10 +86,18 @@ pub fn rows(
         return;
     }
     if (r[v] != 1) & (sr[v] == 1) {
+        // one pair of lines: `lines` is called in one place only, and the compiler puts it inline there
         let nx = lx[v];
         let ny = ly[v];
-        line::lines(xs, nx, ys, ny, res);
+        plane::each_line(xs, 0, nx, ys, 0, ny, 0, 0, 1, res);
         return;
+    }
+    let w = v + 1;
+    if w < 4 {
+        if (r[w] != 1) & (sr[w] == 1) {
+            plane::two_long(xs, lx, sx, ys, ly, sy, r, sr, v, res);
+            return;
+        }
     }
     each_row(xs, lx, sx, ys, ly, sy, r, sr, v, res);
 }

@@ -6,7 +6,7 @@ ghost use Rattle.lists.specs.Table.{table};
 ghost use Rattle.lists.specs.Walk.{walk};
 ghost use Rattle.model.specs.General.{lo as loOf, term, line};
 ghost use Rattle.general.specs.Rows.{lineAdded};
-ghost use Rattle.general.specs.Fours.{Summing, Sharing, Walks, Lines};
+ghost use Rattle.general.specs.Fours.{Summing, Sharing, Abreast, Walks, Ends, Lines, putFour};
 
 // The first j at the place k, for a right operand of the length n.
 pub fn from(k: usize, n: usize) -> usize
@@ -48,9 +48,24 @@ fn line_at(xs: &[f64], nx: usize, ys: &[f64], ny: usize, k: usize) -> f64
     sum_on(xs, ys, k, lo, hi, 0.0)
 }
 
-// Four places from k on, each with its terms for j from a up to b.
+// Four places from k on, each with its term for j.
+fn four_more(xs: &[f64], ys: &[f64], k: usize, j: usize, s: [f64; 4]) -> [f64; 4]
+    requires { ⌜ (j ≤ k) × (j < length (now xs)) ⌝ ∗ ⌜ k + 3 < j + length (now ys) ⌝ }
+    ensures { λ z. ⌜ Walks (now (xs .entry)) (now (ys .entry)) k j (j + 1) s z ⌝ }
+{
+    let x = xs[j];
+    let i = k - j;
+    let z0 = s[0] + x * ys[i];
+    let z1 = s[1] + x * ys[i + 1];
+    let z2 = s[2] + x * ys[i + 2];
+    let z3 = s[3] + x * ys[i + 3];
+    [z0, z1, z2, z3]
+}
+
+// Four places from k on, each with its terms for j from a up to b. Two j a turn: the compiler then puts the places side by side, where with
+// one it works along j.
 fn four_on(xs: &[f64], ys: &[f64], k: usize, a: usize, b: usize, s: [f64; 4]) -> [f64; 4]
-    requires { ⌜ Summing k a b (length (now xs)) (length (now ys)) ⌝ ∗ ⌜ k + 3 < a + length (now ys) ⌝ }
+    requires { ⌜ Abreast k a b (length (now xs)) (length (now ys)) ⌝ }
     ensures { λ z. ⌜ Walks (now (xs .entry)) (now (ys .entry)) k a b s z ⌝ }
 {
     let mut s0 = s[0];
@@ -58,16 +73,50 @@ fn four_on(xs: &[f64], ys: &[f64], k: usize, a: usize, b: usize, s: [f64; 4]) ->
     let mut s2 = s[2];
     let mut s3 = s[3];
     let mut j = a;
-    while j < b {
+    while j + 1 < b {
         let x = xs[j];
+        let u = xs[j + 1];
         let i = k - j;
-        s0 = s0 + x * ys[i];
-        s1 = s1 + x * ys[i + 1];
-        s2 = s2 + x * ys[i + 2];
-        s3 = s3 + x * ys[i + 3];
-        j += 1;
+        let y0 = ys[i];
+        let y1 = ys[i + 1];
+        let y2 = ys[i + 2];
+        s0 = s0 + x * y0 + u * ys[i - 1];
+        s1 = s1 + x * y1 + u * y0;
+        s2 = s2 + x * y2 + u * y1;
+        s3 = s3 + x * ys[i + 3] + u * y2;
+        j += 2;
+    }
+    if j < b {
+        return four_more(xs, ys, k, j, [s0, s1, s2, s3]);
     }
     [s0, s1, s2, s3]
+}
+
+// Four places from k on with their last terms, for j from k on.
+fn four_last(xs: &[f64], ys: &[f64], k: usize, s: [f64; 4]) -> [f64; 4]
+    requires { ⌜ (k + 3 < length (now xs)) × (3 < length (now ys)) ⌝ }
+    ensures { λ z. ⌜ Ends (now (xs .entry)) (now (ys .entry)) k s z ⌝ }
+{
+    let x0 = xs[k];
+    let x1 = xs[k + 1];
+    let x2 = xs[k + 2];
+    let y0 = ys[0];
+    let y1 = ys[1];
+    let y2 = ys[2];
+    let z0 = s[0] + x0 * y0;
+    let z1 = s[1] + x0 * y1 + x1 * y0;
+    let z2 = s[2] + x0 * y2 + x1 * y1 + x2 * y0;
+    let z3 = s[3] + x0 * ys[3] + x1 * y2 + x2 * y1 + xs[k + 3] * y0;
+    [z0, z1, z2, z3]
+}
+
+// Four places from k on, where neither operand ends before the fourth.
+fn four_full(xs: &[f64], ys: &[f64], k: usize) -> [f64; 4]
+    requires { ⌜ (k + 3 < length (now xs)) × (k + 3 < length (now ys)) ⌝ ∗ ⌜ k + 3 < 64 ⌝ }
+    ensures { λ z. ⌜ ((n m : ℕ) → k + 3 < n → k + 3 < m → Lines (now (xs .entry)) (now (ys .entry)) n m k z) ⌝ }
+{
+    let s = four_on(xs, ys, k, 0, k, [0.0, 0.0, 0.0, 0.0]);
+    four_last(xs, ys, k, s)
 }
 
 // Four places from k on that share the terms for j from a up to b.
@@ -90,6 +139,9 @@ fn four_at(xs: &[f64], nx: usize, ys: &[f64], ny: usize, k: usize) -> [f64; 4]
     requires { ⌜ (nx ≤ length (now xs)) × (ny ≤ length (now ys)) ⌝ ∗ ⌜ k + 3 < 64 ⌝ }
     ensures { λ z. ⌜ Lines (now (xs .entry)) (now (ys .entry)) nx ny k z ⌝ }
 {
+    if (k + 3 < nx) & (k + 3 < ny) {
+        return four_full(xs, ys, k);
+    }
     let a = from(k + 3, ny);
     let b = upto(k, nx);
     if a <= b {
@@ -102,6 +154,17 @@ fn four_at(xs: &[f64], nx: usize, ys: &[f64], ny: usize, k: usize) -> [f64; 4]
     [z0, z1, z2, z3]
 }
 
+// Four places of `res` from k on, each with its sum added.
+fn add_four(res: &mut [f64], k: usize, z: [f64; 4])
+    requires { ⌜ k + 3 < length (now res) ⌝ }
+    ensures { λ _. ⌜ now (res .exit) ≡ putFour (now (res .entry)) k z ⌝ }
+{
+    res[k] = res[k] + z[0];
+    res[k + 1] = res[k + 1] + z[1];
+    res[k + 2] = res[k + 2] + z[2];
+    res[k + 3] = res[k + 3] + z[3];
+}
+
 // Each place of `res` with its sum added.
 pub fn lines(xs: &[f64], nx: usize, ys: &[f64], ny: usize, res: &mut [f64])
     requires { ⌜ (nx ≤ length (now xs)) × (ny ≤ length (now ys)) ⌝ ∗ ⌜ length (now res) ≤ 64 ⌝ }
@@ -111,11 +174,7 @@ pub fn lines(xs: &[f64], nx: usize, ys: &[f64], ny: usize, res: &mut [f64])
     let mut k = 0;
     while k < n {
         if k + 3 < n {
-            let z = four_at(xs, nx, ys, ny, k);
-            res[k] = res[k] + z[0];
-            res[k + 1] = res[k + 1] + z[1];
-            res[k + 2] = res[k + 2] + z[2];
-            res[k + 3] = res[k + 3] + z[3];
+            add_four(res, k, four_at(xs, nx, ys, ny, k));
             k += 4;
         } else {
             res[k] = res[k] + line_at(xs, nx, ys, ny, k);

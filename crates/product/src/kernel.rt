@@ -223,7 +223,7 @@ fn plain(
 }
 
 // The sum of two blocks.
-fn add_blocks(a: &[f64], n: [usize; 4], b: &[f64], m: [usize; 4], out: &mut [f64]) -> [usize; 4]
+pub fn add_blocks(a: &[f64], n: [usize; 4], b: &[f64], m: [usize; 4], out: &mut [f64]) -> [usize; 4]
     requires { ⌜ Joins n m (length (now a)) (length (now b)) (length (now out)) ⌝ }
     ensures { λ r. ⌜ Put (joinedBlock false (block n (now (a .entry))) (block m (now (b .entry)))) (now (out .entry)) (now (out .exit)) r ⌝ }
 {
@@ -234,7 +234,7 @@ fn add_blocks(a: &[f64], n: [usize; 4], b: &[f64], m: [usize; 4], out: &mut [f64
 }
 
 // The first n places of `from`, kept in `work` from `at` on.
-fn keep(from: &[f64], n: usize, work: &mut [f64], at: usize)
+pub fn keep(from: &[f64], n: usize, work: &mut [f64], at: usize)
     requires { ⌜ (n ≤ length (now from)) × (at + n ≤ length (now work)) ⌝ }
     ensures { λ _. ⌜ Kept at (at + n) (take n (now (from .entry))) (now (work .entry)) (now (work .exit)) ⌝ }
 {
@@ -305,7 +305,7 @@ fn linear_product(
 }
 
 // Whether the block with the lengths n is the constant zero.
-fn is_zero(a: &[f64], n: [usize; 4]) -> bool
+pub fn is_zero(a: &[f64], n: [usize; 4]) -> bool
     requires { ⌜ 0 < length (now a) ⌝ }
     ensures { λ r. ⌜ r ≡ isZero (block n (now (a .entry))) ⌝ }
 {
@@ -313,7 +313,7 @@ fn is_zero(a: &[f64], n: [usize; 4]) -> bool
 }
 
 // The constant zero.
-fn zero_to(out: &mut [f64]) -> [usize; 4]
+pub fn zero_to(out: &mut [f64]) -> [usize; 4]
     requires { ⌜ 0 < length (now out) ⌝ }
     ensures { λ r. ⌜ Put (constantBlock zeroF) (now (out .entry)) (now (out .exit)) r ⌝ }
 {

@@ -1,3 +1,5 @@
+use Rattle.general.specs.Rows.{Several}
+use Rattle.general.specs.Plane.{linesOf, rows-lined}
 use lib.ListN.{length-set}
 use Rattle.lists.specs.Table.{length-table}
 use native.Mathlib.Omega.{arith}
@@ -13,8 +15,8 @@ use Rattle.words.specs.Lengths.{lengths-pos}
 use Rattle.general.specs.Index.{inRow}
 use Rattle.general.specs.Product.{stepAt, stride-at, alone-by, span-pos, first-in}
 use Rattle.general.specs.Rows.{placeOf}
-use Rattle.general.specs.Pairs.{Paired, paired-none, paired-more, rows-step, pairs-end, row-none, row-next, rows-end, rows-none, rows-line, rows-length}
-use Rattle.general.specs.Bounds.{row-small, line-size, Turn, turn, left-in, right-in, rowing-next, result-in, pairing-of}
+use Rattle.general.specs.Pairs.{Paired, paired-none, paired-more, rows-step, pairs-end, row-none, row-next, rows-end, rows-none, rows-length}
+use Rattle.general.specs.Bounds.{in-array, row-small, line-size, Turn, turn, left-in, right-in, rowing-next, result-in, pairing-of}
 use borrow.Fn.Kinds.{In}
 use borrow.Fn.PlainCycle.{Measures, is, falls, and}
 use Rattle.general.proofs.each_pair.Reads as each-pair
@@ -27,8 +29,9 @@ use Rattle.general.proofs.rows.Reads as rows
 use Rattle.general.proofs.rows.Kinds as rows-kinds
 use Rattle.general.proofs.+each_pair+each_row+rows.Lts-rows as rows-lts
 use Rattle.general.proofs.line.from.Reads as from-reads
-use Rattle.general.proofs.line.lines.Reads as lines-reads
 use Rattle.general.proofs.line.upto.Reads as upto-reads
+use Rattle.general.proofs.plane.each_line.Reads as each-line-reads
+use Rattle.general.proofs.plane.two_long.Reads as two-long-reads
 use Rattle.general.proofs.+each_pair+each_row+rows.{statement}
 use Rattle.general.proofs.+each_pair+each_row+rows.Tie.{close}
 
@@ -75,7 +78,7 @@ abbrev each-row-claims : ℕ → each-row-lts.Claims
 each-row-claims t = (each-pair-below t, each-pair.Post)
 
 abbrev rows-claims : ℕ → rows-lts.Claims
-rows-claims t = (lines-reads.Asked, lines-reads.Learnt, each-row-below t, each-row.Post)
+rows-claims t = (each-line-reads.Asked, each-line-reads.Learnt, two-long-reads.Asked, two-long-reads.Learnt, each-row-below t, each-row.Post)
 
 turned : (t : ℕ) (c : each-pair-lts.In-loop (each-pair-claims t) (each-pair-at t) each-pair.Post each-pair-Inv-loop each-pair-μ-loop) → Turn (at ((c .before .before .before .before .before .before .before) .args .t2) ((c .before .before .before .before .before .before .before) .args .v)) (at ((c .before .before .before .before .before .before .before) .args .t5) ((c .before .before .before .before .before .before .before) .args .v)) ((c .before .before .before .before .before .before .before) .args .k) (c .before .loop .j)
 turned t c = turn (lengths-pos ((c .before .before .before .before .before .before .before) .pre .1 .0 .right) _ ((c .before .before .before .before .before .before .before) .pre .1 .1 .some)) (c .before .before .before .from .ensures) (c .before .before .upto .ensures) (c .before .loop .inv .1 .from) (c .loop-test .taken)
@@ -84,31 +87,31 @@ each-pair-add-w : (t : ℕ) → each-pair-lts.Need-add-w (each-pair-claims t) (e
 each-pair-add-w t c = let h = (c .before .before .before) .pre .1 .1 .some in omega arith
 
 each-pair-mul-tx : (t : ℕ) → each-pair-lts.Need-mul-tx (each-pair-claims t) (each-pair-at t) each-pair.Post each-pair-Inv-loop each-pair-μ-loop
-each-pair-mul-tx t c = let h = (c .before .before .before) .pre .1 .1 .some in omega arith
+each-pair-mul-tx t c = in-array ((c .before .before .before) .pre .1 .1 .some)
 
 each-pair-array-read-tx : (t : ℕ) → each-pair-lts.Need-array-read-tx (each-pair-claims t) (each-pair-at t) each-pair.Post each-pair-Inv-loop each-pair-μ-loop
-each-pair-array-read-tx t c = let h = (c .before .before .before) .pre .1 .1 .some in omega arith
+each-pair-array-read-tx t c = (c .before .before .before) .pre .1 .1 .some
 
 each-pair-mul-ty : (t : ℕ) → each-pair-lts.Need-mul-ty (each-pair-claims t) (each-pair-at t) each-pair.Post each-pair-Inv-loop each-pair-μ-loop
-each-pair-mul-ty t c = let h = (c .before .before .before) .pre .1 .1 .some in omega arith
+each-pair-mul-ty t c = in-array ((c .before .before .before) .pre .1 .1 .some)
 
 each-pair-array-read-ty : (t : ℕ) → each-pair-lts.Need-array-read-ty (each-pair-claims t) (each-pair-at t) each-pair.Post each-pair-Inv-loop each-pair-μ-loop
-each-pair-array-read-ty t c = let h = (c .before .before .before) .pre .1 .1 .some in omega arith
+each-pair-array-read-ty t c = (c .before .before .before) .pre .1 .1 .some
 
 each-pair-mul-from : (t : ℕ) → each-pair-lts.Need-mul-from (each-pair-claims t) (each-pair-at t) each-pair.Post each-pair-Inv-loop each-pair-μ-loop
-each-pair-mul-from t c = let h = (c .before .before .before) .pre .1 .1 .some in omega arith
+each-pair-mul-from t c = in-array ((c .before .before .before) .pre .1 .1 .some)
 
 each-pair-array-read-from : (t : ℕ) → each-pair-lts.Need-array-read-from (each-pair-claims t) (each-pair-at t) each-pair.Post each-pair-Inv-loop each-pair-μ-loop
-each-pair-array-read-from t c = let h = (c .before .before .before) .pre .1 .1 .some in omega arith
+each-pair-array-read-from t c = (c .before .before .before) .pre .1 .1 .some
 
 each-pair-from-requires : (t : ℕ) → each-pair-lts.Need-from-requires (each-pair-claims t) (each-pair-at t) each-pair.Post each-pair-Inv-loop each-pair-μ-loop
 each-pair-from-requires t c κs = let g = (c .before .before .before) .pre in row-small (g .1 .0 .result) (g .1 .1 .some) (g .1 .1 .row)
 
 each-pair-mul-upto : (t : ℕ) → each-pair-lts.Need-mul-upto (each-pair-claims t) (each-pair-at t) each-pair.Post each-pair-Inv-loop each-pair-μ-loop
-each-pair-mul-upto t c = let h = (c .before .before .before .before) .pre .1 .1 .some in omega arith
+each-pair-mul-upto t c = in-array ((c .before .before .before .before) .pre .1 .1 .some)
 
 each-pair-array-read-upto : (t : ℕ) → each-pair-lts.Need-array-read-upto (each-pair-claims t) (each-pair-at t) each-pair.Post each-pair-Inv-loop each-pair-μ-loop
-each-pair-array-read-upto t c = let h = (c .before .before .before .before) .pre .1 .1 .some in omega arith
+each-pair-array-read-upto t c = (c .before .before .before .before) .pre .1 .1 .some
 
 each-pair-upto-requires : (t : ℕ) → each-pair-lts.Need-upto-requires (each-pair-claims t) (each-pair-at t) each-pair.Post each-pair-Inv-loop each-pair-μ-loop
 each-pair-upto-requires t c κs = let g = (c .before .before .before .before) .pre in row-small (g .1 .0 .result) (g .1 .1 .some) (g .1 .1 .row)
@@ -190,16 +193,16 @@ row-fits : (t : ℕ) (c : each-row-lts.In-loop (each-row-claims t) (each-row-at 
 row-fits t c = omega (arith, result-in ((c .before .before .before .before .before) .pre .1 .0) ((c .before .before .before .before .before) .pre .1 .1 .0) ((c .before .before .before .before .before) .pre .1 .1 .1) (c .loop-test .taken), c .before .loop .inv .1 .len)
 
 each-row-mul-n : (t : ℕ) → each-row-lts.Need-mul-n (each-row-claims t) (each-row-at t) each-row.Post each-row-Inv-loop each-row-μ-loop
-each-row-mul-n t c = let h = (c .before .before .before) .pre .1 .1 .1 .some in omega arith
+each-row-mul-n t c = in-array ((c .before .before .before) .pre .1 .1 .1 .some)
 
 each-row-array-read-n : (t : ℕ) → each-row-lts.Need-array-read-n (each-row-claims t) (each-row-at t) each-row.Post each-row-Inv-loop each-row-μ-loop
-each-row-array-read-n t c = let h = (c .before .before .before) .pre .1 .1 .1 .some in omega arith
+each-row-array-read-n t c = (c .before .before .before) .pre .1 .1 .1 .some
 
 each-row-mul-s : (t : ℕ) → each-row-lts.Need-mul-s (each-row-claims t) (each-row-at t) each-row.Post each-row-Inv-loop each-row-μ-loop
-each-row-mul-s t c = let h = (c .before .before .before) .pre .1 .1 .1 .some in omega arith
+each-row-mul-s t c = in-array ((c .before .before .before) .pre .1 .1 .1 .some)
 
 each-row-array-read-s : (t : ℕ) → each-row-lts.Need-array-read-s (each-row-claims t) (each-row-at t) each-row.Post each-row-Inv-loop each-row-μ-loop
-each-row-array-read-s t c = let h = (c .before .before .before) .pre .1 .1 .1 .some in omega arith
+each-row-array-read-s t c = (c .before .before .before) .pre .1 .1 .1 .some
 
 each-row-loop-holds : (t : ℕ) → each-row-lts.Need-loop-holds (each-row-claims t) (each-row-at t) each-row.Post each-row-Inv-loop each-row-μ-loop
 each-row-loop-holds t c = (omega arith, row-none (at ((c .before .before .before) .args .t8) ((c .before .before .before) .args .v)))
@@ -263,6 +266,9 @@ some t c h = omega (arith, c .pre .1 .1 .within)
 one-long : (t : ℕ) (c : rows-lts.Then2 (rows-claims t) (rows-at t) rows.Post) → alone ((c .before .before .before .before .before) .args .t7) (4 - ((c .before .before .before .before .before) .args .v + 1)) ((c .before .before .before .before .before) .args .v) ≡ true
 one-long t c = sym (alone-by ((c .before .before .before .before .before) .args .t7) ((c .before .before .before .before .before) .pre .1 .0 .by-r) (some t (c .before .before .before .before .before) (c .before .if1 .left))) ∙ c .if2 .taken
 
+several : (t : ℕ) (c : rows-lts.Else2 (rows-claims t) (rows-at t) rows.Post) → Several ((c .before .before .before .before .before) .args .t7) ((c .before .before .before .before .before) .args .v)
+several t c = let h = some t (c .before .before .before .before .before) (c .before .if1 .left) in record { some = h; more = sym (alone-by ((c .before .before .before .before .before) .args .t7) ((c .before .before .before .before .before) .pre .1 .0 .by-r) h) ∙ c .if2 .left }
+
 rows-slice-read-res : (t : ℕ) → rows-lts.Need-slice-read-res (rows-claims t) (rows-at t) rows.Post
 rows-slice-read-res t c = omega (arith, (c .before .before .before .before .before) .pre .1 .1 .full, span-pos ((c .before .before .before .before .before) .pre .1 .0 .result) ((c .before .before .before .before .before) .pre .1 .1 .within))
 
@@ -282,57 +288,87 @@ rows-returns : (t : ℕ) → rows-lts.Need-returns (rows-claims t) (rows-at t) r
 rows-returns t c = let a = (c .before .before .before .before .before .before .before) .args in rows-none (a .t2) (a .t5) (a .t7) (a .xs .now) (a .ys .now) (a .res .now) (c .before .before .before .if1 .taken) ((c .before .before .before .before .before .before .before) .pre .1 .1 .full)
 
 rows-mul-if2 : (t : ℕ) → rows-lts.Need-mul-if2 (rows-claims t) (rows-at t) rows.Post
-rows-mul-if2 t c = omega (arith, some t (c .before .before .before .before) (c .if1 .left))
+rows-mul-if2 t c = in-array (some t (c .before .before .before .before) (c .if1 .left))
 
 rows-array-read-if2 : (t : ℕ) → rows-lts.Need-array-read-if2 (rows-claims t) (rows-at t) rows.Post
-rows-array-read-if2 t c = omega (arith, some t (c .before .before .before .before) (c .if1 .left))
+rows-array-read-if2 t c = some t (c .before .before .before .before) (c .if1 .left)
 
 rows-mul-if2-2 : (t : ℕ) → rows-lts.Need-mul-if2-2 (rows-claims t) (rows-at t) rows.Post
-rows-mul-if2-2 t c = omega (arith, some t (c .before .before .before .before) (c .if1 .left))
+rows-mul-if2-2 t c = in-array (some t (c .before .before .before .before) (c .if1 .left))
 
 rows-array-read-if2-2 : (t : ℕ) → rows-lts.Need-array-read-if2-2 (rows-claims t) (rows-at t) rows.Post
-rows-array-read-if2-2 t c = omega (arith, some t (c .before .before .before .before) (c .if1 .left))
+rows-array-read-if2-2 t c = some t (c .before .before .before .before) (c .if1 .left)
 
 rows-mul-nx : (t : ℕ) → rows-lts.Need-mul-nx (rows-claims t) (rows-at t) rows.Post
-rows-mul-nx t c = omega (arith, some t (c .before .before .before .before .before) (c .before .if1 .left))
+rows-mul-nx t c = in-array (some t (c .before .before .before .before .before) (c .before .if1 .left))
 
 rows-array-read-nx : (t : ℕ) → rows-lts.Need-array-read-nx (rows-claims t) (rows-at t) rows.Post
-rows-array-read-nx t c = omega (arith, some t (c .before .before .before .before .before) (c .before .if1 .left))
+rows-array-read-nx t c = some t (c .before .before .before .before .before) (c .before .if1 .left)
 
 rows-mul-ny : (t : ℕ) → rows-lts.Need-mul-ny (rows-claims t) (rows-at t) rows.Post
-rows-mul-ny t c = omega (arith, some t (c .before .before .before .before .before) (c .before .if1 .left))
+rows-mul-ny t c = in-array (some t (c .before .before .before .before .before) (c .before .if1 .left))
 
 rows-array-read-ny : (t : ℕ) → rows-lts.Need-array-read-ny (rows-claims t) (rows-at t) rows.Post
-rows-array-read-ny t c = omega (arith, some t (c .before .before .before .before .before) (c .before .if1 .left))
+rows-array-read-ny t c = some t (c .before .before .before .before .before) (c .before .if1 .left)
 
-rows-lines-requires : (t : ℕ) → rows-lts.Need-lines-requires (rows-claims t) (rows-at t) rows.Post
-rows-lines-requires t c κs =
+rows-each-line-requires : (t : ℕ) → rows-lts.Need-each-line-requires (rows-claims t) (rows-at t) rows.Post
+rows-each-line-requires t c κs =
     let g = (c .before .before .before .before .before .before) .pre in
     let h = some t (c .before .before .before .before .before .before) (c .before .before .if1 .left) in
-    ((first-in (g .1 .0 .left) h (g .1 .1 .room-x), first-in (g .1 .0 .right) h (g .1 .1 .room-y)), line-size (g .1 .0 .result) h (one-long t (c .before)) (g .1 .1 .full))
+    record {
+      below = omega arith;
+      small = omega arith;
+      size = line-size (g .1 .0 .result) h (one-long t (c .before)) (g .1 .1 .full);
+      left = λ j p q. omega (arith, first-in (g .1 .0 .left) h (g .1 .1 .room-x));
+      right = λ j p q. omega (arith, first-in (g .1 .0 .right) h (g .1 .1 .room-y));
+    }
 
 rows-same-length-2 : (t : ℕ) → rows-lts.Need-same-length-2 (rows-claims t) (rows-at t) rows.Post
-rows-same-length-2 t c = ap length (c .before .before .lines .ensures) ∙ length-table _ _
+unfolding linesOf
+rows-same-length-2 t c = ap length (c .before .before .each-line .ensures) ∙ length-table _ _
 
 rows-returns-2 : (t : ℕ) → rows-lts.Need-returns-2 (rows-claims t) (rows-at t) rows.Post
 rows-returns-2 t c =
     let g = (c .before .before .before .before .before .before .before .before .before) .pre in
     let a = (c .before .before .before .before .before .before .before .before .before) .args in
     let h = some t (c .before .before .before .before .before .before .before .before .before) (c .before .before .before .before .before .if1 .left) in
-    rows-line (a .t2) (a .t5) (a .t7) (a .v) (a .xs .now) (a .ys .now) (a .res .now) (g .1 .0 .result) h (one-long t (c .before .before .before .before)) (g .1 .1 .full) (c .before .before .lines .ensures)
+    rows-lined (a .t2) (a .t5) (a .t7) (a .v) (a .xs .now) (a .ys .now) (a .res .now) (g .1 .0 .result) h (one-long t (c .before .before .before .before)) (g .1 .1 .full) (c .before .before .each-line .ensures)
 
-rows-each-row-requires : (t : ℕ) → rows-lts.Need-each-row-requires (rows-claims t) (rows-at t) rows.Post
-rows-each-row-requires t c κs =
-    let g = (c .before .before .before .before .before .before) .pre in
-    let a = (c .before .before .before .before .before .before) .args in
-    let h = some t (c .before .before .before .before .before .before) (c .before .before .if1 .left) in
-    (omega (arith, g .0), (g .1 .0, (g .1 .1, record { some = h; more = sym (alone-by (a .t7) (g .1 .0 .by-r) h) ∙ c .before .if2 .left })))
+rows-add-w : (t : ℕ) → rows-lts.Need-add-w (rows-claims t) (rows-at t) rows.Post
+rows-add-w t c = omega (arith, some t (c .before .before .before .before .before) (c .before .if1 .left))
+
+rows-mul-if4 : (t : ℕ) → rows-lts.Need-mul-if4 (rows-claims t) (rows-at t) rows.Post
+rows-mul-if4 t c = in-array (c .if3 .taken)
+
+rows-array-read-if4 : (t : ℕ) → rows-lts.Need-array-read-if4 (rows-claims t) (rows-at t) rows.Post
+rows-array-read-if4 t c = c .if3 .taken
+
+rows-mul-if4-2 : (t : ℕ) → rows-lts.Need-mul-if4-2 (rows-claims t) (rows-at t) rows.Post
+rows-mul-if4-2 t c = in-array (c .if3 .taken)
+
+rows-array-read-if4-2 : (t : ℕ) → rows-lts.Need-array-read-if4-2 (rows-claims t) (rows-at t) rows.Post
+rows-array-read-if4-2 t c = c .if3 .taken
+
+rows-two-long-requires : (t : ℕ) → rows-lts.Need-two-long-requires (rows-claims t) (rows-at t) rows.Post
+rows-two-long-requires t c κs =
+    let g = (c .before .before .before .before .before .before .before .before) .pre in
+    let l = sym (alone-by ((c .before .before .before .before .before .before .before .before) .args .t7) (g .1 .0 .by-r) (c .before .before .if3 .taken)) ∙ c .before .if4 .taken in
+    (g .1 .0, (g .1 .1, (several t (c .before .before .before), record { next = c .before .before .if3 .taken; last = l })))
 
 rows-same-length-3 : (t : ℕ) → rows-lts.Need-same-length-3 (rows-claims t) (rows-at t) rows.Post
-rows-same-length-3 t c = let a = (c .before .before .before .before .before .before .before .before .before) .args in ap length (c .before .before .each-row .ensures) ∙ (rows-length (a .t2) (a .t5) (a .t7) (a .v) (a .xs .now) (a .ys .now) (a .res .now) ∙ sym ((c .before .before .before .before .before .before .before .before .before) .pre .1 .1 .full))
+rows-same-length-3 t c = let a = (c .before .before .before .before .before .before .before .before .before .before .before) .args in ap length (c .before .before .two-long .ensures) ∙ (rows-length (a .t2) (a .t5) (a .t7) (a .v) (a .xs .now) (a .ys .now) (a .res .now) ∙ sym ((c .before .before .before .before .before .before .before .before .before .before .before) .pre .1 .1 .full))
 
 rows-returns-3 : (t : ℕ) → rows-lts.Need-returns-3 (rows-claims t) (rows-at t) rows.Post
-rows-returns-3 t c = c .before .before .each-row .ensures
+rows-returns-3 t c = c .before .before .two-long .ensures
+
+rows-each-row-requires : (t : ℕ) → rows-lts.Need-each-row-requires (rows-claims t) (rows-at t) rows.Post
+rows-each-row-requires t c κs = let g = (c .before .before .before .before .before .before .before) .pre in (omega (arith, g .0), (g .1 .0, (g .1 .1, several t (c .before .before))))
+
+rows-same-length-4 : (t : ℕ) → rows-lts.Need-same-length-4 (rows-claims t) (rows-at t) rows.Post
+rows-same-length-4 t c = let a = (c .before .before .before .before .before .before .before .before .before .before) .args in ap length (c .before .before .each-row .ensures) ∙ (rows-length (a .t2) (a .t5) (a .t7) (a .v) (a .xs .now) (a .ys .now) (a .res .now) ∙ sym ((c .before .before .before .before .before .before .before .before .before .before) .pre .1 .1 .full))
+
+rows-returns-4 : (t : ℕ) → rows-lts.Need-returns-4 (rows-claims t) (rows-at t) rows.Post
+rows-returns-4 t c = c .before .before .each-row .ensures
 
 pub +each-pair+each-row+rows-spec : {M : Type 1} → statement M
 +each-pair+each-row+rows-spec = close μ-each-pair μ-each-row μ-rows (λ t. each-pair-lts.spec (each-pair-claims t)
@@ -392,8 +428,7 @@ pub +each-pair+each-row+rows-spec : {M : Type 1} → statement M
     (each-row-loop-again t)
     (each-row-same-length t)
     (each-row-returns t))
-    λ t. rows-lts.spec
-    (rows-claims t)
+    λ t. rows-lts.spec (rows-claims t)
     (rows-at t)
     rows.Post
     (rows-slice-read-res t)
@@ -410,9 +445,17 @@ pub +each-pair+each-row+rows-spec : {M : Type 1} → statement M
     (rows-array-read-nx t)
     (rows-mul-ny t)
     (rows-array-read-ny t)
-    (rows-lines-requires t)
+    (rows-each-line-requires t)
     (rows-same-length-2 t)
     (rows-returns-2 t)
-    (rows-each-row-requires t)
+    (rows-add-w t)
+    (rows-mul-if4 t)
+    (rows-array-read-if4 t)
+    (rows-mul-if4-2 t)
+    (rows-array-read-if4-2 t)
+    (rows-two-long-requires t)
     (rows-same-length-3 t)
     (rows-returns-3 t)
+    (rows-each-row-requires t)
+    (rows-same-length-4 t)
+    (rows-returns-4 t)

@@ -1,6 +1,6 @@
 use native.Mathlib.Omega.{arith}
 use lib.Ieee.{ofBits}
-use Rattle.general.specs.Fours.{head-in, tail-in, shared-in, shared-far, four-lines}
+use Rattle.general.specs.Fours.{head-in, tail-in, shared-in, four-lines}
 use Rattle.general.proofs.line.four_by.Statement.{statement}
 use Rattle.general.proofs.line.four_by.Tie as tie
 
@@ -35,7 +35,7 @@ sum-on-requires-3 : tie.Need-sum-on-requires-3
 sum-on-requires-3 c κs = head-in ((c .before .before .before .before .before .before .before) .pre) (omega arith) (omega arith) (c .from3 .ensures)
 
 four-on-requires : tie.Need-four-on-requires
-four-on-requires c κs = (shared-in ((c .before .before .before .before .before .before .before .before) .pre), shared-far ((c .before .before .before .before .before .before .before .before) .pre))
+four-on-requires c κs = shared-in ((c .before .before .before .before .before .before .before .before) .pre)
 
 add-sum-on-3 : tie.Need-add-sum-on-3
 add-sum-on-3 c = let p = (c .before .before .before .before .before .before .before .before .before) .pre .small in omega arith

@@ -1,0 +1,112 @@
+//! The proved functions of the archive, called over lent buffers that are allocated once, on 64-byte bounds.
+use crate::plain::Poly;
+
+extern "C" {
+    fn taylor_multiply(
+        ah: u64,
+        a: *const f64,
+        a_len: usize,
+        bh: u64,
+        b: *const f64,
+        b_len: usize,
+        out: *mut f64,
+        out_len: usize,
+        scratch: *mut f64,
+        scratch_len: usize,
+    ) -> u64;
+}
+
+/// A buffer that starts on a 64-byte bound.
+pub struct Aligned {
+    all: Vec<f64>,
+    from: usize,
+    len: usize,
+}
+
+impl Aligned {
+    pub fn new(len: usize) -> Aligned {
+        let all = vec![0.0; len + 8];
+        let from = all.as_ptr().align_offset(64);
+        Aligned { all, from, len }
+    }
+
+    pub fn of(xs: &[f64]) -> Aligned {
+        let mut a = Aligned::new(xs.len());
+        a.get_mut().copy_from_slice(xs);
+        a
+    }
+
+    pub fn get(&self) -> &[f64] {
+        &self.all[self.from..self.from + self.len]
+    }
+
+    pub fn get_mut(&mut self) -> &mut [f64] {
+        &mut self.all[self.from..self.from + self.len]
+    }
+}
+
+/// Document 01's header word.
+fn word(p: &Poly) -> u64 {
+    let fields = (0..4).fold(p.vars as u64, |w, v| (w << 12) | ((p.limits[v] as u64 - 1) << 6) | (p.lengths[v] as u64 - 1));
+    fields << 13
+}
+
+/// Operands, result and scratch of one case; `head` is the last answer.
+pub struct Ours {
+    ah: u64,
+    a: Aligned,
+    bh: u64,
+    b: Aligned,
+    out: Aligned,
+    scratch: Aligned,
+    head: u64,
+}
+
+impl Ours {
+    /// n is the announced count of the result.
+    pub fn new(a: &Poly, b: &Poly, n: usize) -> Ours {
+        Ours {
+            ah: word(a),
+            a: Aligned::of(&a.coeffs),
+            bh: word(b),
+            b: Aligned::of(&b.coeffs),
+            out: Aligned::new(n),
+            scratch: Aligned::new(8 * n),
+            head: 0,
+        }
+    }
+
+    pub fn multiply(&mut self) {
+        let (a, b) = (self.a.get(), self.b.get());
+        let out = &mut self.out.all[self.out.from..];
+        let scratch = &mut self.scratch.all[self.scratch.from..];
+        // The slices are whole, and `out` and `scratch` overlap nothing: what the function asks of a caller.
+        self.head = unsafe {
+            taylor_multiply(
+                self.ah,
+                a.as_ptr(),
+                a.len(),
+                self.bh,
+                b.as_ptr(),
+                b.len(),
+                out.as_mut_ptr(),
+                self.out.len,
+                scratch.as_mut_ptr(),
+                self.scratch.len,
+            )
+        };
+    }
+
+    /// The header word and the stored coefficients.
+    pub fn answer(&self) -> (u64, Vec<u64>) {
+        let h = self.head;
+        assert!(h & 31 == 0, "refused: {h}");
+        let stored: usize = (0..4).map(|v| (h >> (13 + 12 * (3 - v)) & 63) as usize + 1).product();
+        (h, self.out.get()[..stored].iter().map(|x| x.to_bits()).collect())
+    }
+}
+
+/// What a plain polynomial would be as an answer.
+pub fn answer_of(p: &Poly) -> (u64, Vec<u64>) {
+    (word(p), p.coeffs.iter().map(|x| x.to_bits()).collect())
+}
