@@ -88,6 +88,26 @@ uint64_t taylor_multiply(uint64_t ah, const double *a, size_t a_len, uint64_t bh
 uint64_t taylor_divide(uint64_t ah, const double *a, size_t a_len, uint64_t bh, const double *b, size_t b_len, double *out, size_t out_len,
                        double *scratch, size_t scratch_len);
 
+/* exp and log; value is theirs at the constant term, exp(a[0]) or log(a[0]) by the caller: refusals 1, 2, 5, 6 */
+uint64_t taylor_exp(uint64_t head, const double *a, size_t a_len, double value, double *out, size_t out_len, double *scratch,
+                    size_t scratch_len);
+uint64_t taylor_log(uint64_t head, const double *a, size_t a_len, double value, double *out, size_t out_len, double *scratch,
+                    size_t scratch_len);
+
+/* a to the power e; 0 gives one with no variables: refusals 1, 2, 5, 6 */
+uint64_t taylor_pow(uint64_t head, const double *a, size_t a_len, uint32_t e, double *out, size_t out_len, double *scratch,
+                    size_t scratch_len);
+
+/* the n-th derivative in v; the same without its factor n!; the coefficients of v moved down by n, the sum of those that would leave added
+   at 0: refusals 1, 2, 3, 4, 5 */
+uint64_t taylor_derivative(uint64_t head, const double *a, size_t a_len, uint64_t v, uint64_t n, double *out, size_t out_len);
+uint64_t taylor_taylor_expansion_of_coeff(uint64_t head, const double *a, size_t a_len, uint64_t v, uint64_t n, double *out, size_t out_len);
+uint64_t taylor_shift_down(uint64_t head, const double *a, size_t a_len, uint64_t v, uint64_t n, double *out, size_t out_len);
+
+/* a with b for its variable v, cut to the smaller limits; a itself where it has no such variable: refusals 1, 2, 5, 6 */
+uint64_t taylor_subst_var(uint64_t ah, const double *a, size_t a_len, uint64_t bh, const double *b, size_t b_len, uint64_t v, double *out,
+                          size_t out_len, double *scratch, size_t scratch_len);
+
 #ifdef __cplusplus
 }
 #endif

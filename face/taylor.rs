@@ -42,6 +42,25 @@ mod face {
             ah: u64, a: *const f64, a_len: usize, bh: u64, b: *const f64, b_len: usize,
             out: *mut f64, out_len: usize, scratch: *mut f64, scratch_len: usize,
         ) -> u64;
+        pub fn taylor_exp(
+            head: u64, a: *const f64, a_len: usize, value: f64,
+            out: *mut f64, out_len: usize, scratch: *mut f64, scratch_len: usize,
+        ) -> u64;
+        pub fn taylor_log(
+            head: u64, a: *const f64, a_len: usize, value: f64,
+            out: *mut f64, out_len: usize, scratch: *mut f64, scratch_len: usize,
+        ) -> u64;
+        pub fn taylor_pow(
+            head: u64, a: *const f64, a_len: usize, e: u32,
+            out: *mut f64, out_len: usize, scratch: *mut f64, scratch_len: usize,
+        ) -> u64;
+        pub fn taylor_derivative(head: u64, a: *const f64, a_len: usize, v: u64, n: u64, out: *mut f64, out_len: usize) -> u64;
+        pub fn taylor_taylor_expansion_of_coeff(head: u64, a: *const f64, a_len: usize, v: u64, n: u64, out: *mut f64, out_len: usize) -> u64;
+        pub fn taylor_shift_down(head: u64, a: *const f64, a_len: usize, v: u64, n: u64, out: *mut f64, out_len: usize) -> u64;
+        pub fn taylor_subst_var(
+            ah: u64, a: *const f64, a_len: usize, bh: u64, b: *const f64, b_len: usize, v: u64,
+            out: *mut f64, out_len: usize, scratch: *mut f64, scratch_len: usize,
+        ) -> u64;
     }
 }
 
@@ -60,8 +79,32 @@ fn reading(call: impl FnOnce(*mut f64) -> u64) -> Result<f64, Refusal> {
     answer(call(&mut value)).map(|_| value)
 }
 
+type Pair = unsafe extern "C" fn(u64, *const f64, usize, u64, *const f64, usize, *mut f64, usize, *mut f64, usize) -> u64;
+type Shift = unsafe extern "C" fn(u64, *const f64, usize, u64, u64, *mut f64, usize) -> u64;
+type Series = unsafe extern "C" fn(u64, *const f64, usize, f64, *mut f64, usize, *mut f64, usize) -> u64;
+
 // In each call below the pointers and counts are those of slices that are borrowed for the call, and the `&mut` ones overlap nothing; the
 // library is proved to stay within the counts for all words and numbers.
+
+/// A function of two polynomials.
+fn pair(call: Pair, (ah, a): (u64, &[f64]), (bh, b): (u64, &[f64]), out: &mut [f64], scratch: &mut [f64]) -> Result<u64, Refusal> {
+    answer(unsafe {
+        call(
+            ah, a.as_ptr(), a.len(), bh, b.as_ptr(), b.len(),
+            out.as_mut_ptr(), out.len(), scratch.as_mut_ptr(), scratch.len(),
+        )
+    })
+}
+
+/// A function of a polynomial, one of its variables and a number.
+fn shift(call: Shift, head: u64, a: &[f64], v: u64, n: u64, out: &mut [f64]) -> Result<u64, Refusal> {
+    answer(unsafe { call(head, a.as_ptr(), a.len(), v, n, out.as_mut_ptr(), out.len()) })
+}
+
+/// A function of a polynomial and its value at the constant term.
+fn series(call: Series, head: u64, a: &[f64], value: f64, out: &mut [f64], scratch: &mut [f64]) -> Result<u64, Refusal> {
+    answer(unsafe { call(head, a.as_ptr(), a.len(), value, out.as_mut_ptr(), out.len(), scratch.as_mut_ptr(), scratch.len()) })
+}
 
 /// +0.0, with no variables.
 pub fn zero(out: &mut [f64]) -> Result<u64, Refusal> {
@@ -139,12 +182,12 @@ pub fn tail(head: u64, a: &[f64], k: u64) -> Result<f64, Refusal> {
 
 /// The powers of v up to `order`.
 pub fn taylor_polynomial(head: u64, a: &[f64], v: u64, order: u64, out: &mut [f64]) -> Result<u64, Refusal> {
-    answer(unsafe { face::taylor_taylor_polynomial(head, a.as_ptr(), a.len(), v, order, out.as_mut_ptr(), out.len()) })
+    shift(face::taylor_taylor_polynomial, head, a, v, order, out)
 }
 
 /// The row `order` of v, a zero past the stored length.
 pub fn coefficients_of_term(head: u64, a: &[f64], v: u64, order: u64, out: &mut [f64]) -> Result<u64, Refusal> {
-    answer(unsafe { face::taylor_coefficients_of_term(head, a.as_ptr(), a.len(), v, order, out.as_mut_ptr(), out.len()) })
+    shift(face::taylor_coefficients_of_term, head, a, v, order, out)
 }
 
 /// -a.
@@ -154,39 +197,61 @@ pub fn negate(head: u64, a: &[f64], out: &mut [f64]) -> Result<u64, Refusal> {
 
 /// a + b, cut to the smaller limits.
 pub fn add(ah: u64, a: &[f64], bh: u64, b: &[f64], out: &mut [f64], scratch: &mut [f64]) -> Result<u64, Refusal> {
-    answer(unsafe {
-        face::taylor_add(
-            ah, a.as_ptr(), a.len(), bh, b.as_ptr(), b.len(),
-            out.as_mut_ptr(), out.len(), scratch.as_mut_ptr(), scratch.len(),
-        )
-    })
+    pair(face::taylor_add, (ah, a), (bh, b), out, scratch)
 }
 
 /// a - b, cut to the smaller limits.
 pub fn subtract(ah: u64, a: &[f64], bh: u64, b: &[f64], out: &mut [f64], scratch: &mut [f64]) -> Result<u64, Refusal> {
-    answer(unsafe {
-        face::taylor_subtract(
-            ah, a.as_ptr(), a.len(), bh, b.as_ptr(), b.len(),
-            out.as_mut_ptr(), out.len(), scratch.as_mut_ptr(), scratch.len(),
-        )
-    })
+    pair(face::taylor_subtract, (ah, a), (bh, b), out, scratch)
 }
 
 /// a * b, cut to the smaller limits.
 pub fn multiply(ah: u64, a: &[f64], bh: u64, b: &[f64], out: &mut [f64], scratch: &mut [f64]) -> Result<u64, Refusal> {
-    answer(unsafe {
-        face::taylor_multiply(
-            ah, a.as_ptr(), a.len(), bh, b.as_ptr(), b.len(),
-            out.as_mut_ptr(), out.len(), scratch.as_mut_ptr(), scratch.len(),
-        )
-    })
+    pair(face::taylor_multiply, (ah, a), (bh, b), out, scratch)
 }
 
 /// a / b, cut to the smaller limits.
 pub fn divide(ah: u64, a: &[f64], bh: u64, b: &[f64], out: &mut [f64], scratch: &mut [f64]) -> Result<u64, Refusal> {
+    pair(face::taylor_divide, (ah, a), (bh, b), out, scratch)
+}
+
+/// exp; `value` is its value at the constant term.
+pub fn exp(head: u64, a: &[f64], value: f64, out: &mut [f64], scratch: &mut [f64]) -> Result<u64, Refusal> {
+    series(face::taylor_exp, head, a, value, out, scratch)
+}
+
+/// log; `value` is its value at the constant term.
+pub fn log(head: u64, a: &[f64], value: f64, out: &mut [f64], scratch: &mut [f64]) -> Result<u64, Refusal> {
+    series(face::taylor_log, head, a, value, out, scratch)
+}
+
+/// a to the power e.
+pub fn pow(head: u64, a: &[f64], e: u32, out: &mut [f64], scratch: &mut [f64]) -> Result<u64, Refusal> {
     answer(unsafe {
-        face::taylor_divide(
-            ah, a.as_ptr(), a.len(), bh, b.as_ptr(), b.len(),
+        face::taylor_pow(head, a.as_ptr(), a.len(), e, out.as_mut_ptr(), out.len(), scratch.as_mut_ptr(), scratch.len())
+    })
+}
+
+/// The n-th derivative in v.
+pub fn derivative(head: u64, a: &[f64], v: u64, n: u64, out: &mut [f64]) -> Result<u64, Refusal> {
+    shift(face::taylor_derivative, head, a, v, n, out)
+}
+
+/// The derivative without its factor n!.
+pub fn taylor_expansion_of_coeff(head: u64, a: &[f64], v: u64, n: u64, out: &mut [f64]) -> Result<u64, Refusal> {
+    shift(face::taylor_taylor_expansion_of_coeff, head, a, v, n, out)
+}
+
+/// The coefficients of v moved down by n, the sum of those that would leave added at 0.
+pub fn shift_down(head: u64, a: &[f64], v: u64, n: u64, out: &mut [f64]) -> Result<u64, Refusal> {
+    shift(face::taylor_shift_down, head, a, v, n, out)
+}
+
+/// a with b for its variable v, cut to the smaller limits; a itself where it has no such variable.
+pub fn subst_var(ah: u64, a: &[f64], bh: u64, b: &[f64], v: u64, out: &mut [f64], scratch: &mut [f64]) -> Result<u64, Refusal> {
+    answer(unsafe {
+        face::taylor_subst_var(
+            ah, a.as_ptr(), a.len(), bh, b.as_ptr(), b.len(), v,
             out.as_mut_ptr(), out.len(), scratch.as_mut_ptr(), scratch.len(),
         )
     })

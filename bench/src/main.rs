@@ -12,7 +12,7 @@ use ours::{Aligned, Ours};
 use plain::Poly;
 use std::hint::black_box;
 
-/// What one case is made of: a polynomial with `lengths` as its limits and lengths, and a right factor of the kind.
+/// What one case is made of: a polynomial with `lengths` as its limits and lengths, and a right factor, or what is put for its first variable.
 struct Case {
     operation: &'static Operation,
     factor: &'static str,
@@ -30,15 +30,35 @@ struct Operation {
     module: fn(&mut module::Module),
 }
 
-const OPERATIONS: &[Operation] = &[Operation {
-    name: "multiply",
-    sizes: &[&[16], &[64], &[16, 16], &[64, 64], &[4, 4, 4, 4], &[8, 8, 8, 8]],
-    factors: &["dense", "linear", "constant"],
-    ours: Ours::multiply,
-    plain: |p| plain::multiply(&p.a, &p.b, &mut p.out),
-    #[cfg(module)]
-    module: module::Module::multiply,
-}];
+const OPERATIONS: &[Operation] = &[
+    Operation {
+        name: "multiply",
+        sizes: &[&[16], &[64], &[16, 16], &[64, 64], &[4, 4, 4, 4], &[8, 8, 8, 8]],
+        factors: &["dense", "linear", "constant"],
+        ours: Ours::multiply,
+        plain: |p| plain::multiply(&p.a, &p.b, &mut p.out),
+        #[cfg(module)]
+        module: module::Module::multiply,
+    },
+    Operation {
+        name: "pow",
+        sizes: &[&[64], &[16, 16]],
+        factors: &["10"],
+        ours: Ours::pow,
+        plain: |p| plain::pow(&p.a, 10, &mut p.out),
+        #[cfg(module)]
+        module: module::Module::pow,
+    },
+    Operation {
+        name: "subst_var",
+        sizes: &[&[64], &[16, 16]],
+        factors: &["horner16"],
+        ours: Ours::subst_var,
+        plain: |p| plain::subst_var(&p.a, 0, &p.b, &mut p.out),
+        #[cfg(module)]
+        module: module::Module::subst_var,
+    },
+];
 
 /// Operands and result of one case in plain Rust.
 struct Plain {
@@ -132,17 +152,19 @@ impl Case {
         self.lengths.iter().product()
     }
 
-    /// The left operand is full; the right one is full, linear in the first variable, or a constant, under the same limits.
+    /// The left operand is full, or has 16 rows of its first variable; the right one is full, linear in the first variable, or a constant,
+    /// under the same limits. A power has none.
     fn operands(&self) -> (Poly, Poly) {
         let mut numbers = Numbers(7);
         let (vars, limits) = (self.lengths.len(), padded(self.lengths));
-        let right = match self.factor {
-            "dense" => limits,
-            "linear" => [2, 1, 1, 1],
-            "constant" => [1, 1, 1, 1],
+        let (left, right) = match self.factor {
+            "dense" => (limits, limits),
+            "linear" => (limits, [2, 1, 1, 1]),
+            "constant" | "10" => (limits, [1, 1, 1, 1]),
+            "horner16" => ([16, limits[1], limits[2], limits[3]], limits),
             other => panic!("no such factor: {other}"),
         };
-        (filled(vars, limits, limits, &mut numbers), filled(vars, limits, right, &mut numbers))
+        (filled(vars, limits, left, &mut numbers), filled(vars, limits, right, &mut numbers))
     }
 }
 

@@ -2,6 +2,7 @@
 use crate::plain::Poly;
 use genfer::multivariate_taylor::TaylorPoly;
 use genfer::number::F64;
+use genfer::ppl::Var;
 use ndarray::ArrayD;
 
 /// Operands and last result of one case.
@@ -28,6 +29,14 @@ impl Module {
 
     pub fn multiply(&mut self) {
         self.out = Some(self.a.clone() * self.b.clone());
+    }
+
+    pub fn pow(&mut self) {
+        self.out = Some(self.a.pow(10));
+    }
+
+    pub fn subst_var(&mut self) {
+        self.out = Some(self.a.subst_var(Var(0), &self.b));
     }
 
     pub fn answer(&self) -> Poly {

@@ -1,20 +1,9 @@
 //! The proved functions of the archive, called over lent buffers that are allocated once, on 64-byte bounds.
 use crate::plain::Poly;
 
-extern "C" {
-    fn taylor_multiply(
-        ah: u64,
-        a: *const f64,
-        a_len: usize,
-        bh: u64,
-        b: *const f64,
-        b_len: usize,
-        out: *mut f64,
-        out_len: usize,
-        scratch: *mut f64,
-        scratch_len: usize,
-    ) -> u64;
-}
+#[path = "../../face/taylor.rs"]
+#[allow(dead_code)]
+mod taylor;
 
 /// A buffer that starts on a 64-byte bound.
 pub struct Aligned {
@@ -51,6 +40,11 @@ fn word(p: &Poly) -> u64 {
     fields << 13
 }
 
+/// The header word that a call answered.
+fn told(answer: Result<u64, taylor::Refusal>) -> u64 {
+    answer.unwrap_or_else(|refusal| panic!("{refusal:?}"))
+}
+
 /// Operands, result and scratch of one case; `head` is the last answer.
 pub struct Ours {
     ah: u64,
@@ -77,30 +71,23 @@ impl Ours {
     }
 
     pub fn multiply(&mut self) {
-        let (a, b) = (self.a.get(), self.b.get());
-        let out = &mut self.out.all[self.out.from..];
-        let scratch = &mut self.scratch.all[self.scratch.from..];
-        // The slices are whole, and `out` and `scratch` overlap nothing: what the function asks of a caller.
-        self.head = unsafe {
-            taylor_multiply(
-                self.ah,
-                a.as_ptr(),
-                a.len(),
-                self.bh,
-                b.as_ptr(),
-                b.len(),
-                out.as_mut_ptr(),
-                self.out.len,
-                scratch.as_mut_ptr(),
-                self.scratch.len,
-            )
-        };
+        let (a, b, out, scratch) = (self.a.get(), self.b.get(), self.out.get_mut(), self.scratch.get_mut());
+        self.head = told(taylor::multiply(self.ah, a, self.bh, b, out, scratch));
+    }
+
+    pub fn pow(&mut self) {
+        let (a, out, scratch) = (self.a.get(), self.out.get_mut(), self.scratch.get_mut());
+        self.head = told(taylor::pow(self.ah, a, 10, out, scratch));
+    }
+
+    pub fn subst_var(&mut self) {
+        let (a, b, out, scratch) = (self.a.get(), self.b.get(), self.out.get_mut(), self.scratch.get_mut());
+        self.head = told(taylor::subst_var(self.ah, a, self.bh, b, 0, out, scratch));
     }
 
     /// The header word and the stored coefficients.
     pub fn answer(&self) -> (u64, Vec<u64>) {
         let h = self.head;
-        assert!(h & 31 == 0, "refused: {h}");
         let stored: usize = (0..4).map(|v| (h >> (13 + 12 * (3 - v)) & 63) as usize + 1).product();
         (h, self.out.get()[..stored].iter().map(|x| x.to_bits()).collect())
     }

@@ -171,8 +171,8 @@ fn copy(x: Block, out: &mut Poly) {
     out.coeffs.extend_from_slice(x.coeffs);
 }
 
-/// a * b, cut to the smaller limits. `out`'s vector is used again.
-pub fn multiply(a: &Poly, b: &Poly, out: &mut Poly) {
+/// The smaller limits; a variable that one lacks takes the other's.
+fn smaller(a: &Poly, b: &Poly) -> (usize, [usize; 4]) {
     let vars = a.vars.max(b.vars);
     let mut limits = [1; 4];
     for (v, l) in limits.iter_mut().enumerate().take(vars) {
@@ -182,6 +182,12 @@ pub fn multiply(a: &Poly, b: &Poly, out: &mut Poly) {
             _ => b.limits[v],
         };
     }
+    (vars, limits)
+}
+
+/// a * b, cut to the smaller limits. `out`'s vector is used again.
+pub fn multiply(a: &Poly, b: &Poly, out: &mut Poly) {
+    let (vars, limits) = smaller(a, b);
     out.vars = vars;
     out.limits = limits;
     out.lengths = [1; 4];
@@ -211,4 +217,69 @@ pub fn multiply(a: &Poly, b: &Poly, out: &mut Poly) {
     }
     out.coeffs.resize(count(&out.lengths), 0.0);
     general(x.coeffs, &x.lengths, y.coeffs, &y.lengths, &mut out.coeffs, &out.lengths);
+}
+
+/// Each place of `to` that x has, plus x's.
+fn add_places(x: Block, to: &mut Poly) {
+    let (n, r) = (x.lengths, to.lengths);
+    for (at, xs) in x.coeffs.chunks_exact(n[3]).enumerate() {
+        let (i, j, k) = (at / (n[1] * n[2]), at / n[2] % n[1], at % n[2]);
+        let to = &mut to.coeffs[((i * r[1] + j) * r[2] + k) * r[3]..];
+        to.iter_mut().zip(xs).for_each(|(z, x)| *z += x);
+    }
+}
+
+/// a + b, cut to the smaller limits. `out`'s vector is used again.
+pub fn add(a: &Poly, b: &Poly, out: &mut Poly) {
+    let (vars, limits) = smaller(a, b);
+    (out.vars, out.limits) = (vars, limits);
+    out.coeffs.clear();
+    let (mut room_a, mut room_b) = (Vec::new(), Vec::new());
+    let x = cut(a, &limits, &mut room_a);
+    let y = cut(b, &limits, &mut room_b);
+    if y.coeffs.len() == 1 {
+        copy(x, out);
+        out.coeffs[0] += y.coeffs[0];
+    } else if x.coeffs.len() == 1 {
+        copy(y, out);
+        out.coeffs[0] += x.coeffs[0];
+    } else {
+        out.lengths = std::array::from_fn(|v| x.lengths[v].max(y.lengths[v]));
+        out.coeffs.resize(count(&out.lengths), 0.0);
+        add_places(x, out);
+        add_places(y, out);
+    }
+}
+
+/// a to the power e by squaring, without the last squaring.
+pub fn pow(a: &Poly, mut e: u32, out: &mut Poly) {
+    *out = Poly { vars: 0, limits: [1; 4], lengths: [1; 4], coeffs: vec![1.0] };
+    let (mut base, mut next) = (a.clone(), Poly::default());
+    while e > 0 {
+        if e & 1 == 1 {
+            multiply(out, &base, &mut next);
+            std::mem::swap(out, &mut next);
+        }
+        e >>= 1;
+        if e > 0 {
+            multiply(&base, &base, &mut next);
+            std::mem::swap(&mut base, &mut next);
+        }
+    }
+}
+
+/// b for the variable v of a, by Horner's rule from the highest power. Neither of the source's shortcuts fits the cases measured.
+pub fn subst_var(a: &Poly, v: usize, b: &Poly, out: &mut Poly) {
+    let (vars, limits) = smaller(a, b);
+    *out = Poly { vars, limits, lengths: [1; 4], coeffs: vec![0.0] };
+    let mut row = Poly { vars, limits, lengths: a.lengths, coeffs: Vec::new() };
+    row.lengths[v] = 1;
+    let width = count(&a.lengths[v + 1..]);
+    let mut next = Poly::default();
+    for i in (0..a.lengths[v]).rev() {
+        row.coeffs.clear();
+        a.coeffs.chunks_exact(a.lengths[v] * width).for_each(|c| row.coeffs.extend_from_slice(&c[i * width..][..width]));
+        multiply(out, b, &mut next);
+        add(&next, &row, out);
+    }
 }

@@ -60,9 +60,9 @@ static uint64_t make(const double *a, const double *b, double *out, double *scra
     case 3: return taylor_taylor_polynomial(ah, a, na, n[0], n[1], out, no);
     case 4: return taylor_coefficients_of_term(ah, a, na, n[0], n[1], out, no);
     case 5: return taylor_multiply(ah, a, na, bh, b, nb, out, no, scratch, ns);
-#ifdef FACE_divide
     case 6: return taylor_divide(ah, a, na, bh, b, nb, out, no, scratch, ns);
-#endif
+    case 7: return taylor_exp(ah, a, na, as_float(n[0]), out, no, scratch, ns);
+    case 8: return taylor_log(ah, a, na, as_float(n[0]), out, no, scratch, ns);
     case 10: return taylor_zero_with(n[0], n[1], n[2], n[3], n[4], out, no);
     case 11: return taylor_from_u32((uint32_t)n[0], out, no);
     case 12: return taylor_from_u32_with((uint32_t)n[0], n[1], n[2], n[3], n[4], n[5], out, no);
@@ -76,6 +76,11 @@ static uint64_t make(const double *a, const double *b, double *out, double *scra
     case 22: return taylor_evaluate_all_one(ah, a, na, out);
     case 23: return taylor_extract_linear(ah, a, na, out, out + 1);
     case 24: return taylor_tail(ah, a, na, n[0], out);
+    case 30: return taylor_pow(ah, a, na, (uint32_t)n[0], out, no, scratch, ns);
+    case 31: return taylor_derivative(ah, a, na, n[0], n[1], out, no);
+    case 32: return taylor_taylor_expansion_of_coeff(ah, a, na, n[0], n[1], out, no);
+    case 33: return taylor_shift_down(ah, a, na, n[0], n[1], out, no);
+    case 34: return taylor_subst_var(ah, a, na, bh, b, nb, n[0], out, no, scratch, ns);
     }
     leave(3);
     return 0;

@@ -53,7 +53,7 @@ pub fn operation(op: &'static Operation, seed: u64, count: u64) -> Tally {
     generate::short(op, seed, |case| tally.compare(&case));
     for number in 0..count {
         let mut rng = Rng::new(seed, op.code, number);
-        let size = generate::size(&mut rng);
+        let size = generate::size(op, &mut rng);
         tally.compare(&generate::random(op, &mut rng, size));
     }
     println!("{}", tally.line(op.name, start.elapsed().as_secs_f64()));

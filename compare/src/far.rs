@@ -126,6 +126,18 @@ functions! {
         call(5, [ah, bh], &[], [(a, na), (b, nb)], [(out, n), (scratch, ns)]);
     taylor_divide(ah: u64, a: From, na: usize, bh: u64, b: From, nb: usize, out: To, n: usize, scratch: To, ns: usize)
         call(6, [ah, bh], &[], [(a, na), (b, nb)], [(out, n), (scratch, ns)]);
+    taylor_exp(head: u64, a: From, na: usize, value: f64, out: To, n: usize, scratch: To, ns: usize)
+        call(7, [head, 0], &[value.to_bits()], [(a, na), NONE], [(out, n), (scratch, ns)]);
+    taylor_log(head: u64, a: From, na: usize, value: f64, out: To, n: usize, scratch: To, ns: usize)
+        call(8, [head, 0], &[value.to_bits()], [(a, na), NONE], [(out, n), (scratch, ns)]);
+    taylor_pow(head: u64, a: From, na: usize, e: u32, out: To, n: usize, scratch: To, ns: usize)
+        call(30, [head, 0], &[e.into()], [(a, na), NONE], [(out, n), (scratch, ns)]);
+    taylor_derivative(head: u64, a: From, na: usize, v: u64, k: u64, out: To, n: usize) change(31, head, (a, na), &[v, k], (out, n));
+    taylor_taylor_expansion_of_coeff(head: u64, a: From, na: usize, v: u64, k: u64, out: To, n: usize)
+        change(32, head, (a, na), &[v, k], (out, n));
+    taylor_shift_down(head: u64, a: From, na: usize, v: u64, k: u64, out: To, n: usize) change(33, head, (a, na), &[v, k], (out, n));
+    taylor_subst_var(ah: u64, a: From, na: usize, bh: u64, b: From, nb: usize, v: u64, out: To, n: usize, scratch: To, ns: usize)
+        call(34, [ah, bh], &[v], [(a, na), (b, nb)], [(out, n), (scratch, ns)]);
 }
 
 /// The two floats of a line lie in one buffer over there.

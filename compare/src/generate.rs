@@ -4,7 +4,7 @@ use crate::case::Case;
 use crate::operations::{Kind, Operation};
 use crate::rng::Rng;
 use crate::words::{Header, COUNT};
-use crate::{shapes, values};
+use crate::{oracle, shapes, values};
 
 /// The most places that operands store and a result announces.
 #[derive(Copy, Clone)]
@@ -15,9 +15,12 @@ pub struct Size {
     pub more: usize,
 }
 
-/// Most cases are small; a few announce about 4,096 places.
-pub fn size(rng: &mut Rng) -> Size {
+/// Most cases are small; a few announce about 4,096 places. Of an operation that makes many products fewer are large.
+pub fn size(op: &Operation, rng: &mut Rng) -> Size {
     let most = match rng.below(1000) {
+        at if op.many && at < 990 => [16, 32, 64][at % 3],
+        at if op.many && at < 998 => 256,
+        _ if op.many && rng.chance(900) => 1024,
         0..=249 => 16,
         250..=649 => 64,
         650..=949 => 256,
@@ -62,7 +65,17 @@ fn draft(op: &'static Operation, rng: &mut Rng, heads: (Header, Header), numbers
     };
     let (ah, a) = operand(&heads.0, op.operands > 0);
     let (bh, b) = operand(&heads.1, op.operands > 1);
+    let numbers = op.numbers.iter().zip(numbers).map(|(kind, number)| head(*kind, &a).unwrap_or(number)).collect();
     Case { op, numbers, ah, a, bh, b, out: usize::MAX, scratch: usize::MAX }
+}
+
+/// The head of exp or log, from the constant term.
+fn head(kind: Kind, a: &[f64]) -> Option<u64> {
+    match kind {
+        Kind::Exp => Some(oracle::exp_head(a[0]).to_bits()),
+        Kind::Log => Some(oracle::log_head(a[0]).to_bits()),
+        _ => None,
+    }
 }
 
 /// The count that a draft announces, 0 where its numbers are refused, one more than 4,096 where that count is above it.
@@ -133,7 +146,10 @@ fn number(op: &Operation, rng: &mut Rng, a: &Header, kind: Kind, so_far: &[u64])
         Kind::Limit if rng.chance(970) => shapes::limit(rng) as u64,
         Kind::Limit => rng.pick(&[0, 65, u64::MAX, 1 << 32 | 1]),
         Kind::Constant => rng.pick(&[0, 1, 2, 3, u32::MAX, 1 << 31, 0x0123_4567]).into(),
+        Kind::Exponent if rng.chance(800) => rng.pick(&[0, 1, 2, 2, 3, 3, 4, 5, 6, 7, 8, 10, 16, 31]),
+        Kind::Exponent => rng.pick(&[63, 64, 1 << 31, 0x5555_5555, u32::MAX - 1, u32::MAX]).into(),
         Kind::Float => values::any(rng).to_bits(),
+        Kind::Exp | Kind::Log => 0,
         _ => rng.pick(&HUGE),
     }
 }
@@ -168,7 +184,9 @@ fn short_numbers(kind: Kind) -> Vec<u64> {
         Kind::Vars => (0..=5).collect(),
         Kind::Limit => vec![0, 1, 2, 64, 65],
         Kind::Constant => vec![0, 1, u64::from(u32::MAX)],
+        Kind::Exponent => vec![0, 1, 2, 3, 6, u64::from(u32::MAX)],
         Kind::Float => [0.0, -0.0, 1.0, f64::NAN].map(f64::to_bits).to_vec(),
+        Kind::Exp | Kind::Log => vec![0],
     }
 }
 

@@ -18,8 +18,13 @@ pub enum Kind {
     Limit,
     /// a 32-bit number
     Constant,
+    /// a 32-bit number, small ones and those of many bits
+    Exponent,
     /// a float's bits
     Float,
+    /// the bits of the source's own exp, or log, of the first operand's constant term
+    Exp,
+    Log,
 }
 
 #[derive(Copy, Clone, PartialEq, Eq)]
@@ -35,6 +40,8 @@ pub struct Operation {
     pub code: u8,
     pub operands: usize,
     pub scratch: bool,
+    /// whether a call makes many products, so that its cases have to be smaller
+    pub many: bool,
     pub gives: Gives,
     pub numbers: &'static [Kind],
     pub gate: fn(&Case) -> Gate,
@@ -60,7 +67,7 @@ type GateOf = fn(&Case) -> Gate;
 type SourceOf = fn(&Case) -> Given;
 
 const fn row(name: &'static str, code: u8, numbers: &'static [Kind], gate: GateOf, source: SourceOf) -> Operation {
-    Operation { name, code, operands: 0, scratch: false, gives: Gives::Polynomial, numbers, gate, source }
+    Operation { name, code, operands: 0, scratch: false, many: false, gives: Gives::Polynomial, numbers, gate, source }
 }
 
 /// An operation of one operand that gives a polynomial.
@@ -73,11 +80,20 @@ const fn two(row: Operation) -> Operation {
     Operation { operands: 2, scratch: true, ..row }
 }
 
+/// An operation of one operand, with scratch.
+const fn worked(row: Operation) -> Operation {
+    Operation { operands: 1, scratch: true, ..row }
+}
+
+const fn many(row: Operation) -> Operation {
+    Operation { many: true, ..row }
+}
+
 const fn read(row: Operation) -> Operation {
     Operation { operands: 1, gives: Gives::Float, ..row }
 }
 
-use Kind::{Constant, Float, Index, Limit, Order, Variable, Vars};
+use Kind::{Constant, Exp, Exponent, Float, Index, Limit, Log, Order, Variable, Vars};
 const INDEX: &[Kind] = &[Index, Index, Index, Index];
 const LIMITS: &[Kind] = &[Vars, Limit, Limit, Limit, Limit];
 const CONSTANT_LIMITS: &[Kind] = &[Constant, Vars, Limit, Limit, Limit, Limit];
@@ -104,6 +120,13 @@ pub static OPERATIONS: &[Operation] = &[
     two(row("subtract", 2, &[], refusals::sum, oracle::subtract)),
     two(row("multiply", 5, &[], refusals::product, oracle::multiply)),
     two(row("divide", 6, &[], refusals::quotient, oracle::divide)),
+    worked(row("exp", 7, &[Exp], refusals::series, oracle::exp)),
+    worked(row("log", 8, &[Log], refusals::series, oracle::log)),
+    many(worked(row("pow", 30, &[Exponent], refusals::pow, oracle::pow))),
+    one(row("derivative", 31, &[Variable, Order], refusals::shift, oracle::derivative)),
+    one(row("taylor_expansion_of_coeff", 32, &[Variable, Order], refusals::shift, oracle::taylor_expansion_of_coeff)),
+    one(row("shift_down", 33, &[Variable, Order], refusals::shift, oracle::shift_down)),
+    many(two(row("subst_var", 34, &[Variable], refusals::subst_var, oracle::subst_var))),
 ];
 
 pub fn named(name: &str) -> Option<&'static Operation> {

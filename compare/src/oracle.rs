@@ -3,9 +3,9 @@
 use crate::case::Case;
 use crate::words::Header;
 use genfer::multivariate_taylor::{linear_of, TaylorPoly};
-use genfer::number::F64;
+use genfer::number::{Number, F64};
 use genfer::ppl::Var;
-use ndarray::ArrayD;
+use ndarray::{ArrayD, Slice};
 use num_traits::{One, Zero};
 
 pub type Poly = TaylorPoly<F64>;
@@ -69,6 +69,62 @@ pub fn multiply(case: &Case) -> Given {
 
 pub fn divide(case: &Case) -> Given {
     Given::Poly(a(case) / b(case))
+}
+
+pub fn exp(case: &Case) -> Given {
+    Given::Poly(a(case).exp())
+}
+
+pub fn log(case: &Case) -> Given {
+    Given::Poly(a(case).log())
+}
+
+pub fn pow(case: &Case) -> Given {
+    Given::Poly(a(case).pow(case.numbers[0] as u32))
+}
+
+pub fn derivative(case: &Case) -> Given {
+    Given::Poly(a(case).derivative(Var(number(case, 0)), number(case, 1)))
+}
+
+pub fn taylor_expansion_of_coeff(case: &Case) -> Given {
+    Given::Poly(a(case).taylor_expansion_of_coeff(Var(number(case, 0)), number(case, 1)))
+}
+
+pub fn shift_down(case: &Case) -> Given {
+    Given::Poly(a(case).shift_down(Var(number(case, 0)), number(case, 1)))
+}
+
+/// Of a zero, and of a line in v through 0, the source keeps the first operand's axes, and of a zero its lengths too, whatever the smaller limits
+/// are (docs/DIFFERENCES.md). These calls are made with the first operand cut to them and with all axes.
+pub fn subst_var(case: &Case) -> Given {
+    let (v, by) = (Var(number(case, 0)), b(case));
+    let header = Header::read(case.ah).expect("a good header");
+    let line = matches!(linear_of(&by), Some((c, _, w)) if c.is_zero() && w == v.id());
+    if v.id() >= header.vars || !(by.is_zero() || line) {
+        return Given::Poly(a(case).subst_var(v, &by));
+    }
+    Given::Poly(cut(&header, &case.a, &Header::new(by.shape(), by.array().shape())).subst_var(v, &by))
+}
+
+/// A polynomial cut to the smaller limits, with an axis for every variable that one of the two has.
+fn cut(a: &Header, coefficients: &[f64], b: &Header) -> Poly {
+    let vars = a.vars.max(b.vars);
+    let limit = |h: &Header, v: usize| if v < h.vars { h.limits[v] } else { usize::MAX };
+    let limits: Vec<usize> = (0..vars).map(|v| limit(a, v).min(limit(b, v))).collect();
+    let lengths: Vec<usize> = (0..vars).map(|v| a.lengths[v].min(limits[v])).collect();
+    let array = ArrayD::from_shape_vec(a.lengths[..vars].to_vec(), coefficients[..a.count()].iter().map(|x| F64::from(*x)).collect());
+    let array = array.expect("as many as the lengths say");
+    TaylorPoly::new(array.slice_each_axis(|ax| Slice::from(0..lengths[ax.axis.index()])).to_owned(), limits)
+}
+
+/// The head that the source takes: its own exp or log of a number.
+pub fn exp_head(x: f64) -> f64 {
+    F64::from(x).exp().to_f64()
+}
+
+pub fn log_head(x: f64) -> f64 {
+    F64::from(x).log().to_f64()
 }
 
 pub fn taylor_polynomial(case: &Case) -> Given {

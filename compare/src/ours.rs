@@ -81,6 +81,13 @@ calls! {
     "subtract" => |l| taylor::subtract(l.case.ah, l.a, l.case.bh, l.b, l.out, l.scratch);
     "multiply" => |l| taylor::multiply(l.case.ah, l.a, l.case.bh, l.b, l.out, l.scratch);
     "divide" => |l| taylor::divide(l.case.ah, l.a, l.case.bh, l.b, l.out, l.scratch);
+    "exp" => |l| taylor::exp(l.case.ah, l.a, l.float(0), l.out, l.scratch);
+    "log" => |l| taylor::log(l.case.ah, l.a, l.float(0), l.out, l.scratch);
+    "pow" => |l| taylor::pow(l.case.ah, l.a, l.number(0) as u32, l.out, l.scratch);
+    "derivative" => |l| taylor::derivative(l.case.ah, l.a, l.number(0), l.number(1), l.out);
+    "taylor_expansion_of_coeff" => |l| taylor::taylor_expansion_of_coeff(l.case.ah, l.a, l.number(0), l.number(1), l.out);
+    "shift_down" => |l| taylor::shift_down(l.case.ah, l.a, l.number(0), l.number(1), l.out);
+    "subst_var" => |l| taylor::subst_var(l.case.ah, l.a, l.case.bh, l.b, l.number(0), l.out, l.scratch);
 }
 
 pub fn has(name: &str) -> bool {

@@ -79,6 +79,60 @@ pub fn quotient(case: &Case) -> Gate {
     pair(case, |limit, a, b| if b == 1 { a } else { limit })
 }
 
+/// Tests 1, 2, 5 and 6 of one operand.
+pub fn series(case: &Case) -> Gate {
+    let mut a = operand(case)?;
+    for v in 0..a.vars {
+        a.lengths[v] = if a.lengths[v] == 1 { 1 } else { a.limits[v] };
+    }
+    let announced = lent(case, a)?;
+    demand(case.scratch >= 8 * announced.count(), 6)?;
+    Ok(announced)
+}
+
+/// Number e. Tests 1, 2, 5 and 6; 0 announces one with no variables.
+pub fn pow(case: &Case) -> Gate {
+    let mut a = operand(case)?;
+    let e = case.numbers[0] as usize;
+    for v in 0..a.vars {
+        a.lengths[v] = a.limits[v].min(e * (a.lengths[v] - 1) + 1);
+    }
+    let announced = lent(case, if e == 0 { Header::new(&[], &[]) } else { a })?;
+    demand(case.scratch >= 8 * announced.count(), 6)?;
+    Ok(announced)
+}
+
+/// Numbers v and n: the limit less n, the length less n and at least 1.
+pub fn shift(case: &Case) -> Gate {
+    let mut a = operand(case)?;
+    let v = below_limit(&a, case.numbers[0], case.numbers[1])?;
+    let n = case.numbers[1] as usize;
+    a.limits[v] -= n;
+    a.lengths[v] = a.lengths[v].saturating_sub(n).max(1);
+    lent(case, a)
+}
+
+/// Number v. Tests 1, 2, 5 and 6; a variable that the first operand lacks leaves it as it is.
+pub fn subst_var(case: &Case) -> Gate {
+    let (a, b) = (good(case.ah)?, good(case.bh)?);
+    demand(case.a.len() >= a.count() && case.b.len() >= b.count(), 2)?;
+    let announced = lent(case, if case.numbers[0] < a.vars as u64 { replaced(&a, &b, case.numbers[0] as usize) } else { a })?;
+    demand(case.scratch >= 8 * announced.count(), 6)?;
+    Ok(announced)
+}
+
+/// The smaller limits; with p the uncut length of v, lengths of p - 1 times b's and, except in v, a's own.
+fn replaced(a: &Header, b: &Header, v: usize) -> Header {
+    let more = a.lengths[v] - 1;
+    let limits = joined(a, b, |limit, _, _| limit).limits;
+    let mut all = joined(a, b, |_, _, b| b);
+    for w in 0..all.vars {
+        let own = if w == v { 1 } else { a.lengths[w].min(limits[w]) };
+        all.lengths[w] = limits[w].min(own + more * (all.lengths[w] - 1));
+    }
+    all
+}
+
 pub fn negate(case: &Case) -> Gate {
     let a = operand(case)?;
     lent(case, a)

@@ -47,3 +47,4 @@ pub mod Examples
 pub mod Held
 pub mod Instances
 pub mod ChangeInstances
+pub mod SeriesKeeps

@@ -26,23 +26,28 @@ use Rattle.exact.specs.Sits.{Sits, cut-at}
 use Rattle.exact.specs.Running.{Most, most-more, constant-most, multiplied-most, most-keeps}
 
 -- the exponent's last bit and the rest of it, on y
-halves : (e y : ℕ) → (e % 2) * y + (e / 2) * (y + y) ≡ e * y
+pub halves : (e y : ℕ) → (e % 2) * y + (e / 2) * (y + y) ≡ e * y
 halves e y = (let d : (e % 2) * y + (e / 2) * (y + y) ≡ (e / 2 * 2 + e % 2) * y = omega arith in d) ∙ ap (λ (x : ℕ). x * y) (div-add-mod' e 2)
 
 module _ {l : List ℕ} (pos-l : (k : ℕ) → k < 4 → 1 ≤ at l k) where
-  product-most : (x y z : ℕ → ℕ) {a b : Block} → Most l (λ k. 1 + x k) a → Most l (λ k. 1 + y k) b → ((k : ℕ) → k < 4 → x k + y k ≤ z k) → Most l (λ k. 1 + z k) (multiplied l a b)
+  pub product-most : (x y z : ℕ → ℕ) {a b : Block} → Most l (λ k. 1 + x k) a → Most l (λ k. 1 + y k) b → ((k : ℕ) → k < 4 → x k + y k ≤ z k) → Most l (λ k. 1 + z k) (multiplied l a b)
   unfolding cut
   product-most x y z {a} {b} m n h =
       multiplied-most l a b pos-l (m .sits .lo) (n .sits .lo) (m .most) (λ k g. le-trans (rw (cut-at l (b .lengths) k g) (omega arith)) (n .most k g)) (λ k g. omega (arith, h k g))
 
-  squared-most : (n e : ℕ) (x y : ℕ → ℕ) {res base : Block} → Most l (λ k. 1 + x k) res → Most l (λ k. 1 + y k) base → Most l (λ k. 1 + (x k + e * y k)) (squared n l e res base)
+  -- one bit of the exponent taken into the result
+  pub bit-most : (e : ℕ) (x y : ℕ → ℕ) {res base : Block} → Most l (λ k. 1 + x k) res → Most l (λ k. 1 + y k) base
+      → Most l (λ k. 1 + (x k + (e % 2) * y k)) (cond (eqb (e % 2) 1) (multiplied l res base) res)
+  bit-most e x y m b =
+      decide (eqb (e % 2) 1)
+      (λ t. let o : e % 2 ≡ 1 = eqb-true _ _ t in rw t (product-most x y _ m b (λ k g. rw o (omega arith))))
+      (λ t. rw t (most-more (λ k g. omega arith) m))
+
+  pub squared-most : (n e : ℕ) (x y : ℕ → ℕ) {res base : Block} → Most l (λ k. 1 + x k) res → Most l (λ k. 1 + y k) base → Most l (λ k. 1 + (x k + e * y k)) (squared n l e res base)
   unfolding squared
   squared-most zero e x y m b = most-more (λ k g. omega arith) m
   squared-most (suc n) e x y {res} {base} m b =
-      let next : Most l (λ k. 1 + (x k + (e % 2) * y k)) (cond (eqb (e % 2) 1) (multiplied l res base) res) =
-      decide (eqb (e % 2) 1)
-      (λ t. let o : e % 2 ≡ 1 = eqb-true _ _ t in rw t (product-most x y _ m b (λ k g. rw o (omega arith))))
-      (λ t. rw t (most-more (λ k g. omega arith) m)) in
+      let next = bit-most e x y m b in
       of-both (Most l (λ k. 1 + (x k + e * y k))) (leb e 1)
       (most-more (λ k g. omega (arith, halves e (y k))) next)
       (most-more (λ k g. omega (arith, halves e (y k))) (squared-most n (e / 2) (λ k. x k + (e % 2) * y k) (λ k. y k + y k) next (product-most y y (λ k. y k + y k) b b (λ k g. le-refl _))))

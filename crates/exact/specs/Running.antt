@@ -33,7 +33,7 @@ constant-most c s h = record { sits = constant-sits c s; most = λ k g. le-trans
 
 module _ (l : List ℕ) (a b : Block) (pos-l : (k : ℕ) → k < 4 → 1 ≤ at l k) (p : (k : ℕ) → k < 4 → 1 ≤ at (a .lengths) k) (q : (k : ℕ) → k < 4 → 1 ≤ at (b .lengths) k) where
   -- the whole product, zero tested before the cut
-  multiplied-fits : Sits (sumShape l (cut l a .lengths) (cut l b .lengths)) (multiplied l a b)
+  pub multiplied-fits : Sits (sumShape l (cut l a .lengths) (cut l b .lengths)) (multiplied l a b)
   unfolding multiplied
   multiplied-fits =
       let s = cut-sits l a pos-l p in

@@ -24,7 +24,7 @@ use Rattle.model.specs.Word.{headerOf, goodWord, wordOf}
 use Rattle.model.specs.Refusals.{ask, noRefusal, fits, roomy, answerBy, readBy, linearBy, leaves, written}
 use Rattle.model.specs.Poly.{Poly}
 use Rattle.model.specs.Answers.{answered, outAfter}
-use Rattle.model.specs.Gates.{full, readGate, noMissing, indexGate, tailGate, oneGate, inGate, pairGate, goodLimit, goodLimits, withGate, varWithGate, varHeader, varGate, announcedOne, announcedPair}
+use Rattle.model.specs.Gates.{full, readGate, noMissing, indexGate, tailGate, oneGate, workGate, inGate, pairGate, goodLimit, goodLimits, withGate, varWithGate, varHeader, varGate, announcedOne, announcedPair}
 use Rattle.words.specs.Rules.{Good, Regular, none-regular}
 use Rattle.words.specs.Words.{good-word}
 use Rattle.words.specs.Lengths.{Inside, inside-is}
@@ -87,6 +87,25 @@ module _ (w m : ℕ) (next : Refusal) {r : Refusal} (e : r ≡ readGate w m) whe
   pub read-on : r .number ≡ 0 → next ≡ ask (goodWord w) 1 (ask (full w m) 2 next)
   unfolding readGate
   read-on z = begin-on (goodWord w) (full w m) next e z
+
+-- tests 1, 2 and 5 of one operand
+room-stop : (a b c : Bool) (next : Refusal) {r : Refusal} → r ≡ ask a 1 (ask b 2 (ask c 5 noRefusal)) → (r .number ≡ 0 → ⊥) → r ≡ ask a 1 (ask b 2 (ask c 5 next))
+room-stop true true true next e n = absurd (n (ap (λ (x : Refusal). x .number) e))
+room-stop true true false next e n = e
+room-stop true false c next e n = e
+room-stop false b c next e n = e
+
+room-on : (a b c : Bool) (next : Refusal) {r : Refusal} → r ≡ ask a 1 (ask b 2 (ask c 5 noRefusal)) → r .number ≡ 0 → next ≡ ask a 1 (ask b 2 (ask c 5 next))
+room-on a b c next e z = let p = passed a b true true c true (ap (λ (x : Refusal). x .number) (sym e) ∙ z) in simp (p .t1, p .t2, p .t5)
+
+module _ (f : Family) (w m n : ℕ) (next : Refusal) {r : Refusal} (e : r ≡ oneGate f w m n) where
+  pub one-stop : (r .number ≡ 0 → ⊥) → r ≡ ask (goodWord w) 1 (ask (full w m) 2 (ask (fits (announcedOne f w) n) 5 next))
+  unfolding oneGate
+  one-stop h = room-stop (goodWord w) (full w m) (fits (announcedOne f w) n) next e h
+
+  pub one-on : r .number ≡ 0 → next ≡ ask (goodWord w) 1 (ask (full w m) 2 (ask (fits (announcedOne f w) n) 5 next))
+  unfolding oneGate
+  one-on z = room-on (goodWord w) (full w m) (fits (announcedOne f w) n) next e z
 
 -- answers and buffers, by whether the gate refused
 module _ (r : Refusal) where
@@ -206,6 +225,17 @@ unfolding oneGate
 one-ready f w m n e =
     let p = passed (goodWord w) (full w m) true true (fits (announcedOne f w) n) true e in
     one-facts f w m n (p .t1) (p .t2) (p .t5)
+
+-- and scratch
+pub record WorkReady (f : Family) (w m n s : ℕ) : Type 0 where
+  pub one : OneReady f w m n
+  pub spare : 8 * stored (announcedOne f w) ≤ s
+
+pub work-ready : (f : Family) (w m n s : ℕ) → workGate f w m n s .number ≡ 0 → WorkReady f w m n s
+unfolding workGate
+work-ready f w m n s e =
+    let p = passed (goodWord w) (full w m) true true (fits (announcedOne f w) n) (roomy (announcedOne f w) s) e in
+    record { one = one-facts f w m n (p .t1) (p .t2) (p .t5); spare = leb-true _ _ (p .t6) }
 
 -- and a variable with a number below its limit
 pub record InReady (f : Family) (v d w m n : ℕ) : Type 0 where

@@ -11,7 +11,7 @@ ghost use mathlib.Core.Path.{_≡_};
 ghost use Prim.Native.Nat.{_*_};
 ghost use lib.Dec.{leb};
 ghost use Rattle.model.specs.Header.{stored};
-ghost use Rattle.model.specs.Gates.{readGate, noMissing, indexGate, tailGate, oneGate, inGate, pairGate, goodLimit, goodLimits, withGate, varWithGate, varGate};
+ghost use Rattle.model.specs.Gates.{readGate, noMissing, indexGate, tailGate, oneGate, workGate, inGate, pairGate, goodLimit, goodLimits, withGate, varWithGate, varGate};
 ghost use Rattle.model.specs.Refusals.{ask, noRefusal, fits, roomy};
 ghost use Rattle.words.specs.Rules.{Ruled};
 
@@ -132,6 +132,20 @@ pub fn one_gate(f: Family, word: u64, given: usize, lent: usize) -> Refusal
         return first;
     }
     fits_gate(announced_of(f, header_of(word), Header::none()), lent)
+}
+
+// One operand and scratch: refusals 1, 2, 5, 6.
+pub fn work_gate(f: Family, word: u64, given: usize, lent: usize, scratch: usize) -> Refusal
+    ensures { λ r. ⌜ r ≡ workGate f word given lent scratch ⌝ }
+{
+    let first = one_gate(f, word, given, lent);
+    if first.number != 0 {
+        return first;
+    }
+    if !is_roomy(announced_of(f, header_of(word), Header::none()), scratch) {
+        return Refusal::by(6);
+    }
+    Refusal::none()
 }
 
 // One operand, a variable v and a number d below its limit: refusals 1, 2, 3, 4, 5.

@@ -9,7 +9,6 @@ use lib.ListN.{length, getD, take, drop}
 use lib.Seq.{drop-drop, drop-length}
 use lib.Ieee.{Float, nan}
 use borrow.Rule.Slice.PartMut.{putMid}
-use Rattle.lists.specs.Test.{of-both}
 use Rattle.lists.specs.Four.{at, four, at-four, four-same}
 use Rattle.lists.specs.Table.{table, table-same, table-all, length-table}
 use Rattle.lists.specs.Part.{part}
@@ -29,8 +28,9 @@ use Rattle.words.specs.Places.{place-index}
 use Rattle.gates.specs.Gate.{PairReady}
 use Rattle.blocks.specs.Rows.{Inner}
 use Rattle.blocks.specs.Two.{Two, Holds, cutPlaces, cut-is}
-use Rattle.exact.specs.Sits.{Sits, cut-at, cut-sits}
-use Rattle.exact.specs.ProductKeeps.{product-sits, constant-sits, left-fits, product-keeps}
+use Rattle.exact.specs.Sits.{Sits, cut-at}
+use Rattle.exact.specs.Running.{multiplied-fits}
+use Rattle.exact.specs.ProductKeeps.{product-keeps}
 use Rattle.product.specs.Room.{Under, Room, Times, Put, Stands, Made}
 use Rattle.product.specs.Ways.{under-lengths, inner-of, count-less, shape-under, shape-left, shape-right}
 
@@ -63,6 +63,16 @@ module _ (limits : List ℕ) (a b : Block) where
   pub other-made : {s : ℕ} {w w' out : List Float} {r : List ℕ} → Sits limits a → Sits limits b → (isZero a || isZero b) ≡ false → Made (productOf 1 limits a b) s w w' out r → Made (multiplied limits a b) s w w' out r
   unfolding multiplied
   other-made p q t m = rw (t, cut-none p, cut-none q) m
+
+-- a block stands at the front of n places, and the rest was cleared
+pub stands-padded : (n : ℕ) (p : Block) {out : List Float} {r : List ℕ} {z : ℕ} {zs : List Float} {k : ℕ} → Stands p out r → length out ≡ n → z ≤ n → z ≡ length (p .places)
+    → zs ≡ zeros k → k ≡ n - z → putMid z (n - z) out zs ≡ padded n (p .places)
+stands-padded n p {out} {z = z} {zs} h lo small f e ek =
+    let m : z + (n - z) ≡ length out = omega arith in
+    let d : drop (n - z) (drop z out) ≡ [] = drop-drop (n - z) z out ∙ (ap (λ (j : ℕ). drop j out) m ∙ drop-length out) in
+    let x : take z out ≡ p .places = ap (λ (j : ℕ). take j out) f ∙ h .front in
+    let y : zs ≡ zeros (n - length (p .places)) = e ∙ ap zeros (ek ∙ ap (λ (j : ℕ). n - j) f) in
+    rw (d, x, y) (ap (λ (l : List Float). p .places ++ l) (append-nil (zeros (n - length (p .places)))))
 
 -- ---- two operands
 
@@ -146,11 +156,8 @@ module _ {la lb limits : List ℕ} {n ma mb mo mw : ℕ} (t : Times la lb limits
 
   -- the true lengths lie under the announced ones
   pub times-sits : (a b : List Float) → Sits (sumShape limits (cutTo limits la) (cutTo limits lb)) (multiplied limits (block la a) (block lb b))
-  unfolding multiplied cut
-  times-sits a b =
-      let p = cut-sits limits (block la a) (t .positive) (lengths-pos (t .left)) in
-      let q = cut-sits limits (block lb b) (t .positive) (lengths-pos (t .right)) in
-      of-both (Sits (sumShape limits (cutTo limits la) (cutTo limits lb))) (isZero (block la a) || isZero (block lb b)) (constant-sits zeroF (left-fits p q)) (product-sits 1 p q)
+  unfolding cut
+  times-sits a b = multiplied-fits limits (block la a) (block lb b) (t .positive) (lengths-pos (t .left)) (lengths-pos (t .right))
 
   module _ (a b : List Float) {out : List Float} {r : List ℕ} (h : Stands (multiplied limits (block la a) (block lb b)) out r) where
     pub into-lens : Lengths r
@@ -167,14 +174,7 @@ module _ {la lb limits : List ℕ} {n ma mb mo mw : ℕ} (t : Times la lb limits
 
     -- the rest was cleared
     pub into-padded : {z : ℕ} {zs : List Float} {k : ℕ} → length out ≡ n → z ≡ count r → zs ≡ zeros k → k ≡ n - z → putMid z (n - z) out zs ≡ padded n (multiplied limits (block la a) (block lb b) .places)
-    into-padded {z} {zs} {k} lo ez e ek =
-        let p : Block = multiplied limits (block la a) (block lb b) in
-        let f : z ≡ length (p .places) = ez ∙ (ap count (h .lengths) ∙ sym (times-sits a b .full)) in
-        let m : z + (n - z) ≡ length out = omega (arith, into-small ez, lo) in
-        let d : drop (n - z) (drop z out) ≡ [] = drop-drop (n - z) z out ∙ (ap (λ (j : ℕ). drop j out) m ∙ drop-length out) in
-        let x : take z out ≡ p .places = ap (λ (j : ℕ). take j out) f ∙ h .front in
-        let y : zs ≡ zeros (n - length (p .places)) = e ∙ ap zeros (ek ∙ ap (λ (j : ℕ). n - j) f) in
-        rw (d, x, y) (ap (λ (l : List Float). p .places ++ l) (append-nil (zeros (n - length (p .places)))))
+    into-padded lo ez = stands-padded n (multiplied limits (block la a) (block lb b)) h lo (into-small ez) (ez ∙ (ap count (h .lengths) ∙ sym (times-sits a b .full)))
 
 -- ---- the entry
 

@@ -293,7 +293,7 @@ fn each_first(
 }
 
 // The recurrence: the dividend lies in the work from 0, the divisor from as many places on as the quotient has.
-fn recur(
+pub fn recur(
     work: &mut [f64],
     lx: [usize; 4],
     nx: usize,

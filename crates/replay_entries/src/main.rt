@@ -1,5 +1,5 @@
-// Runs the stored cases of standard input through constructors, readings, tail, sums and products, and prints a line for each: what came out.
-// Cases and stored output were worked out by tests/sums.py from document 01 alone, and not by this code.
+// Runs the stored cases of standard input through every entry, and prints a line for each: what came out. tests/stored says where cases and
+// stored output are from; none is from this code.
 //
 // A case is words of 16 hex digits, each with one byte behind it. The first says, from its low end: the operation (8 bits), how many
 // coefficients a and b have (8 each), how many places of result (8) and of scratch (16) are lent, how many numbers follow (8). Then come the
@@ -119,6 +119,31 @@ fn combine(
     }
 }
 
+// A polynomial that is made from another and its value at the constant term.
+fn expand(op: u64, head: u64, a: &[f64], x: [u64; 7], out: &mut [f64], scratch: &mut [f64]) {
+    let value = bits::float_of(x[0]);
+    if op == 7 {
+        show_answer(series::exp(head, a, value, out, scratch));
+    } else {
+        show_answer(series::log(head, a, value, out, scratch));
+    }
+}
+
+// A polynomial with one variable changed.
+fn change_variable(op: u64, head: u64, a: &[f64], x: [u64; 7], out: &mut [f64]) {
+    let v = x[0] as usize;
+    let n = x[1] as usize;
+    if op == 31 {
+        show_answer(change::derivative(head, a, v, n, out));
+    } else if op == 32 {
+        show_answer(change::taylor_expansion_of_coeff(head, a, v, n, out));
+    } else if op == 33 {
+        show_answer(change::shift_down(head, a, v, n, out));
+    } else {
+        show_unknown();
+    }
+}
+
 // The places lent for a result, and what became of the scratch.
 fn show_buffers(out: &[f64], scratch: &[f64]) {
     show_all(out);
@@ -126,7 +151,7 @@ fn show_buffers(out: &[f64], scratch: &[f64]) {
     show_number(tally::untouched(scratch) as u64);
 }
 
-// A polynomial, and the buffers.
+// A polynomial.
 fn make(
     op: u64,
     ah: u64,
@@ -137,26 +162,46 @@ fn make(
     out: &mut [f64],
     scratch: &mut [f64],
 ) {
-    if op < 10 {
+    if op < 7 {
         combine(op, ah, a, bh, b, x, out, scratch);
-        show_buffers(out, scratch);
-        return;
+    } else if op < 9 {
+        expand(op, ah, a, x, out, scratch);
+    } else if op < 30 {
+        construct(op, x, out);
+    } else if op == 30 {
+        let e = (x[0] % 4294967296) as u32;
+        show_answer(power::pow(ah, a, e, out, scratch));
+    } else {
+        change_variable(op, ah, a, x, out);
     }
-    construct(op, x, out);
+}
+
+// A polynomial, and the buffers.
+fn make_and_show(
+    op: u64,
+    ah: u64,
+    a: &[f64],
+    bh: u64,
+    b: &[f64],
+    x: [u64; 7],
+    out: &mut [f64],
+    scratch: &mut [f64],
+) {
+    make(op, ah, a, bh, b, x, out, scratch);
     show_buffers(out, scratch);
 }
 
 // A case whose first word is w.
 fn act(w: u64, ah: u64, a: &[f64], bh: u64, b: &[f64], x: [u64; 7]) {
     let op = w % 256;
-    if 20 <= op {
+    if (20 <= op) & (op < 30) {
         read(op, ah, a, x);
     } else {
         let lent = count_of(w / 16777216 % 256, PLACES);
         let room = count_of(w / 4294967296 % 65536, SCRATCH);
         let mut out = [1.0000000000000002f64; 64];
         let mut scratch = [1.0000000000000002f64; 512];
-        make(op, ah, a, bh, b, x, &mut out[..lent], &mut scratch[..room]);
+        make_and_show(op, ah, a, bh, b, x, &mut out[..lent], &mut scratch[..room]);
     }
     io::write_all(STDOUT_FILENO, b"\n");
 }

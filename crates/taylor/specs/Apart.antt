@@ -17,12 +17,12 @@ use Rattle.model.specs.declared.Answer.the-variants.{Done, Refused}
 use Rattle.model.specs.declared.Linear.{Linear}
 use Rattle.model.specs.declared.LinearReading.{LinearReading}
 use Rattle.model.specs.declared.Family.{Family}
-use Rattle.model.specs.declared.Family.the-variants.{Same, Sum, Product, Quotient, Term, Order}
+use Rattle.model.specs.declared.Family.the-variants.{Same, Sum, Product, Quotient, Series, Power, Shift, Substitution, Term, Order}
 use Rattle.model.specs.Header.{limit, zeroWith, varWith}
 use Rattle.model.specs.Word.{headerOf, goodWord, wordOf}
 use Rattle.model.specs.Places.{inside}
 use Rattle.model.specs.Refusals.{refusedAt, noRefusal, isNone, ask, fits, roomy, answerBy, readBy, linearBy}
-use Rattle.model.specs.Gates.{full, noMissing, readGate, indexGate, tailGate, oneGate, inGate, pairGate, goodLimit, goodLimits, withGate, varWithGate, varHeader, varGate, announcedOne, announcedPair}
+use Rattle.model.specs.Gates.{full, noMissing, readGate, indexGate, tailGate, oneGate, workGate, inGate, pairGate, goodLimit, goodLimits, withGate, varWithGate, varHeader, varGate, announcedOne, announcedPair}
 use Rattle.model.specs.Poly.{Poly, Block, blockOf, held}
 use Rattle.model.specs.Linear.{linearIn, lineOf, linearFrom, linear}
 use Rattle.model.specs.Answers.{answered}
@@ -32,6 +32,10 @@ use Rattle.model.specs.Negate.{negateGate, negateAnswer}
 use Rattle.model.specs.Add.{sumGate, sumAnswer}
 use Rattle.model.specs.Product.{productGate, productAnswer}
 use Rattle.model.specs.Quotient.{quotientGate, quotientAnswer}
+use Rattle.model.specs.Series.{seriesGate, expAnswer, logAnswer}
+use Rattle.model.specs.Shifts.{shiftGate, derivativeAnswer, expansionAnswer, shiftDownAnswer}
+use Rattle.model.specs.Power.{powerGate, powerAnswer}
+use Rattle.model.specs.Substitute.{substituteGate, substituteAnswer}
 use Rattle.taylor.specs.Face.{wordOfRefusal, wordOfAnswer, wordOfReading, wordOfLinear, variableOf}
 
 -- ---- any answer, by the refusal r that decides it
@@ -120,6 +124,10 @@ one-few : (f : Family) (w m n : ℕ) → oneGate f w m n .number < 32
 unfolding oneGate
 one-few f w m n = asked (goodWord w) (full w m) true true (fits (announcedOne f w) n) true
 
+work-few : (f : Family) (w m n s : ℕ) → workGate f w m n s .number < 32
+unfolding workGate
+work-few f w m n s = asked (goodWord w) (full w m) true true (fits (announcedOne f w) n) (roomy (announcedOne f w) s)
+
 in-few : (f : Family) (v d w m n : ℕ) → inGate f v d w m n .number < 32
 unfolding inGate
 in-few f v d w m n = asked (goodWord w) (full w m) (ltb v (headerOf w .vars)) (ltb d (limit (headerOf w) v)) (fits (announcedOne f w) n) true
@@ -183,6 +191,32 @@ module _ (w : ℕ) (a : List Float) where
     unfolding negateAnswer
     negate-back = back (negateGate w a out) (one-few Same w (length a) (length out)) _
 
+    module _ (v n : ℕ) where
+      pub derivative-back : answerFrom (wordOfAnswer (derivativeAnswer w a v n out)) ≡ derivativeAnswer w a v n out
+      unfolding derivativeAnswer
+      derivative-back = back (shiftGate w a v n out) (in-few (Shift v n) v n w (length a) (length out)) _
+
+      pub expansion-back : answerFrom (wordOfAnswer (expansionAnswer w a v n out)) ≡ expansionAnswer w a v n out
+      unfolding expansionAnswer
+      expansion-back = back (shiftGate w a v n out) (in-few (Shift v n) v n w (length a) (length out)) _
+
+      pub shift-down-back : answerFrom (wordOfAnswer (shiftDownAnswer w a v n out)) ≡ shiftDownAnswer w a v n out
+      unfolding shiftDownAnswer
+      shift-down-back = back (shiftGate w a v n out) (in-few (Shift v n) v n w (length a) (length out)) _
+
+    pub power-back : (e : ℕ) (scratch : List Float) → answerFrom (wordOfAnswer (powerAnswer w a e out scratch)) ≡ powerAnswer w a e out scratch
+    unfolding powerAnswer
+    power-back e scratch = back (powerGate w a e out scratch) (work-few (Power e) w (length a) (length out) (length scratch)) _
+
+    module _ (head : Float) (scratch : List Float) where
+      pub exp-back : answerFrom (wordOfAnswer (expAnswer w a head out scratch)) ≡ expAnswer w a head out scratch
+      unfolding expAnswer
+      exp-back = back (seriesGate w a head out scratch) (work-few Series w (length a) (length out) (length scratch)) _
+
+      pub log-back : answerFrom (wordOfAnswer (logAnswer w a head out scratch)) ≡ logAnswer w a head out scratch
+      unfolding logAnswer
+      log-back = back (seriesGate w a head out scratch) (work-few Series w (length a) (length out) (length scratch)) _
+
     module _ (u : ℕ) (b scratch : List Float) where
       pub sum-back : (minus : Bool) → answerFrom (wordOfAnswer (sumAnswer minus w a u b out scratch)) ≡ sumAnswer minus w a u b out scratch
       unfolding sumAnswer
@@ -196,3 +230,8 @@ module _ (w : ℕ) (a : List Float) where
       pub quotient-back : answerFrom (wordOfAnswer (quotientAnswer w a u b out scratch)) ≡ quotientAnswer w a u b out scratch
       unfolding quotientAnswer
       quotient-back = back (quotientGate w a u b out scratch) (pair-few Quotient w (length a) u (length b) (length out) (length scratch)) _
+
+      pub substitute-back : (v : ℕ) → answerFrom (wordOfAnswer (substituteAnswer v w a u b out scratch)) ≡ substituteAnswer v w a u b out scratch
+      unfolding substituteAnswer
+      substitute-back v =
+          back (substituteGate v w a u b out scratch) (pair-few (Substitution v) w (length a) u (length b) (length out) (length scratch)) _

@@ -19,6 +19,9 @@ ghost use Rattle.model.specs.Negate.{negateAnswer, negateOut};
 ghost use Rattle.model.specs.Add.{sumAnswer, sumOut, sumScratch};
 ghost use Rattle.model.specs.Product.{productAnswer, productOut, productScratch};
 ghost use Rattle.model.specs.Quotient.{quotientAnswer, quotientOut, quotientScratch};
+ghost use Rattle.model.specs.Series.{expAnswer, expOut, logAnswer, logOut, seriesScratch};
+ghost use Rattle.model.specs.Power.{powerAnswer, powerOut, powerScratch};
+ghost use Rattle.model.specs.Shifts.{derivativeAnswer, derivativeOut, expansionAnswer, expansionOut, shiftDownAnswer, shiftDownOut};
 ghost use Rattle.taylor.specs.Face.{fourOf, wordOfAnswer, wordOfReading, valueAfter, wordOfLinear, constantAfter, factorAfter};
 
 // +0.0, with no variables: refusal 5.
@@ -298,4 +301,85 @@ pub extern "C" fn taylor_divide(
     ensures cleared { λ r. ⌜ now (scratch .exit) ≡ quotientScratch ah (now (a .entry)) bh (now (b .entry)) (now (out .entry)) (now (scratch .entry)) ⌝ }
 {
     word_of(quotient::divide(ah, a, bh, b, out, scratch))
+}
+
+// exp, `value` its value at the constant term: refusals 1, 2, 5, 6.
+#[no_mangle]
+pub extern "C" fn taylor_exp(
+    head: u64,
+    a: &[f64],
+    value: f64,
+    out: &mut [f64],
+    scratch: &mut [f64],
+) -> u64
+    ensures answer { λ r. ⌜ r ≡ wordOfAnswer (expAnswer head (now (a .entry)) value (now (out .entry)) (now (scratch .entry))) ⌝ }
+    ensures written { λ r. ⌜ now (out .exit) ≡ expOut head (now (a .entry)) value (now (out .entry)) (now (scratch .entry)) ⌝ }
+    ensures cleared { λ r. ⌜ now (scratch .exit) ≡ seriesScratch head (now (a .entry)) value (now (out .entry)) (now (scratch .entry)) ⌝ }
+{
+    word_of(series::exp(head, a, value, out, scratch))
+}
+
+// log, `value` its value at the constant term: refusals 1, 2, 5, 6.
+#[no_mangle]
+pub extern "C" fn taylor_log(
+    head: u64,
+    a: &[f64],
+    value: f64,
+    out: &mut [f64],
+    scratch: &mut [f64],
+) -> u64
+    ensures answer { λ r. ⌜ r ≡ wordOfAnswer (logAnswer head (now (a .entry)) value (now (out .entry)) (now (scratch .entry))) ⌝ }
+    ensures written { λ r. ⌜ now (out .exit) ≡ logOut head (now (a .entry)) value (now (out .entry)) (now (scratch .entry)) ⌝ }
+    ensures cleared { λ r. ⌜ now (scratch .exit) ≡ seriesScratch head (now (a .entry)) value (now (out .entry)) (now (scratch .entry)) ⌝ }
+{
+    word_of(series::log(head, a, value, out, scratch))
+}
+
+// a to the power e: refusals 1, 2, 5, 6.
+#[no_mangle]
+pub extern "C" fn taylor_pow(
+    head: u64,
+    a: &[f64],
+    e: u32,
+    out: &mut [f64],
+    scratch: &mut [f64],
+) -> u64
+    ensures answer { λ r. ⌜ r ≡ wordOfAnswer (powerAnswer head (now (a .entry)) e (now (out .entry)) (now (scratch .entry))) ⌝ }
+    ensures written { λ r. ⌜ now (out .exit) ≡ powerOut head (now (a .entry)) e (now (out .entry)) (now (scratch .entry)) ⌝ }
+    ensures cleared { λ r. ⌜ now (scratch .exit) ≡ powerScratch head (now (a .entry)) e (now (out .entry)) (now (scratch .entry)) ⌝ }
+{
+    word_of(power::pow(head, a, e, out, scratch))
+}
+
+// The n-th derivative in v: refusals 1, 2, 3, 4, 5.
+#[no_mangle]
+pub extern "C" fn taylor_derivative(head: u64, a: &[f64], v: u64, n: u64, out: &mut [f64]) -> u64
+    ensures answer { λ r. ⌜ r ≡ wordOfAnswer (derivativeAnswer head (now (a .entry)) v n (now (out .entry))) ⌝ }
+    ensures written { λ r. ⌜ now (out .exit) ≡ derivativeOut head (now (a .entry)) v n (now (out .entry)) ⌝ }
+{
+    word_of(change::derivative(head, a, v as usize, n as usize, out))
+}
+
+// The derivative without its factor n!: refusals 1, 2, 3, 4, 5.
+#[no_mangle]
+pub extern "C" fn taylor_taylor_expansion_of_coeff(
+    head: u64,
+    a: &[f64],
+    v: u64,
+    n: u64,
+    out: &mut [f64],
+) -> u64
+    ensures answer { λ r. ⌜ r ≡ wordOfAnswer (expansionAnswer head (now (a .entry)) v n (now (out .entry))) ⌝ }
+    ensures written { λ r. ⌜ now (out .exit) ≡ expansionOut head (now (a .entry)) v n (now (out .entry)) ⌝ }
+{
+    word_of(change::taylor_expansion_of_coeff(head, a, v as usize, n as usize, out))
+}
+
+// The coefficients of v moved down by n, the sum of those that would leave added at 0: refusals 1, 2, 3, 4, 5.
+#[no_mangle]
+pub extern "C" fn taylor_shift_down(head: u64, a: &[f64], v: u64, n: u64, out: &mut [f64]) -> u64
+    ensures answer { λ r. ⌜ r ≡ wordOfAnswer (shiftDownAnswer head (now (a .entry)) v n (now (out .entry))) ⌝ }
+    ensures written { λ r. ⌜ now (out .exit) ≡ shiftDownOut head (now (a .entry)) v n (now (out .entry)) ⌝ }
+{
+    word_of(change::shift_down(head, a, v as usize, n as usize, out))
 }

@@ -17,17 +17,17 @@ count-of-requires-2 c κs = search needs
 array-borrow-prefix-out : tie.Need-array-borrow-prefix-out
 array-borrow-prefix-out c = search needs
 
-slice-aggregate-make : tie.Need-slice-aggregate-make
-slice-aggregate-make c = sym (length-take-le _ _ (omega (arith, c .before .before .count-of .ensures)))
+slice-aggregate-make-and-show : tie.Need-slice-aggregate-make-and-show
+slice-aggregate-make-and-show c = sym (length-take-le _ _ (omega (arith, c .before .before .count-of .ensures)))
 
 array-borrow-prefix-scratch : tie.Need-array-borrow-prefix-scratch
 array-borrow-prefix-scratch c = search needs
 
-slice-aggregate-make-2 : tie.Need-slice-aggregate-make-2
-slice-aggregate-make-2 c = sym (length-take-le _ _ (omega (arith, c .before .before .count-of2 .ensures)))
+slice-aggregate-make-and-show-2 : tie.Need-slice-aggregate-make-and-show-2
+slice-aggregate-make-and-show-2 c = sym (length-take-le _ _ (omega (arith, c .before .before .count-of2 .ensures)))
 
-make-requires : tie.Need-make-requires
-make-requires c κs = search needs
+make-and-show-requires : tie.Need-make-and-show-requires
+make-and-show-requires c κs = search needs
 
 slice-aggregate-write-all : tie.Need-slice-aggregate-write-all
 slice-aggregate-write-all c = search needs
@@ -46,10 +46,10 @@ act-spec =
     count-of-requires
     count-of-requires-2
     array-borrow-prefix-out
-    slice-aggregate-make
+    slice-aggregate-make-and-show
     array-borrow-prefix-scratch
-    slice-aggregate-make-2
-    make-requires
+    slice-aggregate-make-and-show-2
+    make-and-show-requires
     slice-aggregate-write-all
     write-all-requires
     returns)

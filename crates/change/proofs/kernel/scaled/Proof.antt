@@ -1,0 +1,94 @@
+use mathlib.Core.Path.{_≡_, sym, ap, _∙_}
+use native.Mathlib.Omega.{arith}
+use lib.ListN.{length}
+use lib.Seq.{length-take-le}
+use Rattle.model.specs.declared.Answer.the-variants.{Done}
+use Rattle.model.specs.declared.Family.the-variants.{Shift}
+use Rattle.model.specs.Header.{stored}
+use Rattle.model.specs.Word.{headerOf, wordOf}
+use Rattle.model.specs.Gates.{announcedOne}
+use Rattle.model.specs.Poly.{held}
+use Rattle.words.specs.Rules.{none-regular}
+use Rattle.gates.specs.Gate.{InReady, in-ready, entry-refused, entry-done}
+use Rattle.readings.specs.Term.{part-written}
+use Rattle.change.specs.Scale.{scaledPoly}
+use Rattle.change.specs.Taken.{scaled-keeps}
+use borrow.Author.Needs.{needs}
+use Rattle.change.proofs.kernel.scaled.Statement.{statement}
+use Rattle.change.proofs.kernel.scaled.Tie as tie
+
+ready : (c : tie.Else1) → InReady (Shift (c .before .before .before .before .before .args .v) (c .before .before .before .before .before .args .n)) (c .before .before .before .before .before .args .v) (c .before .before .before .before .before .args .n) (c .before .before .before .before .before .args .head) (length (c .before .before .before .before .before .args .a .now)) (length (c .before .before .before .before .before .args .out .now))
+ready c = in-ready _ _ _ _ _ _ (ap (λ r. r .number) (sym (c .before .before .in-gate .ensures)) ∙ c .if1 .left)
+
+is-announced : (c : tie.After-announced-of) → c .announced-of .result ≡ (announcedOne (Shift (c .before .before .before .before .before .before .before .before .args .v) (c .before .before .before .before .before .before .before .before .args .n)) (c .before .before .before .before .before .before .before .before .args .head))
+is-announced c = simp (c .before .before .header-of .ensures, c .before .none .ensures) at (c .announced-of .ensures)
+
+given : (c : tie.After-stored-of) → c .stored-of .result ≡ stored (headerOf (c .before .before .before .before .before .before .before .before .before .args .head))
+given c = c .stored-of .ensures ∙ ap stored (c .before .before .before .header-of .ensures)
+
+count : (c : tie.After-stored-of2) → c .stored-of2 .result ≡ stored (announcedOne (Shift (c .before .before .before .before .before .before .before .before .before .before .args .v) (c .before .before .before .before .before .before .before .before .before .before .args .n)) (c .before .before .before .before .before .before .before .before .before .before .args .head))
+count c = c .stored-of2 .ensures ∙ ap stored (is-announced (c .before .before))
+
+head-is : (c : tie.After-take-rows) → c .take-rows .result ≡ (scaledPoly (c .before .before .before .before .before .before .before .before .before .before .before .before .before .args .plain) (c .before .before .before .before .before .before .before .before .before .before .before .before .before .args .v) (c .before .before .before .before .before .before .before .before .before .before .before .before .before .args .n) (held (c .before .before .before .before .before .before .before .before .before .before .before .before .before .args .head) (c .before .before .before .before .before .before .before .before .before .before .before .before .before .args .a .now))) .head
+head-is c = rw (c .before .before .before .before .before .before .before .header-of .ensures, given (c .before .before .before .before)) at (c .take-rows .ensures .0)
+
+in-gate-requires : tie.Need-in-gate-requires
+in-gate-requires c κs = search needs
+
+returns : tie.Need-returns
+returns c = entry-refused (c .before .before .in-gate .ensures) (c .if1 .taken) (announcedOne (Shift (c .before .before .before .before .before .args .v) (c .before .before .before .before .before .args .n)) (c .before .before .before .before .before .args .head)) (scaledPoly (c .before .before .before .before .before .args .plain) (c .before .before .before .before .before .args .v) (c .before .before .before .before .before .args .n) (held (c .before .before .before .before .before .args .head) (c .before .before .before .before .before .args .a .now))) (c .before .before .before .before .before .args .out .now)
+
+header-of-requires : tie.Need-header-of-requires
+header-of-requires c κs = search needs
+
+none-requires : tie.Need-none-requires
+none-requires c κs = search needs
+
+announced-of-requires : tie.Need-announced-of-requires
+announced-of-requires c κs = (rw (c .before .header-of .ensures) (ready (c .before .before) .one .good .regular .rules), rw (c .none .ensures) (none-regular .rules))
+
+stored-of-requires : tie.Need-stored-of-requires
+stored-of-requires c κs = rw (c .before .before .header-of .ensures) (ready (c .before .before .before) .one .good .regular .rules)
+
+stored-of-requires-2 : tie.Need-stored-of-requires-2
+stored-of-requires-2 c κs = rw (is-announced (c .before)) (ready (c .before .before .before .before) .one .announced .regular .rules)
+
+slice-aggregate-take-rows : tie.Need-slice-aggregate-take-rows
+slice-aggregate-take-rows c = sym (length-take-le _ (c .before .before .before .before .before .before .before .before .before .before .before .args .a .now) (rw (given (c .before .before)) (ready (c .before .before .before .before .before .before) .one .full)))
+
+slice-relend-prefix-take-rows : tie.Need-slice-relend-prefix-take-rows
+slice-relend-prefix-take-rows c = rw (count (c .before)) (ready (c .before .before .before .before .before .before) .one .room)
+
+slice-aggregate-take-rows-2 : tie.Need-slice-aggregate-take-rows-2
+slice-aggregate-take-rows-2 c = sym (length-take-le _ (c .before .before .before .before .before .before .before .before .before .before .before .before .args .out .now) (rw (count (c .before .before)) (ready (c .before .before .before .before .before .before .before) .one .room)))
+
+take-rows-requires : tie.Need-take-rows-requires
+take-rows-requires c κs = record { rules = rw (c .before .before .before .before .before .before .header-of .ensures) (ready (c .before .before .before .before .before .before .before) .one .good .regular .rules); is = rw (c .before .before .before .before .before .before .header-of .ensures) (is-announced (c .before .before .before .before)); var = omega (arith, ready (c .before .before .before .before .before .before .before) .known, ready (c .before .before .before .before .before .before .before) .one .good .regular .rules .few); below = rw (c .before .before .before .before .before .before .header-of .ensures) (ready (c .before .before .before .before .before .before .before) .below); full = length-take-le _ (c .before .before .before .before .before .before .before .before .before .before .before .before .args .a .now) (rw (given (c .before .before .before)) (ready (c .before .before .before .before .before .before .before) .one .full)) ∙ c .before .before .before .stored-of .ensures; room = length-take-le _ (c .before .before .before .before .before .before .before .before .before .before .before .before .args .out .now) (rw (count (c .before .before)) (ready (c .before .before .before .before .before .before .before) .one .room)) ∙ c .before .before .stored-of2 .ensures }
+
+pack-requires : tie.Need-pack-requires
+pack-requires c κs = rw (head-is (c .before .before)) (scaled-keeps (c .before .before .before .before .before .before .before .before .before .before .before .before .before .before .before .args .plain) (c .before .before .before .before .before .before .before .before .before .before .before .before .before .before .before .args .v) (c .before .before .before .before .before .before .before .before .before .before .before .before .before .before .before .args .n) (held (c .before .before .before .before .before .before .before .before .before .before .before .before .before .before .before .args .head) (c .before .before .before .before .before .before .before .before .before .before .before .before .before .before .before .args .a .now)) (ready (c .before .before .before .before .before .before .before .before .before .before) .one .good .regular .rules) .regular .rules)
+
+same-length : tie.Need-same-length
+same-length c = search needs
+
+returns-2 : tie.Need-returns-2
+returns-2 c = entry-done (c .before .before .before .before .before .before .before .before .before .before .before .before .before .in-gate .ensures) (c .before .before .before .before .before .before .before .before .before .before .before .if1 .left) (announcedOne (Shift (c .before .before .before .before .before .before .before .before .before .before .before .before .before .before .before .before .args .v) (c .before .before .before .before .before .before .before .before .before .before .before .before .before .before .before .before .args .n)) (c .before .before .before .before .before .before .before .before .before .before .before .before .before .before .before .before .args .head)) (scaledPoly (c .before .before .before .before .before .before .before .before .before .before .before .before .before .before .before .before .args .plain) (c .before .before .before .before .before .before .before .before .before .before .before .before .before .before .before .before .args .v) (c .before .before .before .before .before .before .before .before .before .before .before .before .before .before .before .before .args .n) (held (c .before .before .before .before .before .before .before .before .before .before .before .before .before .before .before .before .args .head) (c .before .before .before .before .before .before .before .before .before .before .before .before .before .before .before .before .args .a .now))) (c .before .before .before .before .before .before .before .before .before .before .before .before .before .before .before .before .args .out .now) (ap Done (c .pack .ensures ∙ ap wordOf (head-is (c .before .before .before)))) (rw (count (c .before .before .before .before .before .before)) (part-written (stored (announcedOne (Shift (c .before .before .before .before .before .before .before .before .before .before .before .before .before .before .before .before .args .v) (c .before .before .before .before .before .before .before .before .before .before .before .before .before .before .before .before .args .n)) (c .before .before .before .before .before .before .before .before .before .before .before .before .before .before .before .before .args .head))) ((scaledPoly (c .before .before .before .before .before .before .before .before .before .before .before .before .before .before .before .before .args .plain) (c .before .before .before .before .before .before .before .before .before .before .before .before .before .before .before .before .args .v) (c .before .before .before .before .before .before .before .before .before .before .before .before .before .before .before .before .args .n) (held (c .before .before .before .before .before .before .before .before .before .before .before .before .before .before .before .before .args .head) (c .before .before .before .before .before .before .before .before .before .before .before .before .before .before .before .before .args .a .now))) .coeffs) (c .before .before .before .before .before .before .before .before .before .before .before .before .before .before .before .before .args .out .now) (rw (c .before .before .before .before .before .before .before .before .before .before .header-of .ensures, given (c .before .before .before .before .before .before .before), is-announced (c .before .before .before .before .before .before .before .before)) at (c .before .before .before .take-rows .ensures .1))))
+
+pub scaled-spec : {M : Type 1} → statement M
+scaled-spec =
+    tie.close
+    (tie.spec
+    in-gate-requires
+    returns
+    header-of-requires
+    none-requires
+    announced-of-requires
+    stored-of-requires
+    stored-of-requires-2
+    slice-aggregate-take-rows
+    slice-relend-prefix-take-rows
+    slice-aggregate-take-rows-2
+    take-rows-requires
+    pack-requires
+    same-length
+    returns-2)

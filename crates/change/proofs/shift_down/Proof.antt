@@ -1,0 +1,93 @@
+use mathlib.Core.Path.{_≡_, sym, ap, _∙_}
+use native.Mathlib.Omega.{arith}
+use lib.ListN.{length}
+use lib.Seq.{length-take-le}
+use Rattle.model.specs.declared.Answer.the-variants.{Done}
+use Rattle.model.specs.declared.Family.the-variants.{Shift}
+use Rattle.model.specs.Header.{stored}
+use Rattle.model.specs.Word.{headerOf, wordOf}
+use Rattle.model.specs.Gates.{announcedOne}
+use Rattle.model.specs.Poly.{held}
+use Rattle.model.specs.Shifts.{shiftDownPoly, shiftDownAnswer, shiftDownOut}
+use Rattle.words.specs.Rules.{none-regular}
+use Rattle.gates.specs.Gate.{InReady, in-ready, entry-refused, entry-done}
+use Rattle.readings.specs.Term.{part-written, padded-full}
+use Rattle.change.specs.Shift.{shift-down-keeps}
+use borrow.Author.Needs.{needs}
+use Rattle.change.proofs.shift_down.Statement.{statement}
+use Rattle.change.proofs.shift_down.Tie as tie
+
+ready : (c : tie.Else1) → InReady (Shift (c .before .before .before .before .before .args .v) (c .before .before .before .before .before .args .n)) (c .before .before .before .before .before .args .v) (c .before .before .before .before .before .args .n) (c .before .before .before .before .before .args .head) (length (c .before .before .before .before .before .args .a .now)) (length (c .before .before .before .before .before .args .out .now))
+ready c = in-ready _ _ _ _ _ _ (ap (λ r. r .number) (sym (c .before .before .in-gate .ensures)) ∙ c .if1 .left)
+
+is-announced : (c : tie.After-announced-of) → c .announced-of .result ≡ (announcedOne (Shift (c .before .before .before .before .before .before .before .before .args .v) (c .before .before .before .before .before .before .before .before .args .n)) (c .before .before .before .before .before .before .before .before .args .head))
+is-announced c = simp (c .before .before .header-of .ensures, c .before .none .ensures) at (c .announced-of .ensures)
+
+given : (c : tie.After-stored-of) → c .stored-of .result ≡ stored (headerOf (c .before .before .before .before .before .before .before .before .before .args .head))
+given c = c .stored-of .ensures ∙ ap stored (c .before .before .before .header-of .ensures)
+
+count : (c : tie.After-stored-of2) → c .stored-of2 .result ≡ stored (announcedOne (Shift (c .before .before .before .before .before .before .before .before .before .before .args .v) (c .before .before .before .before .before .before .before .before .before .before .args .n)) (c .before .before .before .before .before .before .before .before .before .before .args .head))
+count c = c .stored-of2 .ensures ∙ ap stored (is-announced (c .before .before))
+
+in-gate-requires : tie.Need-in-gate-requires
+in-gate-requires c κs = search needs
+
+returns : tie.Need-returns
+unfolding shiftDownAnswer shiftDownOut
+returns c = entry-refused (c .before .before .in-gate .ensures) (c .if1 .taken) (announcedOne (Shift (c .before .before .before .before .before .args .v) (c .before .before .before .before .before .args .n)) (c .before .before .before .before .before .args .head)) (shiftDownPoly (c .before .before .before .before .before .args .v) (c .before .before .before .before .before .args .n) (held (c .before .before .before .before .before .args .head) (c .before .before .before .before .before .args .a .now))) (c .before .before .before .before .before .args .out .now)
+
+header-of-requires : tie.Need-header-of-requires
+header-of-requires c κs = search needs
+
+none-requires : tie.Need-none-requires
+none-requires c κs = search needs
+
+announced-of-requires : tie.Need-announced-of-requires
+announced-of-requires c κs = (rw (c .before .header-of .ensures) (ready (c .before .before) .one .good .regular .rules), rw (c .none .ensures) (none-regular .rules))
+
+stored-of-requires : tie.Need-stored-of-requires
+stored-of-requires c κs = rw (c .before .before .header-of .ensures) (ready (c .before .before .before) .one .good .regular .rules)
+
+stored-of-requires-2 : tie.Need-stored-of-requires-2
+stored-of-requires-2 c κs = rw (is-announced (c .before)) (ready (c .before .before .before .before) .one .announced .regular .rules)
+
+slice-aggregate-shift-rows : tie.Need-slice-aggregate-shift-rows
+slice-aggregate-shift-rows c = sym (length-take-le _ (c .before .before .before .before .before .before .before .before .before .before .before .args .a .now) (rw (given (c .before .before)) (ready (c .before .before .before .before .before .before) .one .full)))
+
+slice-relend-prefix-shift-rows : tie.Need-slice-relend-prefix-shift-rows
+slice-relend-prefix-shift-rows c = rw (count (c .before)) (ready (c .before .before .before .before .before .before) .one .room)
+
+slice-aggregate-shift-rows-2 : tie.Need-slice-aggregate-shift-rows-2
+slice-aggregate-shift-rows-2 c = sym (length-take-le _ (c .before .before .before .before .before .before .before .before .before .before .before .before .args .out .now) (rw (count (c .before .before)) (ready (c .before .before .before .before .before .before .before) .one .room)))
+
+shift-rows-requires : tie.Need-shift-rows-requires
+shift-rows-requires c κs = record { rules = rw (c .before .before .before .before .before .before .header-of .ensures) (ready (c .before .before .before .before .before .before .before) .one .good .regular .rules); is = rw (c .before .before .before .before .before .before .header-of .ensures) (is-announced (c .before .before .before .before)); var = omega (arith, ready (c .before .before .before .before .before .before .before) .known, ready (c .before .before .before .before .before .before .before) .one .good .regular .rules .few); below = rw (c .before .before .before .before .before .before .header-of .ensures) (ready (c .before .before .before .before .before .before .before) .below); full = length-take-le _ (c .before .before .before .before .before .before .before .before .before .before .before .before .args .a .now) (rw (given (c .before .before .before)) (ready (c .before .before .before .before .before .before .before) .one .full)) ∙ c .before .before .before .stored-of .ensures; room = length-take-le _ (c .before .before .before .before .before .before .before .before .before .before .before .before .args .out .now) (rw (count (c .before .before)) (ready (c .before .before .before .before .before .before .before) .one .room)) ∙ c .before .before .stored-of2 .ensures }
+
+pack-requires : tie.Need-pack-requires
+pack-requires c κs = rw (is-announced (c .before .before .before .before .before .before .before)) (ready (c .before .before .before .before .before .before .before .before .before .before) .one .announced .regular .rules)
+
+same-length : tie.Need-same-length
+same-length c = search needs
+
+returns-2 : tie.Need-returns-2
+unfolding shiftDownPoly shiftDownAnswer shiftDownOut
+returns-2 c = entry-done (c .before .before .before .before .before .before .before .before .before .before .before .before .before .in-gate .ensures) (c .before .before .before .before .before .before .before .before .before .before .before .if1 .left) (announcedOne (Shift (c .before .before .before .before .before .before .before .before .before .before .before .before .before .before .before .before .args .v) (c .before .before .before .before .before .before .before .before .before .before .before .before .before .before .before .before .args .n)) (c .before .before .before .before .before .before .before .before .before .before .before .before .before .before .before .before .args .head)) (shiftDownPoly (c .before .before .before .before .before .before .before .before .before .before .before .before .before .before .before .before .args .v) (c .before .before .before .before .before .before .before .before .before .before .before .before .before .before .before .before .args .n) (held (c .before .before .before .before .before .before .before .before .before .before .before .before .before .before .before .before .args .head) (c .before .before .before .before .before .before .before .before .before .before .before .before .before .before .before .before .args .a .now))) (c .before .before .before .before .before .before .before .before .before .before .before .before .before .before .before .before .args .out .now) (ap Done (c .pack .ensures ∙ ap wordOf (is-announced (c .before .before .before .before .before .before .before .before)))) (rw (count (c .before .before .before .before .before .before)) (part-written (stored (announcedOne (Shift (c .before .before .before .before .before .before .before .before .before .before .before .before .before .before .before .before .args .v) (c .before .before .before .before .before .before .before .before .before .before .before .before .before .before .before .before .args .n)) (c .before .before .before .before .before .before .before .before .before .before .before .before .before .before .before .before .args .head))) ((shiftDownPoly (c .before .before .before .before .before .before .before .before .before .before .before .before .before .before .before .before .args .v) (c .before .before .before .before .before .before .before .before .before .before .before .before .before .before .before .before .args .n) (held (c .before .before .before .before .before .before .before .before .before .before .before .before .before .before .before .before .args .head) (c .before .before .before .before .before .before .before .before .before .before .before .before .before .before .before .before .args .a .now))) .coeffs) (c .before .before .before .before .before .before .before .before .before .before .before .before .before .before .before .before .args .out .now) ((rw (c .before .before .before .before .before .before .before .before .before .before .header-of .ensures, given (c .before .before .before .before .before .before .before)) at (c .before .before .before .shift-rows .ensures)) ∙ padded-full _ (shift-down-keeps (c .before .before .before .before .before .before .before .before .before .before .before .before .before .before .before .before .args .v) (c .before .before .before .before .before .before .before .before .before .before .before .before .before .before .before .before .args .n) (held (c .before .before .before .before .before .before .before .before .before .before .before .before .before .before .before .before .args .head) (c .before .before .before .before .before .before .before .before .before .before .before .before .before .before .before .before .args .a .now) .coeffs) (ready (c .before .before .before .before .before .before .before .before .before .before .before) .one .good .regular .rules) .full))))
+
+pub shift-down-spec : {M : Type 1} → statement M
+shift-down-spec =
+    tie.close
+    (tie.spec
+    in-gate-requires
+    returns
+    header-of-requires
+    none-requires
+    announced-of-requires
+    stored-of-requires
+    stored-of-requires-2
+    slice-aggregate-shift-rows
+    slice-relend-prefix-shift-rows
+    slice-aggregate-shift-rows-2
+    shift-rows-requires
+    pack-requires
+    same-length
+    returns-2)

@@ -1,0 +1,6 @@
+pub mod Room
+pub mod Parts
+pub mod Drop
+pub mod Shift
+pub mod Scale
+pub mod Taken

@@ -1,0 +1,297 @@
+// The rows of one variable. All places that share the numbers of the variables before v are a part: rows of `s` places, one after the other.
+use gates::stored_of;
+use model::Answer;
+use model::Family;
+use model::Header;
+use shape::announce::announced_of;
+use words::word::header_of;
+use words::word::pack;
+ghost use mathlib.Core.Path.{_≡_};
+ghost use Prim.Native.Nat.{_+_, _*_, _≤_};
+ghost use lib.ListN.{length, getD};
+ghost use lib.Ieee.{nan, add, mul, binary64};
+ghost use Rattle.lists.specs.Table.{table};
+ghost use Rattle.model.specs.Header.{header, stored, ones};
+ghost use Rattle.model.specs.Refusals.{padded};
+ghost use Rattle.model.specs.declared.Family.the-variants.{Shift};
+ghost use Rattle.model.specs.Poly.{poly, held};
+ghost use Rattle.model.specs.Answers.{answered, outAfter};
+ghost use Rattle.model.specs.Gates.{announcedOne};
+ghost use Rattle.model.specs.Shifts.{shiftDownPoly, shiftGate};
+ghost use Rattle.product.specs.Room.{Rows};
+ghost use Rattle.change.specs.Room.{Shifted, PartRoom, Stripes, Scaling, Striped};
+ghost use Rattle.change.specs.Drop.{sumAt, frontAt, keptAt, droppedAt, droppedFlat};
+ghost use Rattle.change.specs.Scale.{factorialF, startF, scaledBy, stripeAt, scaledFlat, scaledPoly};
+
+// Each place of `to` with that of `row` added to it.
+fn add_row(row: &[f64], to: &mut [f64])
+    requires { ⌜ length (now to) ≤ length (now row) ⌝ }
+    ensures { λ _. ⌜ now (to .exit) ≡ table (length (now (to .entry))) (λ k. add binary64 (getD (now (to .entry)) k nan) (getD (now (row .entry)) k nan)) ⌝ }
+{
+    let n = to.len();
+    let mut k = 0;
+    while k < n {
+        to[k] = to[k] + row[k];
+        k += 1;
+    }
+}
+
+// Each place of `row` with that of `to` added to it.
+fn add_to_row(row: &[f64], to: &mut [f64])
+    requires { ⌜ length (now to) ≤ length (now row) ⌝ }
+    ensures { λ _. ⌜ now (to .exit) ≡ table (length (now (to .entry))) (λ k. add binary64 (getD (now (row .entry)) k nan) (getD (now (to .entry)) k nan)) ⌝ }
+{
+    let n = to.len();
+    let mut k = 0;
+    while k < n {
+        let x = row[k];
+        to[k] = x + to[k];
+        k += 1;
+    }
+}
+
+// The sum of the first m rows, from +0.0 upwards; answers how many places they have.
+fn sum_rows(a: &[f64], m: usize, to: &mut [f64]) -> usize
+    requires { ⌜ m * length (now to) ≤ length (now a) ⌝ }
+    ensures places { λ r. ⌜ r ≡ m * length (now (to .entry)) ⌝ }
+    ensures sum { λ r. ⌜ now (to .exit) ≡ table (length (now (to .entry))) (sumAt (length (now (to .entry))) m (now (a .entry))) ⌝ }
+{
+    blocks::clear(to);
+    let s = to.len();
+    let mut j = 0;
+    let mut at = 0;
+    while j < m {
+        add_row(&a[at..at + s], to);
+        at += s;
+        j += 1;
+    }
+    at
+}
+
+// The row m plus the sum of those before it; answers how many places they all have.
+fn front_row(a: &[f64], m: usize, to: &mut [f64]) -> usize
+    requires { ⌜ m * length (now to) + length (now to) ≤ length (now a) ⌝ }
+    ensures places { λ r. ⌜ r ≡ m * length (now (to .entry)) + length (now (to .entry)) ⌝ }
+    ensures sum { λ r. ⌜ now (to .exit) ≡ table (length (now (to .entry))) (frontAt (length (now (to .entry))) m (now (a .entry))) ⌝ }
+{
+    let end = sum_rows(a, m, to);
+    let next = end + to.len();
+    add_to_row(&a[end..next], to);
+    next
+}
+
+// The rows from m on, the first of them with the sum of those before it.
+fn kept_rows(a: &[f64], s: usize, m: usize, to: &mut [f64])
+    requires { ⌜ (s ≤ length (now to)) × (m * s + length (now to) ≡ length (now a)) ⌝ }
+    ensures { λ _. ⌜ now (to .exit) ≡ table (length (now (to .entry))) (keptAt s m (now (a .entry))) ⌝ }
+{
+    let next = front_row(a, m, &mut to[..s]);
+    blocks::copy(&a[next..], &mut to[s..]);
+}
+
+// One part: the sum of all m rows, or the rows from m on.
+fn drop_part(all: bool, a: &[f64], s: usize, m: usize, to: &mut [f64])
+    requires { ⌜ PartRoom all s m (length (now a)) (length (now to)) ⌝ }
+    ensures { λ _. ⌜ now (to .exit) ≡ table (length (now (to .entry))) (droppedAt all s m (now (a .entry))) ⌝ }
+{
+    if all {
+        sum_rows(a, m, to);
+        return;
+    }
+    kept_rows(a, s, m, to);
+}
+
+// Part by part, each of `width` places in `a` and of `step` in `to`.
+fn drop_parts(all: bool, a: &[f64], s: usize, m: usize, width: usize, step: usize, to: &mut [f64])
+    requires { ⌜ Rows s width step (length (now a)) (length (now to)) ⌝ ∗ ⌜ PartRoom all s m width step ⌝ }
+    ensures { λ _. ⌜ now (to .exit) ≡ table (length (now (to .entry))) (droppedFlat all s m width step (now (a .entry))) ⌝ }
+{
+    let mut from = 0;
+    let mut at = 0;
+    while at < to.len() {
+        drop_part(all, &a[from..from + width], s, m, &mut to[at..at + step]);
+        from += width;
+        at += step;
+    }
+}
+
+// The rows of v moved down by n: h is the header of `a`, r the announced one.
+pub fn shift_rows(a: &[f64], h: Header, r: Header, v: usize, n: usize, to: &mut [f64])
+    requires { ⌜ Shifted h r v n (length (now a)) (length (now to)) ⌝ }
+    ensures { λ _. ⌜ now (to .exit) ≡ shiftDownPoly v n (poly h (now (a .entry))) .coeffs ⌝ }
+{
+    let l = h.lengths;
+    let c = r.lengths;
+    let strides = words::places::strides_of(l);
+    let s = strides[v];
+    if l[v] <= n + 1 {
+        drop_parts(true, a, s, l[v], l[v] * s, c[v] * s, to);
+        return;
+    }
+    drop_parts(false, a, s, n, l[v] * s, c[v] * s, to);
+}
+
+// n!, by ascending products.
+fn factorial(n: usize) -> f64
+    requires { ⌜ n ≤ 64 ⌝ }
+    ensures { λ r. ⌜ r ≡ factorialF n ⌝ }
+{
+    let mut product = 1.0;
+    let mut i = 0;
+    while i < n {
+        i += 1;
+        product = product * (i as f64);
+    }
+    product
+}
+
+// The factor of the first row that is kept.
+fn first_factor(plain: bool, n: usize) -> f64
+    requires { ⌜ n ≤ 64 ⌝ }
+    ensures { λ r. ⌜ r ≡ startF plain n ⌝ }
+{
+    if plain {
+        return 1.0;
+    }
+    factorial(n)
+}
+
+// Each place of `a` times the factor.
+fn scale_row(a: &[f64], factor: f64, to: &mut [f64])
+    requires { ⌜ length (now to) ≤ length (now a) ⌝ }
+    ensures { λ _. ⌜ now (to .exit) ≡ table (length (now (to .entry))) (λ k. mul binary64 (getD (now (a .entry)) k nan) factor) ⌝ }
+{
+    let n = to.len();
+    let mut k = 0;
+    while k < n {
+        to[k] = a[k] * factor;
+        k += 1;
+    }
+}
+
+// A row times the factor, or as it is where `plain`.
+fn put_row(plain: bool, a: &[f64], factor: f64, to: &mut [f64])
+    requires { ⌜ length (now to) ≤ length (now a) ⌝ }
+    ensures { λ _. ⌜ now (to .exit) ≡ table (length (now (to .entry))) (λ k. scaledBy plain factor (getD (now (a .entry)) k nan)) ⌝ }
+{
+    if plain {
+        blocks::copy(a, to);
+        return;
+    }
+    scale_row(a, factor, to);
+}
+
+// One row of every part: in `to` it begins at `first`, in `a` it lies `skip` places further on.
+fn scale_stripe(
+    plain: bool,
+    a: &[f64],
+    factor: f64,
+    s: usize,
+    width: usize,
+    step: usize,
+    skip: usize,
+    first: usize,
+    to: &mut [f64],
+)
+    requires { ⌜ Stripes s width step skip first (length (now a)) (length (now to)) ⌝ }
+    ensures { λ _. ⌜ Striped first s step (stripeAt plain factor width step skip (now (a .entry))) (now (to .entry)) (now (to .exit)) ⌝ }
+{
+    let mut from = skip + first;
+    let mut at = first;
+    while at < to.len() {
+        put_row(plain, &a[from..from + s], factor, &mut to[at..at + s]);
+        from += width;
+        at += step;
+    }
+}
+
+// The rows from n on, each times its factor, which is worked out once: that of the first is `start`, or none where `plain`.
+fn scale_rows(
+    plain: bool,
+    a: &[f64],
+    start: f64,
+    n: usize,
+    s: usize,
+    width: usize,
+    step: usize,
+    to: &mut [f64],
+)
+    requires { ⌜ Scaling n s width step (length (now a)) (length (now to)) ⌝ }
+    ensures { λ _. ⌜ now (to .exit) ≡ table (length (now (to .entry))) (scaledFlat plain start n s width step (now (a .entry))) ⌝ }
+{
+    let skip = n * s;
+    scale_stripe(plain, a, start, s, width, step, skip, 0, to);
+    let mut factor = start;
+    let mut k = 1;
+    let mut at = s;
+    while at < step {
+        factor = factor * ((n + k) as f64 / (k as f64));
+        scale_stripe(false, a, factor, s, width, step, skip, at, to);
+        k += 1;
+        at += s;
+    }
+}
+
+// The header with all lengths 1.
+fn shortest(h: Header) -> Header
+    ensures { λ r. ⌜ r ≡ header (h .vars) (h .limits) ones ⌝ }
+{
+    let l = h.limits;
+    Header {
+        vars: h.vars,
+        limits: l,
+        lengths: [1, 1, 1, 1],
+    }
+}
+
+// The derivative, or the expansion of the coefficient n where `plain`, with +0.0 past it: h is the header of `a`, r the announced one; answers the true one.
+pub fn take_rows(
+    plain: bool,
+    a: &[f64],
+    h: Header,
+    r: Header,
+    v: usize,
+    n: usize,
+    to: &mut [f64],
+) -> Header
+    requires { ⌜ Shifted h r v n (length (now a)) (length (now to)) ⌝ }
+    ensures head { λ x. ⌜ x ≡ scaledPoly plain v n (poly h (now (a .entry))) .head ⌝ }
+    ensures places { λ x. ⌜ now (to .exit) ≡ padded (stored r) (scaledPoly plain v n (poly h (now (a .entry))) .coeffs) ⌝ }
+{
+    let l = h.lengths;
+    if l[v] <= n {
+        blocks::clear(to);
+        return shortest(r);
+    }
+    let c = r.lengths;
+    let strides = words::places::strides_of(l);
+    let s = strides[v];
+    scale_rows(
+        plain,
+        a,
+        first_factor(plain, n),
+        n,
+        s,
+        l[v] * s,
+        c[v] * s,
+        to,
+    );
+    r
+}
+
+// The derivative, or the expansion of the coefficient n where `plain`: refusals 1, 2, 3, 4, 5.
+pub fn scaled(plain: bool, head: u64, a: &[f64], v: usize, n: usize, out: &mut [f64]) -> Answer
+    ensures answer { λ r. ⌜ r ≡ answered (shiftGate head (now (a .entry)) v n (now (out .entry))) (scaledPoly plain v n (held head (now (a .entry)))) ⌝ }
+    ensures written { λ r. ⌜ now (out .exit) ≡ outAfter (shiftGate head (now (a .entry)) v n (now (out .entry))) (announcedOne (Shift v n) head) (scaledPoly plain v n (held head (now (a .entry)))) (now (out .entry)) ⌝ }
+{
+    let refusal = gates::in_gate(Family::Shift(v, n), v, n, head, a.len(), out.len());
+    if refusal.number != 0 {
+        return Answer::Refused(refusal);
+    }
+    let h = header_of(head);
+    let r = announced_of(Family::Shift(v, n), h, Header::none());
+    let given = stored_of(h);
+    let count = stored_of(r);
+    let x = take_rows(plain, &a[..given], h, r, v, n, &mut out[..count]);
+    Answer::Done(pack(x))
+}

@@ -1,0 +1,51 @@
+// What changes one variable (document 01, port order 7). Each entry takes any words, numbers and buffers.
+mod kernel;
+
+use gates::stored_of;
+use model::Answer;
+use model::Family;
+use model::Header;
+use shape::announce::announced_of;
+use words::word::header_of;
+use words::word::pack;
+ghost use mathlib.Core.Path.{_≡_};
+ghost use Rattle.model.specs.Shifts.{derivativeAnswer, derivativeOut, expansionAnswer, expansionOut, shiftDownAnswer, shiftDownOut};
+
+// The n-th derivative in v: refusals 1, 2, 3, 4, 5.
+pub fn derivative(head: u64, a: &[f64], v: usize, n: usize, out: &mut [f64]) -> Answer
+    ensures answer { λ r. ⌜ r ≡ derivativeAnswer head (now (a .entry)) v n (now (out .entry)) ⌝ }
+    ensures written { λ r. ⌜ now (out .exit) ≡ derivativeOut head (now (a .entry)) v n (now (out .entry)) ⌝ }
+{
+    kernel::scaled(false, head, a, v, n, out)
+}
+
+// The expansion of the coefficient n of v, the derivative without its factor n!: refusals 1, 2, 3, 4, 5.
+pub fn taylor_expansion_of_coeff(
+    head: u64,
+    a: &[f64],
+    v: usize,
+    n: usize,
+    out: &mut [f64],
+) -> Answer
+    ensures answer { λ r. ⌜ r ≡ expansionAnswer head (now (a .entry)) v n (now (out .entry)) ⌝ }
+    ensures written { λ r. ⌜ now (out .exit) ≡ expansionOut head (now (a .entry)) v n (now (out .entry)) ⌝ }
+{
+    kernel::scaled(true, head, a, v, n, out)
+}
+
+// The coefficients of v moved down by n, the sum of those that would leave added at 0: refusals 1, 2, 3, 4, 5.
+pub fn shift_down(head: u64, a: &[f64], v: usize, n: usize, out: &mut [f64]) -> Answer
+    ensures answer { λ r. ⌜ r ≡ shiftDownAnswer head (now (a .entry)) v n (now (out .entry)) ⌝ }
+    ensures written { λ r. ⌜ now (out .exit) ≡ shiftDownOut head (now (a .entry)) v n (now (out .entry)) ⌝ }
+{
+    let refusal = gates::in_gate(Family::Shift(v, n), v, n, head, a.len(), out.len());
+    if refusal.number != 0 {
+        return Answer::Refused(refusal);
+    }
+    let h = header_of(head);
+    let r = announced_of(Family::Shift(v, n), h, Header::none());
+    let given = stored_of(h);
+    let count = stored_of(r);
+    kernel::shift_rows(&a[..given], h, r, v, n, &mut out[..count]);
+    Answer::Done(pack(r))
+}

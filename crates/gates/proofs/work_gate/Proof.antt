@@ -1,0 +1,72 @@
+use mathlib.Core.Path.{_≡_, sym, ap, _∙_}
+use borrow.Author.Tests.{not-true, not-false}
+use Rattle.gates.specs.Gate.{OneReady, one-ready, one-stop, one-on, one-announced}
+use Rattle.model.specs.Gates.{workGate, announcedOne}
+use Rattle.model.specs.Refusals.{roomy}
+use Rattle.words.specs.Rules.{none-regular}
+use borrow.Author.Needs.{needs}
+use Rattle.gates.proofs.work_gate.Statement.{statement}
+use Rattle.gates.proofs.work_gate.Tie as tie
+use Rattle.gates.proofs.work_gate.Reads as reads
+use Rattle.gates.proofs.work_gate.Lts as lts
+use Rattle.gates.proofs.is_roomy.Reads as is-roomy-reads
+use Rattle.gates.proofs.one_gate.Reads as one-gate-reads
+use Rattle.model.proofs.Header.none.Reads as Header-none-reads
+use Rattle.model.proofs.Refusal.by.Reads as by-reads
+use Rattle.model.proofs.Refusal.none.Reads as Refusal-none-reads
+use Rattle.shape.proofs.announce.announced_of.Reads as announced-of-reads
+use Rattle.words.proofs.word.header_of.Reads as header-of-reads
+
+ready : (c : tie.Else1) → OneReady ((c .before .before .before) .args .f) ((c .before .before .before) .args .word) ((c .before .before .before) .args .given) ((c .before .before .before) .args .lent)
+ready c = one-ready _ _ _ _ (ap (λ r. r .number) (sym (c .before .before .one-gate .ensures)) ∙ c .if1 .left)
+
+is-announced : (c : tie.After-announced-of) → c .announced-of .result ≡ announcedOne ((c .before .before .before .before .before .before) .args .f) ((c .before .before .before .before .before .before) .args .word)
+is-announced c = simp (c .before .before .header-of .ensures, c .before .none .ensures) at (c .announced-of .ensures)
+
+one-gate-requires : tie.Need-one-gate-requires
+one-gate-requires c κs = search needs
+
+returns : tie.Need-returns
+unfolding workGate
+returns c = one-stop _ _ _ _ _ (c .before .before .one-gate .ensures) (c .if1 .taken)
+
+header-of-requires : tie.Need-header-of-requires
+header-of-requires c κs = search needs
+
+none-requires : tie.Need-none-requires
+none-requires c κs = search needs
+
+announced-of-requires : tie.Need-announced-of-requires
+announced-of-requires c κs = (rw (c .before .header-of .ensures) (ready (c .before .before) .good .regular .rules), rw (c .none .ensures) (none-regular .rules))
+
+is-roomy-requires : tie.Need-is-roomy-requires
+is-roomy-requires c κs = rw (is-announced (c)) (one-announced _ _ (ready (c .before .before .before) .word) .rules)
+
+by-requires : tie.Need-by-requires
+by-requires c κs = search needs
+
+returns-2 : tie.Need-returns-2
+unfolding workGate
+returns-2 c = (simp (not-true (roomy (announcedOne ((c .before .before .before .before .before .before .before .before .before) .args .f) ((c .before .before .before .before .before .before .before .before .before) .args .word)) ((c .before .before .before .before .before .before .before .before .before) .args .scratch)) (rw (c .before .before .is-roomy .ensures, is-announced (c .before .before .before)) at (c .before .if2 .taken))) (c .by .ensures)) ∙ one-on ((c .before .before .before .before .before .before .before .before .before) .args .f) ((c .before .before .before .before .before .before .before .before .before) .args .word) ((c .before .before .before .before .before .before .before .before .before) .args .given) ((c .before .before .before .before .before .before .before .before .before) .args .lent) _ (c .before .before .before .before .before .before .before .before .one-gate .ensures) (c .before .before .before .before .before .before .if1 .left)
+
+none-requires-2 : tie.Need-none-requires-2
+none-requires-2 c κs = search needs
+
+returns-3 : tie.Need-returns-3
+unfolding workGate
+returns-3 c = (simp (not-false (roomy (announcedOne ((c .before .before .before .before .before .before .before .before .before) .args .f) ((c .before .before .before .before .before .before .before .before .before) .args .word)) ((c .before .before .before .before .before .before .before .before .before) .args .scratch)) (rw (c .before .before .is-roomy .ensures, is-announced (c .before .before .before)) at (c .before .if2 .left))) (c .none2 .ensures)) ∙ one-on ((c .before .before .before .before .before .before .before .before .before) .args .f) ((c .before .before .before .before .before .before .before .before .before) .args .word) ((c .before .before .before .before .before .before .before .before .before) .args .given) ((c .before .before .before .before .before .before .before .before .before) .args .lent) _ (c .before .before .before .before .before .before .before .before .one-gate .ensures) (c .before .before .before .before .before .before .if1 .left)
+
+pub work-gate-spec : {M : Type 1} → statement M
+work-gate-spec =
+    tie.close
+    (tie.spec
+    one-gate-requires
+    returns
+    header-of-requires
+    none-requires
+    announced-of-requires
+    is-roomy-requires
+    by-requires
+    returns-2
+    none-requires-2
+    returns-3)

@@ -1,0 +1,47 @@
+use native.Mathlib.Omega.{arith}
+use mathlib.Core.Path.{refl}
+use Rattle.power.specs.Kept.{step-lens, step-ends, step-room, step-made}
+use borrow.Author.Needs.{needs}
+use Rattle.power.proofs.kernel.times_front.Statement.{statement}
+use Rattle.power.proofs.kernel.times_front.Tie as tie
+
+count-of-requires : tie.Need-count-of-requires
+count-of-requires c κs = step-lens (c .before .before .pre) .0
+
+add-ea : tie.Need-add-ea
+add-ea c = omega (arith, step-ends (c .before .before .before .pre) (c .before .before .before .args .work .now) refl (c .count-of .ensures) refl .0)
+
+count-of-requires-2 : tie.Need-count-of-requires-2
+count-of-requires-2 c κs = step-lens (c .before .before .before .pre) .1
+
+add-eb : tie.Need-add-eb
+add-eb c = omega (arith, step-ends (c .before .before .before .before .pre) (c .before .before .before .before .args .work .now) refl (c .before .count-of .ensures) (c .count-of2 .ensures) .1)
+
+mul-times : tie.Need-mul-times
+mul-times c = search needs
+
+times-requires : tie.Need-times-requires
+times-requires c κs = step-room (c .before .before .before .before .before .before .pre) (c .before .before .before .before .before .before .args .work .now) refl (c .before .before .before .count-of .ensures) (c .before .before .count-of2 .ensures)
+
+same-length : tie.Need-same-length
+same-length c = search needs
+
+same-length-2 : tie.Need-same-length-2
+same-length-2 c = search needs
+
+returns : tie.Need-returns
+returns c = step-made (c .before .before .before .before .before .before .before .before .before .before .before .pre) (c .before .before .before .before .before .before .before .before .before .before .before .args .work .now) refl (c .before .before .before .before .before .before .before .before .count-of .ensures) (c .before .before .before .before .before .before .before .count-of2 .ensures) (c .before .before .before .before .times .ensures)
+
+pub times-front-spec : {M : Type 1} → statement M
+times-front-spec =
+    tie.close
+    (tie.spec
+    count-of-requires
+    add-ea
+    count-of-requires-2
+    add-eb
+    mul-times
+    times-requires
+    same-length
+    same-length-2
+    returns)

@@ -1,0 +1,5 @@
+pub mod Room
+pub mod Turns
+pub mod Kept
+pub mod Ends
+pub mod Entry

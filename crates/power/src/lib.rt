@@ -1,0 +1,37 @@
+// The power of a polynomial (document 01, port order 7). The entry takes any word, exponent and buffers.
+pub mod kernel;
+
+use model::Answer;
+use model::Family;
+use model::Header;
+use shape::announce::announced_of;
+use words::word::header_of;
+use words::word::pack;
+ghost use mathlib.Core.Path.{_≡_};
+ghost use Rattle.model.specs.Power.{powerAnswer, powerOut, powerScratch};
+
+// a to the power e, cut to its limits: refusals 1, 2, 5, 6. 0 gives one with no variables, 1 a copy.
+pub fn pow(head: u64, a: &[f64], e: u32, out: &mut [f64], scratch: &mut [f64]) -> Answer
+    ensures answer { λ r. ⌜ r ≡ powerAnswer head (now (a .entry)) e (now (out .entry)) (now (scratch .entry)) ⌝ }
+    ensures written { λ r. ⌜ now (out .exit) ≡ powerOut head (now (a .entry)) e (now (out .entry)) (now (scratch .entry)) ⌝ }
+    ensures cleared { λ r. ⌜ now (scratch .exit) ≡ powerScratch head (now (a .entry)) e (now (out .entry)) (now (scratch .entry)) ⌝ }
+{
+    let refusal = gates::work_gate(Family::Power(e), head, a.len(), out.len(), scratch.len());
+    if refusal.number != 0 {
+        return Answer::Refused(refusal);
+    }
+    let x = header_of(head);
+    let h = announced_of(Family::Power(e), x, Header::none());
+    let la = x.lengths;
+    let l = h.limits;
+    let na = gates::stored_of(x);
+    let n = gates::stored_of(h);
+    let room = 8 * n;
+    let r = kernel::power_into(&a[..na], la, e, l, n, &mut out[..n], &mut scratch[..room]);
+    blocks::clear(&mut scratch[..room]);
+    Answer::Done(pack(Header {
+        vars: h.vars,
+        limits: l,
+        lengths: r,
+    }))
+}

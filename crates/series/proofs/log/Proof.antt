@@ -1,0 +1,145 @@
+use native.Mathlib.Omega.{arith}
+use mathlib.Core.Path.{_≡_, sym, ap, _∙_}
+use mathlib.Core.List.{_++_}
+use Prim.Native.Nat.{ℕ, _*_, _≤_}
+use lib.ListN.{length, drop, length-append}
+use lib.Seq.{length-take-le}
+use Rattle.model.specs.declared.Family.the-variants.{Series}
+use Rattle.model.specs.Header.{stored}
+use Rattle.model.specs.Word.{headerOf, wordOf}
+use Rattle.model.specs.Poly.{held}
+use Rattle.model.specs.Gates.{announcedOne}
+use Rattle.model.specs.Series.{logPoly, logAnswer, logOut, seriesScratch}
+use Rattle.words.specs.Rules.{Ruled, none-regular}
+use Rattle.gates.specs.Gate.{WorkReady, work-ready}
+use Rattle.blocks.specs.Entry.{refused-answer, refused-out, refused-scratch, passes, done-answer, done-full, done-scratch}
+use Rattle.series.specs.Entry.{entry-whole, entry-long, log-head, log-coeffs}
+use borrow.Author.Needs.{needs}
+use Rattle.series.proofs.log.Statement.{statement}
+use Rattle.series.proofs.log.Tie as tie
+use Rattle.series.proofs.log.Reads as reads
+use Rattle.series.proofs.log.Lts as lts
+use Rattle.blocks.proofs.clear.Reads as clear-reads
+use Rattle.gates.proofs.stored_of.Reads as stored-of-reads
+use Rattle.gates.proofs.work_gate.Reads as work-gate-reads
+use Rattle.model.proofs.Header.none.Reads as none-reads
+use Rattle.series.proofs.log_kernel.log_into.Reads as log-into-reads
+use Rattle.shape.proofs.announce.announced_of.Reads as announced-of-reads
+use Rattle.words.proofs.word.header_of.Reads as header-of-reads
+use Rattle.words.proofs.word.pack.Reads as pack-reads
+
+ready : (c : tie.Else1) → WorkReady Series ((c .before .before .before .before .before .before) .args .word) (length ((c .before .before .before .before .before .before) .args .a .now)) (length ((c .before .before .before .before .before .before) .args .out .now)) (length ((c .before .before .before .before .before .before) .args .scratch .now))
+ready c = work-ready _ _ _ _ _ (passes (c .before .before .work-gate .ensures) (announcedOne Series ((c .before .before .before .before .before .before) .args .word)) (logPoly ((c .before .before .before .before .before .before) .args .head) (held ((c .before .before .before .before .before .before) .args .word) ((c .before .before .before .before .before .before) .args .a .now))) (c .if1 .left))
+
+is-announced : (c : tie.After-announced-of) → c .announced-of .result ≡ (announcedOne Series ((c .before .before .before .before .before .before .before .before .before) .args .word))
+is-announced c = simp (c .before .before .header-of .ensures, c .before .none .ensures) at (c .announced-of .ensures)
+
+ruled : (c : tie.After-announced-of) → Ruled (c .announced-of .result)
+ruled c = rw (is-announced c) (ready (c .before .before .before) .one .announced .regular .rules)
+
+counted : (c : tie.After-stored-of2) → c .stored-of2 .result ≡ stored (announcedOne Series ((c .before .before .before .before .before .before .before .before .before .before .before .before .before) .args .word))
+counted c = c .stored-of2 .ensures ∙ ap stored (is-announced (c .before .before .before .before))
+
+fits : (c : tie.After-stored-of2) → (c .before .stored-of .result ≤ length ((c .before .before .before .before .before .before .before .before .before .before .before .before .before) .args .a .now)) × (c .stored-of2 .result ≤ length ((c .before .before .before .before .before .before .before .before .before .before .before .before .before) .args .out .now)) × (8 * c .stored-of2 .result ≤ length ((c .before .before .before .before .before .before .before .before .before .before .before .before .before) .args .scratch .now))
+fits c =
+    let g = ready (c .before .before .before .before .before .before .before) in
+    let ea : c .before .stored-of .result ≡ stored (headerOf ((c .before .before .before .before .before .before .before .before .before .before .before .before .before) .args .word)) = c .before .stored-of .ensures ∙ ap stored (c .before .before .before .before .before .before .header-of .ensures) in
+    let en = counted c in
+    (omega (arith, g .one .full), omega (arith, g .one .room), omega (arith, g .spare))
+
+used : (c : tie.After-log-into) → length (c .log-into .last .1 .1 .1 .1 .1 .1 .0) ≡ 8 * c .before .before .before .before .stored-of2 .result
+used c = c .log-into .kept .1 .1 .1 .1 .1 .1 .0 ∙ length-take-le _ _ (fits (c .before .before .before .before) .2)
+
+rooms : (c : tie.After-log-into) → 8 * c .before .before .before .before .stored-of2 .result ≤ length (c .log-into .last .1 .1 .1 .1 .1 .1 .0 ++ drop (8 * c .before .before .before .before .stored-of2 .result) ((c .before .before .before .before .before .before .before .before .before .before .before .before .before .before .before .before .before) .args .scratch .now))
+rooms c = simp length-append (omega (arith, used c))
+
+work-gate-requires : tie.Need-work-gate-requires
+work-gate-requires c κs = search needs
+
+returns : tie.Need-returns
+unfolding logAnswer logOut seriesScratch
+returns c = (refused-answer (c .before .before .work-gate .ensures) (announcedOne Series ((c .before .before .before .before .before .before) .args .word)) (logPoly ((c .before .before .before .before .before .before) .args .head) (held ((c .before .before .before .before .before .before) .args .word) ((c .before .before .before .before .before .before) .args .a .now))) (c .if1 .taken), (refused-out (c .before .before .work-gate .ensures) (announcedOne Series ((c .before .before .before .before .before .before) .args .word)) (logPoly ((c .before .before .before .before .before .before) .args .head) (held ((c .before .before .before .before .before .before) .args .word) ((c .before .before .before .before .before .before) .args .a .now))) (c .if1 .taken) ((c .before .before .before .before .before .before) .args .out .now), refused-scratch (c .before .before .work-gate .ensures) (announcedOne Series ((c .before .before .before .before .before .before) .args .word)) (logPoly ((c .before .before .before .before .before .before) .args .head) (held ((c .before .before .before .before .before .before) .args .word) ((c .before .before .before .before .before .before) .args .a .now))) (c .if1 .taken) ((c .before .before .before .before .before .before) .args .scratch .now)))
+
+header-of-requires : tie.Need-header-of-requires
+header-of-requires c κs = search needs
+
+none-requires : tie.Need-none-requires
+none-requires c κs = search needs
+
+announced-of-requires : tie.Need-announced-of-requires
+announced-of-requires c κs = (rw (c .before .header-of .ensures) (ready (c .before .before) .one .good .regular .rules), rw (c .none .ensures) (none-regular .rules))
+
+stored-of-requires : tie.Need-stored-of-requires
+stored-of-requires c κs = rw (c .before .before .before .before .header-of .ensures) (ready (c .before .before .before .before .before) .one .good .regular .rules)
+
+stored-of-requires-2 : tie.Need-stored-of-requires-2
+stored-of-requires-2 c κs = ruled (c .before .before .before)
+
+mul-room : tie.Need-mul-room
+mul-room c = omega (arith, counted (c), ready (c .before .before .before .before .before .before .before) .one .announced .most)
+
+slice-aggregate-log-into : tie.Need-slice-aggregate-log-into
+slice-aggregate-log-into c = sym (length-take-le _ _ (fits (c .before) .0))
+
+slice-relend-prefix-log-into : tie.Need-slice-relend-prefix-log-into
+slice-relend-prefix-log-into c = fits (c .before) .1
+
+slice-aggregate-log-into-2 : tie.Need-slice-aggregate-log-into-2
+slice-aggregate-log-into-2 c = sym (length-take-le _ _ (fits (c .before .before) .1))
+
+slice-relend-prefix-log-into-2 : tie.Need-slice-relend-prefix-log-into-2
+slice-relend-prefix-log-into-2 c = fits (c .before .before) .2
+
+slice-aggregate-log-into-3 : tie.Need-slice-aggregate-log-into-3
+slice-aggregate-log-into-3 c = sym (length-take-le _ _ (fits (c .before .before .before) .2))
+
+log-into-requires : tie.Need-log-into-requires
+log-into-requires c κs = let f = fits (c .before .before .before) in (entry-whole (ready (c .before .before .before .before .before .before .before .before .before .before)) (c .before .before .before .before .before .before .before .before .before .header-of .ensures) (is-announced (c .before .before .before .before .before .before .before)) (c .before .before .before .before .stored-of .ensures) (c .before .before .before .stored-of2 .ensures) (length-take-le _ _ (f .0)) (length-take-le _ _ (f .1)) (length-take-le _ _ (f .2)), entry-long ((c .before .before .before .before .before .before .before .before .before .before .before .before .before .before .before .before) .args .head) ((c .before .before .before .before .before .before .before .before .before .before .before .before .before .before .before .before) .args .word) ((c .before .before .before .before .before .before .before .before .before .before .before .before .before .before .before .before) .args .a .now) (c .before .before .before .before .before .before .before .before .before .header-of .ensures) (is-announced (c .before .before .before .before .before .before .before)))
+
+slice-relend-prefix-clear : tie.Need-slice-relend-prefix-clear
+slice-relend-prefix-clear c = rooms (c .before .before .before .before)
+
+slice-aggregate-clear : tie.Need-slice-aggregate-clear
+slice-aggregate-clear c = sym (length-take-le _ _ (rooms (c .before .before .before .before .before)))
+
+clear-requires : tie.Need-clear-requires
+clear-requires c κs = search needs
+
+pack-requires : tie.Need-pack-requires
+pack-requires c κs = ruled (c .before .before .before .before .before .before .before .before .before .before .before .before .before .before .before .before)
+
+same-length : tie.Need-same-length
+same-length c = search needs
+
+same-length-2 : tie.Need-same-length-2
+same-length-2 c = search needs
+
+returns-2 : tie.Need-returns-2
+unfolding logAnswer logOut seriesScratch
+returns-2 c = (done-answer (c .before .before .before .before .before .before .before .before .before .before .before .before .before .before .before .before .before .before .before .before .before .before .work-gate .ensures) (announcedOne Series ((c .before .before .before .before .before .before .before .before .before .before .before .before .before .before .before .before .before .before .before .before .before .before .before .before .before .before) .args .word)) (logPoly ((c .before .before .before .before .before .before .before .before .before .before .before .before .before .before .before .before .before .before .before .before .before .before .before .before .before .before) .args .head) (held ((c .before .before .before .before .before .before .before .before .before .before .before .before .before .before .before .before .before .before .before .before .before .before .before .before .before .before) .args .word) ((c .before .before .before .before .before .before .before .before .before .before .before .before .before .before .before .before .before .before .before .before .before .before .before .before .before .before) .args .a .now))) (c .before .before .before .before .before .before .before .before .before .before .before .before .before .before .before .before .before .before .before .before .if1 .left) (c .pack .ensures ∙ ap wordOf (log-head ((c .before .before .before .before .before .before .before .before .before .before .before .before .before .before .before .before .before .before .before .before .before .before .before .before .before .before) .args .head) ((c .before .before .before .before .before .before .before .before .before .before .before .before .before .before .before .before .before .before .before .before .before .before .before .before .before .before) .args .word) ((c .before .before .before .before .before .before .before .before .before .before .before .before .before .before .before .before .before .before .before .before .before .before .before .before .before .before) .args .a .now) (c .before .before .before .before .before .before .before .before .before .before .before .before .before .before .before .before .before .before .before .header-of .ensures) (is-announced (c .before .before .before .before .before .before .before .before .before .before .before .before .before .before .before .before .before)))), (done-full (c .before .before .before .before .before .before .before .before .before .before .before .before .before .before .before .before .before .before .before .before .before .before .work-gate .ensures) (announcedOne Series ((c .before .before .before .before .before .before .before .before .before .before .before .before .before .before .before .before .before .before .before .before .before .before .before .before .before .before) .args .word)) (logPoly ((c .before .before .before .before .before .before .before .before .before .before .before .before .before .before .before .before .before .before .before .before .before .before .before .before .before .before) .args .head) (held ((c .before .before .before .before .before .before .before .before .before .before .before .before .before .before .before .before .before .before .before .before .before .before .before .before .before .before) .args .word) ((c .before .before .before .before .before .before .before .before .before .before .before .before .before .before .before .before .before .before .before .before .before .before .before .before .before .before) .args .a .now))) (c .before .before .before .before .before .before .before .before .before .before .before .before .before .before .before .before .before .before .before .before .if1 .left) ((c .before .before .before .before .before .before .before .before .before .before .before .before .before .before .before .before .before .before .before .before .before .before .before .before .before .before) .args .out .now) (counted (c .before .before .before .before .before .before .before .before .before .before .before .before .before)) (log-coeffs ((c .before .before .before .before .before .before .before .before .before .before .before .before .before .before .before .before .before .before .before .before .before .before .before .before .before .before) .args .head) ((c .before .before .before .before .before .before .before .before .before .before .before .before .before .before .before .before .before .before .before .before .before .before .before .before .before .before) .args .word) ((c .before .before .before .before .before .before .before .before .before .before .before .before .before .before .before .before .before .before .before .before .before .before .before .before .before .before) .args .a .now) (c .before .before .before .before .before .before .before .before .before .before .before .before .before .before .before .before .before .before .before .header-of .ensures) (is-announced (c .before .before .before .before .before .before .before .before .before .before .before .before .before .before .before .before .before)) (c .before .before .before .before .before .before .before .before .before .before .before .before .before .before .stored-of .ensures) (c .before .before .before .before .before .before .before .before .before .log-into .ensures)) (c .before .before .before .before .before .before .before .before .before .log-into .kept .1 .1 .1 .1 .1 .0 ∙ length-take-le _ _ (fits (c .before .before .before .before .before .before .before .before .before .before .before .before .before) .1)), done-scratch (c .before .before .before .before .before .before .before .before .before .before .before .before .before .before .before .before .before .before .before .before .before .before .work-gate .ensures) (announcedOne Series ((c .before .before .before .before .before .before .before .before .before .before .before .before .before .before .before .before .before .before .before .before .before .before .before .before .before .before) .args .word)) (logPoly ((c .before .before .before .before .before .before .before .before .before .before .before .before .before .before .before .before .before .before .before .before .before .before .before .before .before .before) .args .head) (held ((c .before .before .before .before .before .before .before .before .before .before .before .before .before .before .before .before .before .before .before .before .before .before .before .before .before .before) .args .word) ((c .before .before .before .before .before .before .before .before .before .before .before .before .before .before .before .before .before .before .before .before .before .before .before .before .before .before) .args .a .now))) (c .before .before .before .before .before .before .before .before .before .before .before .before .before .before .before .before .before .before .before .before .if1 .left) ((c .before .before .before .before .before .before .before .before .before .before .before .before .before .before .before .before .before .before .before .before .before .before .before .before .before .before) .args .scratch .now) (c .before .before .before .before .before .before .before .before .before .log-into .last .1 .1 .1 .1 .1 .1 .0) (ap (λ (k : ℕ). 8 * k) (counted (c .before .before .before .before .before .before .before .before .before .before .before .before .before))) (used (c .before .before .before .before .before .before .before .before .before)) (c .before .before .before .clear .ensures) (length-take-le _ _ (rooms (c .before .before .before .before .before .before .before .before .before)))))
+
+pub log-spec : {M : Type 1} → statement M
+log-spec =
+    tie.close
+    (tie.spec
+    work-gate-requires
+    returns
+    header-of-requires
+    none-requires
+    announced-of-requires
+    stored-of-requires
+    stored-of-requires-2
+    mul-room
+    slice-aggregate-log-into
+    slice-relend-prefix-log-into
+    slice-aggregate-log-into-2
+    slice-relend-prefix-log-into-2
+    slice-aggregate-log-into-3
+    log-into-requires
+    slice-relend-prefix-clear
+    slice-aggregate-clear
+    clear-requires
+    pack-requires
+    same-length
+    same-length-2
+    returns-2)

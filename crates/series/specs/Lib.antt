@@ -1,0 +1,9 @@
+pub mod Room
+pub mod Gather
+pub mod Stacked
+pub mod Entry
+pub mod Log
+pub mod LogRow
+pub mod LogDone
+pub mod LogRows
+pub mod LogBlock
