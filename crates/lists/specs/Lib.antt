@@ -7,3 +7,4 @@ pub mod First
 pub mod All
 pub mod Four
 pub mod Stack
+pub mod Chain

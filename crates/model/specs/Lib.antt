@@ -23,3 +23,8 @@ pub mod Textbook
 pub mod Shifts
 pub mod Power
 pub mod Substitute
+pub mod Steps
+pub mod Recipe
+pub mod Check
+pub mod Reasons
+pub mod Run

@@ -1,0 +1,161 @@
+// Step words, unpacked by shifts and masks, and the table of kinds.
+use model::Family;
+use model::Step;
+use model::Uses;
+ghost use mathlib.Core.Path.{_≡_};
+ghost use Prim.Native.Nat.{_<_};
+ghost use Rattle.model.specs.Steps.{stepOf, usesOf};
+ghost use Rattle.model.specs.Recipe.{familyOf};
+ghost use Rattle.model.specs.Check.{namedBefore, zeroUnless, formed};
+
+// What the fields of a word say, well formed or not.
+pub fn step_of(word: u64) -> Step
+    ensures { λ r. ⌜ r ≡ stepOf word ⌝ }
+{
+    Step {
+        kind: ((word >> 60) & 15) as usize,
+        a: ((word >> 54) & 63) as usize,
+        b: ((word >> 48) & 63) as usize,
+        variable: ((word >> 46) & 3) as usize,
+        n: ((word >> 14) & 4294967295) as u32,
+    }
+}
+
+// Constant n.
+const CONSTANT: Uses = Uses {
+    kind: true,
+    a: false,
+    b: false,
+    variable: false,
+    n: true,
+};
+
+// Negate.
+const NEGATE: Uses = Uses {
+    kind: true,
+    a: true,
+    b: false,
+    variable: false,
+    n: false,
+};
+
+// Add, subtract, multiply, divide.
+const PAIR: Uses = Uses {
+    kind: true,
+    a: true,
+    b: true,
+    variable: false,
+    n: false,
+};
+
+// Power.
+const POWER: Uses = Uses {
+    kind: true,
+    a: true,
+    b: false,
+    variable: false,
+    n: true,
+};
+
+// `derivative`, `taylor_expansion_of_coeff`, `shift_down`.
+const SHIFT: Uses = Uses {
+    kind: true,
+    a: true,
+    b: false,
+    variable: true,
+    n: true,
+};
+
+// `subst_var`.
+const SUBSTITUTION: Uses = Uses {
+    kind: true,
+    a: true,
+    b: true,
+    variable: true,
+    n: false,
+};
+
+// Refused.
+const NO_KIND: Uses = Uses {
+    kind: false,
+    a: false,
+    b: false,
+    variable: false,
+    n: false,
+};
+
+// A row for each kind.
+const ROWS: [Uses; 16] = [
+    CONSTANT,
+    NEGATE,
+    PAIR,
+    PAIR,
+    PAIR,
+    PAIR,
+    POWER,
+    SHIFT,
+    SHIFT,
+    SHIFT,
+    SUBSTITUTION,
+    NO_KIND,
+    NO_KIND,
+    NO_KIND,
+    NO_KIND,
+    NO_KIND,
+];
+
+// Which fields a kind uses.
+fn uses_of(kind: usize) -> Uses
+    requires { ⌜ kind < 16 ⌝ }
+    ensures { λ r. ⌜ r ≡ usesOf kind ⌝ }
+{
+    ROWS[kind]
+}
+
+// A used operand names a place before `at`; an unused one is zero.
+fn is_named(at: usize, used: bool, x: usize) -> bool
+    ensures { λ r. ⌜ r ≡ namedBefore at used x ⌝ }
+{
+    if used { x < at } else { x == 0 }
+}
+
+// Whether a field that is not used is zero.
+fn is_zero_unless(used: bool, x: usize) -> bool
+    ensures { λ r. ⌜ r ≡ zeroUnless used x ⌝ }
+{
+    used | (x == 0)
+}
+
+// Whether the step word at the place `at` is well formed: test 7.
+pub fn is_formed(word: u64, at: usize) -> bool
+    ensures { λ r. ⌜ r ≡ formed word at ⌝ }
+{
+    let s = step_of(word);
+    let u = uses_of(s.kind);
+    u.kind
+        & is_named(at, u.a, s.a)
+        & is_named(at, u.b, s.b)
+        & is_zero_unless(u.variable, s.variable)
+        & is_zero_unless(u.n, s.n as usize)
+        & (word & 16383 == 0)
+}
+
+// The family by which a step announces.
+pub fn family_of(s: Step) -> Family
+    ensures { λ r. ⌜ r ≡ familyOf s ⌝ }
+{
+    let kind = s.kind;
+    match kind {
+        1 => Family::Same,
+        2 => Family::Sum,
+        3 => Family::Sum,
+        4 => Family::Product,
+        5 => Family::Quotient,
+        6 => Family::Power(s.n),
+        7 => Family::Shift(s.variable, s.n as usize),
+        8 => Family::Shift(s.variable, s.n as usize),
+        9 => Family::Shift(s.variable, s.n as usize),
+        10 => Family::Substitution(s.variable),
+        _ => Family::Constant,
+    }
+}

@@ -1,0 +1,63 @@
+-- Document 01, 'Recipes' and 'Announced limits and lengths': the headers that a recipe's places announce, from words alone. Inputs come first, each with its
+-- own header; a step announces by its kind from what its operands announce. Total: whatever the fields hold, rules of headers are kept.
+use Prim.Native.Nat.{ℕ, _+_, max}
+use mathlib.Core.List.{List, [], _∷_, map}
+use lib.ListN.{length, drop, getD}
+use Rattle.lists.specs.Chain.{chain}
+use Rattle.model.specs.declared.Header.{Header}
+use Rattle.model.specs.declared.Step.{Step}
+use Rattle.model.specs.declared.Family.{Family}
+use Rattle.model.specs.declared.Family.the-variants.{Constant, Same, Sum, Product, Quotient, Power, Shift, Substitution}
+use Rattle.model.specs.Header.{noHeader, stored}
+use Rattle.model.specs.Word.{headerOf}
+use Rattle.model.specs.Announced.{announced}
+use Rattle.model.specs.Steps.{stepOf}
+
+-- what each kind announces by, row by row
+unfoldable pub families : Step → List Family
+families s =
+    Constant
+    ∷ Same
+    ∷ Sum
+    ∷ Sum
+    ∷ Product
+    ∷ Quotient
+    ∷ Power (s .n)
+    ∷ Shift (s .variable) (s .n)
+    ∷ Shift (s .variable) (s .n)
+    ∷ Shift (s .variable) (s .n)
+    ∷ Substitution (s .variable)
+    ∷ []
+
+abbrev pub familyOf : Step → Family
+familyOf s = getD (families s) (s .kind) Constant
+
+-- what the place p announces; past the places known no variables
+abbrev pub headAt : List Header → ℕ → Header
+headAt known p = getD known p noHeader
+
+-- the step w, known what the places before it announce
+unfoldable pub announcedStep : ℕ → List Header → Header
+announcedStep w known = let s = stepOf w in announced (familyOf s) (headAt known (s .a)) (headAt known (s .b))
+
+-- hs the inputs' header words, ss the step words
+abbrev pub inputHeads : List ℕ → List Header
+inputHeads hs = map headerOf hs
+
+-- all places
+unfoldable pub announcedPlaces : List ℕ → List ℕ → List Header
+announcedPlaces hs ss = chain announcedStep (inputHeads hs) ss
+
+-- the steps
+unfoldable pub announcedSteps : List ℕ → List ℕ → List Header
+announcedSteps hs ss = drop (length hs) (announcedPlaces hs ss)
+
+-- the sum and the maximum of announced counts
+
+unfoldable pub total : List Header → ℕ
+total [] = 0
+total (h ∷ known) = stored h + total known
+
+unfoldable pub largest : List Header → ℕ
+largest [] = 0
+largest (h ∷ known) = max (stored h) (largest known)

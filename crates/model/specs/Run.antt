@@ -1,0 +1,138 @@
+-- Document 01, 'Recipes' and 'Refusal numbers': the run of a recipe. Each step's value is its operation's, of its operands' values (demand 2); steps work on
+-- true headers. The run makes the check, then tests 2, 5, 6. When done, step values lie end to end in the pool at announced counts, true headers go to the
+-- buffer of words, one per step, the scratch's first 8 times the largest count are +0.0, and the rest is untouched. A refusal changes no buffer.
+use Prim.Native.Nat.{ℕ, _*_}
+use mathlib.Core.List.{List, [], _∷_, _++_, map}
+use mathlib.Core.Bool.{true, false, _&&_, cond}
+use lib.Dec.{leb}
+use lib.ListN.{length, drop, getD}
+use lib.Ieee.{Float}
+use Rattle.lists.specs.Chain.{chain}
+use Rattle.model.specs.declared.Header.{Header}
+use Rattle.model.specs.declared.Refusal.{Refusal}
+use Rattle.model.specs.declared.Step.{Step}
+use Rattle.model.specs.declared.RunAnswer.{RunAnswer}
+use Rattle.model.specs.declared.RunAnswer.the-variants.{Done, Refused}
+use Rattle.model.specs.declared.Family.the-variants.{Same, Sum, Product, Quotient, Power, Shift, Substitution}
+use Rattle.model.specs.Header.{noHeader, ones, stored}
+use Rattle.model.specs.Word.{headerOf, wordOf}
+use Rattle.model.specs.Refusals.{ask, noRefusal, isNone, zeroF, leaves, padded, cleared}
+use Rattle.model.specs.Gates.{oneGate, workGate, inGate, pairGate, withGate}
+use Rattle.model.specs.Poly.{Poly, held}
+use Rattle.model.specs.Constructed.{constant, wholeF}
+use Rattle.model.specs.Negate.{negated}
+use Rattle.model.specs.Add.{combined}
+use Rattle.model.specs.Product.{productPoly}
+use Rattle.model.specs.Quotient.{quotientPoly}
+use Rattle.model.specs.Power.{powerPoly}
+use Rattle.model.specs.Shifts.{derivativePoly, expansionPoly, shiftDownPoly}
+use Rattle.model.specs.Substitute.{substitutePoly}
+use Rattle.model.specs.Steps.{stepOf}
+use Rattle.model.specs.Recipe.{announcedStep, inputHeads, announcedSteps, total, largest}
+use Rattle.model.specs.Check.{askAt, orElse, checkRefusal}
+
+-- the inputs, whose coefficients lie end to end
+unfoldable pub inputValues : List ℕ → List Float → List Poly
+inputValues [] cs = []
+inputValues (w ∷ ws) cs = held w cs ∷ inputValues ws (drop (stored (headerOf w)) cs)
+
+-- what each kind computes, row by row
+unfoldable pub operations : Step → Poly → Poly → List Poly
+operations s a b =
+    constant noHeader (wholeF (s .n))
+    ∷ negated a
+    ∷ combined false a b
+    ∷ combined true a b
+    ∷ productPoly a b
+    ∷ quotientPoly a b
+    ∷ powerPoly (s .n) a
+    ∷ derivativePoly (s .variable) (s .n) a
+    ∷ expansionPoly (s .variable) (s .n) a
+    ∷ shiftDownPoly (s .variable) (s .n) a
+    ∷ substitutePoly (s .variable) a b
+    ∷ []
+
+abbrev pub noValue : Poly
+noValue = constant noHeader zeroF
+
+abbrev pub valueAt : List Poly → ℕ → Poly
+valueAt vs p = getD vs p noValue
+
+-- the step w, vs the values of the places before it
+unfoldable pub stepValue : ℕ → List Poly → Poly
+stepValue w vs = let s = stepOf w in getD (operations s (valueAt vs (s .a)) (valueAt vs (s .b))) (s .kind) noValue
+
+-- all places, and the steps
+unfoldable pub values : List ℕ → List Float → List ℕ → List Poly
+values hs cs ss = chain stepValue (inputValues hs cs) ss
+
+unfoldable pub stepValues : List ℕ → List Float → List ℕ → List Poly
+stepValues hs cs ss = drop (length hs) (values hs cs ss)
+
+-- Whether an operation refuses its operands: each kind's own gate, row by row, with the operands' true header words, n places for the result and m of scratch.
+unfoldable pub gates : Step → Poly → Poly → ℕ → ℕ → List Refusal
+gates s a b n m =
+    let w = wordOf (a .head) in
+    let x = length (a .coeffs) in
+    let u = wordOf (b .head) in
+    let y = length (b .coeffs) in
+    withGate 0 ones n
+    ∷ oneGate Same w x n
+    ∷ pairGate Sum w x u y n m
+    ∷ pairGate Sum w x u y n m
+    ∷ pairGate Product w x u y n m
+    ∷ pairGate Quotient w x u y n m
+    ∷ workGate (Power (s .n)) w x n m
+    ∷ inGate (Shift (s .variable) (s .n)) (s .variable) (s .n) w x n
+    ∷ inGate (Shift (s .variable) (s .n)) (s .variable) (s .n) w x n
+    ∷ inGate (Shift (s .variable) (s .n)) (s .variable) (s .n) w x n
+    ∷ pairGate (Substitution (s .variable)) w x u y n m
+    ∷ []
+
+unfoldable pub stepGate : ℕ → List Poly → ℕ → ℕ → Refusal
+stepGate w vs n m = let s = stepOf w in getD (gates s (valueAt vs (s .a)) (valueAt vs (s .b)) n m) (s .kind) noRefusal
+
+-- 9: the first step whose operation refuses; known what the places announce, vs their values, m the scratch
+unfoldable pub nineRefusal : ℕ → List Header → List Poly → List ℕ → Refusal
+nineRefusal m known vs [] = noRefusal
+nineRefusal m known vs (w ∷ ws) =
+    let h = announcedStep w known in
+    askAt (isNone (stepGate w vs (stored h) m)) 9 (length vs) (nineRefusal m (known ++ (h ∷ [])) (vs ++ (stepValue w vs ∷ [])) ws)
+
+-- 2, 5, 6: by the lengths of coefficients, pool, words and scratch
+unfoldable pub lentRefusal : List ℕ → List ℕ → ℕ → ℕ → ℕ → ℕ → Refusal
+lentRefusal hs ss c p w s =
+    ask (leb (total (inputHeads hs)) c) 2
+    (ask (leb (total (announcedSteps hs ss)) p && leb (length ss) w) 5
+    (ask (leb (8 * largest (announcedSteps hs ss)) s) 6
+    noRefusal))
+
+-- which case of the enum stands for which number
+unfoldable pub runBy : Refusal → RunAnswer
+runBy r = cond (isNone r) Done (Refused r)
+
+-- values end to end at announced counts
+unfoldable pub laid : List Header → List Poly → List Float
+laid [] vs = []
+laid (h ∷ known) [] = []
+laid (h ∷ known) (v ∷ vs) = padded (stored h) (v .coeffs) ++ laid known vs
+
+-- hs the inputs' header words, cs their coefficients, ss the step words, pool, words and scratch the buffers as they came
+module _ (hs : List ℕ) (cs : List Float) (ss : List ℕ) (pool : List Float) (words : List ℕ) (scratch : List Float) where
+  unfoldable pub runRefusal : Refusal
+  runRefusal =
+      orElse (checkRefusal hs ss)
+      (orElse (lentRefusal hs ss (length cs) (length pool) (length words) (length scratch))
+      (nineRefusal (length scratch) (inputHeads hs) (inputValues hs cs) ss))
+
+  unfoldable pub runAnswer : RunAnswer
+  runAnswer = runBy runRefusal
+
+  unfoldable pub runPool : List Float
+  runPool = leaves runRefusal (laid (announcedSteps hs ss) (stepValues hs cs ss) ++ drop (total (announcedSteps hs ss)) pool) pool
+
+  unfoldable pub runWords : List ℕ
+  runWords = cond (isNone runRefusal) (map (λ v. wordOf (v .head)) (stepValues hs cs ss) ++ drop (length ss) words) words
+
+  unfoldable pub runScratch : List Float
+  runScratch = leaves runRefusal (cleared (largest (announcedSteps hs ss)) scratch) scratch

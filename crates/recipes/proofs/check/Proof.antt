@@ -1,0 +1,86 @@
+use mathlib.Core.Path.{_≡_, ap, _∙_}
+use native.Mathlib.Omega.{arith}
+use lib.ListN.{length, length-take}
+use Rattle.model.specs.Recipe.{total, largest}
+use Rattle.recipes.specs.Answered.{Passed, passed, answer-no, answer-yes}
+use borrow.Author.Needs.{needs}
+use Rattle.recipes.proofs.check.Statement.{statement}
+use Rattle.recipes.proofs.check.Tie as tie
+
+abbrev start : tie.Else1 → tie.Start
+start c = c .before .before .before .before .before .before .before
+
+pass : (c : tie.Else1) → Passed (start c .args .headers .now) (start c .args .steps .now) (c .before .before .before .judge .last .1 .1 .0)
+pass c = passed (c .before .before .before .judge .ensures) (c .if1 .left)
+
+noted-len : (c : tie.Else1) → length (c .before .before .before .judge .last .1 .1 .0) ≡ 64
+noted-len c = c .before .before .before .judge .ensures .len
+
+slice-aggregate-judge : tie.Need-slice-aggregate-judge
+slice-aggregate-judge c = search needs
+
+judge-requires : tie.Need-judge-requires
+judge-requires c κs = search needs
+
+returns : tie.Need-returns
+returns c = answer-no _ _ (c .before .before .before .judge .ensures .answer) (c .if1 .taken)
+
+add-to : tie.Need-add-to
+add-to c = search needs
+
+mul-total-of : tie.Need-mul-total-of
+mul-total-of c = search needs
+
+sub-total-of : tie.Need-sub-total-of
+sub-total-of c = search needs
+
+part-total-of-start : tie.Need-part-total-of-start
+part-total-of-start c = search needs
+
+part-total-of-end : tie.Need-part-total-of-end
+part-total-of-end c = omega (arith, pass (c .before) .fit, noted-len (c .before))
+
+total-of-requires : tie.Need-total-of-requires
+total-of-requires c κs = (rw (pass (c .before .before) .part) (pass (c .before .before) .steps), simp length-take (omega (arith, pass (c .before .before) .fit)))
+
+mul-largest-of : tie.Need-mul-largest-of
+mul-largest-of c = search needs
+
+sub-largest-of : tie.Need-sub-largest-of
+sub-largest-of c = search needs
+
+part-largest-of-start : tie.Need-part-largest-of-start
+part-largest-of-start c = search needs
+
+part-largest-of-end : tie.Need-part-largest-of-end
+part-largest-of-end c = omega (arith, pass (c .before .before .before .before) .fit, noted-len (c .before .before .before .before))
+
+largest-of-requires : tie.Need-largest-of-requires
+largest-of-requires c κs = rw (pass (c .before .before .before .before .before) .part) (pass (c .before .before .before .before .before) .steps)
+
+total-of-requires-2 : tie.Need-total-of-requires-2
+total-of-requires-2 c κs = (pass (c .before .before .before .before .before .before) .inputs, omega (arith, pass (c .before .before .before .before .before .before) .fit))
+
+returns-2 : tie.Need-returns-2
+returns-2 c = let p = pass (c .before .before .before .before .before .before .before) in answer-yes _ _ (c .before .before .before .before .before .before .before .before .before .before .judge .ensures .answer) (c .before .before .before .before .before .before .before .if1 .left) (c .before .before .before .before .total-of .ensures ∙ ap total (p .part)) (c .before .largest-of .ensures ∙ ap largest (p .part)) (c .total-of2 .ensures)
+
+pub check-spec : {M : Type 1} → statement M
+check-spec =
+    tie.close
+    (tie.spec
+    slice-aggregate-judge
+    judge-requires
+    returns
+    add-to
+    mul-total-of
+    sub-total-of
+    part-total-of-start
+    part-total-of-end
+    total-of-requires
+    mul-largest-of
+    sub-largest-of
+    part-largest-of-start
+    part-largest-of-end
+    largest-of-requires
+    total-of-requires-2
+    returns-2)

@@ -1,0 +1,10 @@
+pub mod Asks
+pub mod Inputs
+pub mod Judging
+pub mod Judged
+pub mod Counts
+pub mod Answered
+pub mod Formed
+pub mod StepReasons
+pub mod Outcome
+pub mod Exact
