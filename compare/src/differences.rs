@@ -81,13 +81,25 @@ fn coefficient_stops_at_the_first_index_past_its_length() {
     assert_eq!(here("coefficient", &NONE, &[5.0], &[1, 0, 0, 0]).0, refused(3));
 }
 
-/// For operations that are still to come: what the source does.
+/// What is expected of b for the variable 0 of a, with one place lent.
+fn put(ah: Header, a: &[f64], bh: Header, b: &[f64]) -> (Answer, f64) {
+    let op = named("subst_var").expect("an operation");
+    let case = Case { op, numbers: vec![0], ah: ah.word(), a: a.to_vec(), bh: bh.word(), b: b.to_vec(), out: 1, scratch: 8 };
+    let outcome = expected(&case);
+    (outcome.answer, outcome.out[0])
+}
+
 #[test]
 fn subst_var_keeps_too_much_or_too_few_axes() {
     let uncut = || poly(&[1, 2], &[1, 2], &[1.0, 2.0]).subst_var(Var(0), &Poly::zero_with(vec![1, 1]));
     assert_eq!(source(uncut), None);
+    let zero = Header::new(&[1, 1], &[1, 1]);
+    assert_eq!(put(Header::new(&[1, 2], &[1, 2]), &[1.0, 2.0], zero, &[0.0]), (done(&[1, 1], &[1, 1]), 1.0));
     let few_axes = || poly(&[1], &[1], &[1.0]).subst_var(Var(0), &Poly::zero_with(vec![1, 1]));
     assert_eq!(source(few_axes), None);
+    assert_eq!(put(Header::new(&[1], &[1]), &[1.0], zero, &[0.0]), (done(&[1, 1], &[1, 1]), 1.0));
     let linear = || poly(&[2], &[1], &[1.0]).subst_var(Var(0), &poly(&[2, 1], &[2, 1], &[0.0, 1.0]));
     assert_eq!(source(linear), None);
+    let line = Header::new(&[2, 1], &[2, 1]);
+    assert_eq!(put(Header::new(&[2], &[1]), &[1.0], line, &[0.0, 1.0]), (done(&[2, 1], &[1, 1]), 1.0));
 }

@@ -87,7 +87,7 @@ module _ (l : List ℕ) (v : ℕ) (a : Block) (h : v < 4) (pos-l : (k : ℕ) →
         most-more (λ k g. omega arith) (horner-most n (λ k. x k + more k) (λ k g. le-trans (e k g) (omega arith)) (turn-most n x e m))
 
     -- the first turn multiplies a zero of stored count 1, and leaves the highest row
-    zero-first : multiplied l (constantBlock zeroF) b ≡ constantBlock zeroF
+    pub zero-first : multiplied l (constantBlock zeroF) b ≡ constantBlock zeroF
     unfolding multiplied span
     zero-first = rw (eq-zero whole-zero .1 refl)
 
@@ -129,7 +129,7 @@ module _ (v : ℕ) (p q : Poly) (g : Regular (p .head)) (h : Regular (q .head)) 
   abbrev lengthAt : ℕ → ℕ
   lengthAt k = lengthAfter (Substitution v) k (at limits k) (len (p .head) v) (min (at limits k) (len (p .head) k)) (min (at limits k) (len (q .head) k))
 
-  lengths-fit : v < 4 → (k : ℕ) → k < 4 → min (at limits k) (at (set (cutTo limits (p .head .lengths)) v 1) k + (len (p .head) v - 1) * (min (at limits k) (len (q .head) k) - 1)) ≤ at (four lengthAt) k
+  pub lengths-fit : v < 4 → (k : ℕ) → k < 4 → min (at limits k) (at (set (cutTo limits (p .head .lengths)) v 1) k + (len (p .head) v - 1) * (min (at limits k) (len (q .head) k) - 1)) ≤ at (four lengthAt) k
   unfolding cutTo
   lengths-fit i k l =
       rw (at-four lengthAt k l)

@@ -245,6 +245,10 @@ module _ {n : List ℕ} {v : ℕ} {r : List ℕ} {ma mt : ℕ} (t : Raising n v 
         let w = digits-one (outer r i v) (p / step) (inside-at low v (t .var)) q (u .0) in
         (w .0, w .1, u .1)
 
+    -- the number of v
+    pub row-of : at i v ≡ k / s
+    row-of = parts .1
+
     some : s ≤ k → 0 < k / s
     some sk =
         decide (ltb 0 (k / s)) (λ e. ltb-true 0 (k / s) e)

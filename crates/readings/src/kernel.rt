@@ -59,7 +59,7 @@ pub fn constant_with(x: f64, vars: usize, limits: [usize; 4], out: &mut [f64]) -
 }
 
 // The row `order` of the variable v of a block with the lengths n, which stores it; c are the lengths of what is written.
-fn pick(a: &[f64], n: [usize; 4], c: [usize; 4], v: usize, order: usize, to: &mut [f64])
+pub fn pick(a: &[f64], n: [usize; 4], c: [usize; 4], v: usize, order: usize, to: &mut [f64])
     requires { ⌜ Picking n c v order (length (now a)) (length (now to)) ⌝ }
     ensures { λ _. ⌜ now (to .exit) ≡ table (count c) (λ k. readAt (block n (now (a .entry))) (set (index c k) v order)) ⌝ }
 {

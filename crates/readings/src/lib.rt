@@ -1,5 +1,5 @@
 // Constructors and readings (document 01, port order 2, and 'Tail'). Each takes any words, numbers and buffers.
-mod kernel;
+pub mod kernel;
 pub mod line;
 
 use gates::stored_of;

@@ -171,6 +171,8 @@ fn make(
     } else if op == 30 {
         let e = (x[0] % 4294967296) as u32;
         show_answer(power::pow(ah, a, e, out, scratch));
+    } else if op == 34 {
+        show_answer(substitution::subst_var(ah, a, bh, b, x[0] as usize, out, scratch));
     } else {
         change_variable(op, ah, a, x, out);
     }

@@ -22,6 +22,7 @@ ghost use Rattle.model.specs.Quotient.{quotientAnswer, quotientOut, quotientScr
 ghost use Rattle.model.specs.Series.{expAnswer, expOut, logAnswer, logOut, seriesScratch};
 ghost use Rattle.model.specs.Power.{powerAnswer, powerOut, powerScratch};
 ghost use Rattle.model.specs.Shifts.{derivativeAnswer, derivativeOut, expansionAnswer, expansionOut, shiftDownAnswer, shiftDownOut};
+ghost use Rattle.model.specs.Substitute.{substituteAnswer, substituteOut, substituteScratch};
 ghost use Rattle.taylor.specs.Face.{fourOf, wordOfAnswer, wordOfReading, valueAfter, wordOfLinear, constantAfter, factorAfter};
 
 // +0.0, with no variables: refusal 5.
@@ -382,4 +383,22 @@ pub extern "C" fn taylor_shift_down(head: u64, a: &[f64], v: u64, n: u64, out: &
     ensures written { λ r. ⌜ now (out .exit) ≡ shiftDownOut head (now (a .entry)) v n (now (out .entry)) ⌝ }
 {
     word_of(change::shift_down(head, a, v as usize, n as usize, out))
+}
+
+// a with b for its variable v, cut to the smaller limits; a itself where it has no such variable: refusals 1, 2, 5, 6.
+#[no_mangle]
+pub extern "C" fn taylor_subst_var(
+    ah: u64,
+    a: &[f64],
+    bh: u64,
+    b: &[f64],
+    v: u64,
+    out: &mut [f64],
+    scratch: &mut [f64],
+) -> u64
+    ensures answer { λ r. ⌜ r ≡ wordOfAnswer (substituteAnswer v ah (now (a .entry)) bh (now (b .entry)) (now (out .entry)) (now (scratch .entry))) ⌝ }
+    ensures written { λ r. ⌜ now (out .exit) ≡ substituteOut v ah (now (a .entry)) bh (now (b .entry)) (now (out .entry)) (now (scratch .entry)) ⌝ }
+    ensures cleared { λ r. ⌜ now (scratch .exit) ≡ substituteScratch v ah (now (a .entry)) bh (now (b .entry)) (now (out .entry)) (now (scratch .entry)) ⌝ }
+{
+    word_of(substitution::subst_var(ah, a, bh, b, v as usize, out, scratch))
 }

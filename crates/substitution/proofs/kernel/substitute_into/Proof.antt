@@ -1,0 +1,53 @@
+use native.Mathlib.Omega.{arith}
+use mathlib.Core.Path.{refl, _∙_}
+use lib.ListN.{length-take, length-drop}
+use Rattle.product.specs.Times.{stands-padded}
+use Rattle.substitution.specs.Entry.{given-small, into-lens, into-full, into-small}
+use borrow.Author.Needs.{needs}
+use Rattle.substitution.proofs.kernel.substitute_into.Statement.{statement}
+use Rattle.substitution.proofs.kernel.substitute_into.Tie as tie
+
+substitute-front-requires : tie.Need-substitute-front-requires
+substitute-front-requires c κs = search needs
+
+count-of-requires : tie.Need-count-of-requires
+count-of-requires c κs = into-lens (c .before .before .before .before .before .before .before .before .before .before .before .pre) (c .before .before .before .before .before .before .before .before .before .before .before .args .a .now) (c .before .before .before .before .before .before .before .before .before .before .before .args .b .now) refl (c .before .before .before .before .substitute-front .ensures)
+
+mul-clear : tie.Need-mul-clear
+mul-clear c = omega (arith, into-small (c .before .before .before .before .before .before .before .before .before .before .before .before .pre) (c .before .before .before .before .before .before .before .before .before .before .before .before .args .a .now) (c .before .before .before .before .before .before .before .before .before .before .before .before .args .b .now) refl (c .before .before .before .before .before .substitute-front .ensures) (c .count-of .ensures), given-small (c .before .before .before .before .before .before .before .before .before .before .before .before .pre))
+
+sub-clear : tie.Need-sub-clear
+sub-clear c = omega (arith, into-small (c .before .before .before .before .before .before .before .before .before .before .before .before .pre) (c .before .before .before .before .before .before .before .before .before .before .before .before .args .a .now) (c .before .before .before .before .before .before .before .before .before .before .before .before .args .b .now) refl (c .before .before .before .before .before .substitute-front .ensures) (c .count-of .ensures))
+
+part-clear-start : tie.Need-part-clear-start
+part-clear-start c = omega (arith, into-small (c .before .before .before .before .before .before .before .before .before .before .before .before .pre) (c .before .before .before .before .before .before .before .before .before .before .before .before .args .a .now) (c .before .before .before .before .before .before .before .before .before .before .before .before .args .b .now) refl (c .before .before .before .before .before .substitute-front .ensures) (c .count-of .ensures))
+
+part-clear-end : tie.Need-part-clear-end
+part-clear-end c = omega (arith, (c .before .before .before .before .before .substitute-front .kept .1 .1 .1 .1 .1 .1 .1 .0), c .before .before .before .before .before .before .before .before .before .before .before .before .pre .out)
+
+clear-requires : tie.Need-clear-requires
+clear-requires c κs = search needs
+
+same-length : tie.Need-same-length
+same-length c = search needs
+
+same-length-2 : tie.Need-same-length-2
+same-length-2 c = search needs
+
+returns : tie.Need-returns
+returns c = let k = (c .before .before .before .before .before .before .before .before .before .substitute-front .kept .1 .1 .1 .1 .1 .1 .1 .0) in let o = c .before .before .before .before .before .before .before .before .before .before .before .before .before .before .before .before .pre .out in let s = into-small (c .before .before .before .before .before .before .before .before .before .before .before .before .before .before .before .before .pre) (c .before .before .before .before .before .before .before .before .before .before .before .before .before .before .before .before .args .a .now) (c .before .before .before .before .before .before .before .before .before .before .before .before .before .before .before .before .args .b .now) refl (c .before .before .before .before .before .before .before .before .before .substitute-front .ensures) (c .before .before .before .before .count-of .ensures) in (c .before .before .before .before .before .before .before .before .before .substitute-front .ensures .lengths, stands-padded _ _ (c .before .before .before .before .before .before .before .before .before .substitute-front .ensures) (k ∙ o) s (into-full (c .before .before .before .before .before .before .before .before .before .before .before .before .before .before .before .before .pre) (c .before .before .before .before .before .before .before .before .before .before .before .before .before .before .before .before .args .a .now) (c .before .before .before .before .before .before .before .before .before .before .before .before .before .before .before .before .args .b .now) refl (c .before .before .before .before .before .before .before .before .before .substitute-front .ensures) (c .before .before .before .before .count-of .ensures)) (c .before .before .clear .ensures) (simp (length-take, length-drop) (omega (arith, k, o, s))))
+
+pub substitute-into-spec : {M : Type 1} → statement M
+substitute-into-spec =
+    tie.close
+    (tie.spec
+    substitute-front-requires
+    count-of-requires
+    mul-clear
+    sub-clear
+    part-clear-start
+    part-clear-end
+    clear-requires
+    same-length
+    same-length-2
+    returns)

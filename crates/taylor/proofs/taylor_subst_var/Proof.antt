@@ -1,0 +1,23 @@
+use borrow.Author.Needs.{needs}
+use mathlib.Core.Path.{ap, _∙_}
+use Rattle.taylor.specs.Face.{wordOfAnswer}
+use Rattle.taylor.proofs.taylor_subst_var.Statement.{statement}
+use Rattle.taylor.proofs.taylor_subst_var.Tie as tie
+
+subst-var-requires : tie.Need-subst-var-requires
+subst-var-requires c κs = search needs
+
+word-of-requires : tie.Need-word-of-requires
+word-of-requires c κs = search needs
+
+same-length : tie.Need-same-length
+same-length c = search needs
+
+same-length-2 : tie.Need-same-length-2
+same-length-2 c = search needs
+
+returns : tie.Need-returns
+returns c = let e = c .before .before .before .before .before .subst-var .ensures in (c .word-of .ensures ∙ ap wordOfAnswer (e .0), e .1)
+
+pub taylor-subst-var-spec : {M : Type 1} → statement M
+taylor-subst-var-spec = tie.close (tie.spec subst-var-requires word-of-requires same-length same-length-2 returns)
