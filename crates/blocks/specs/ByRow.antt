@@ -1,4 +1,4 @@
--- A loop that fills a block with f row by row; and the rows that `load` and `join_block` make.
+-- A loop that fills a block with f row by row; and the rows that `load_rows` and `join_rows` make.
 use Prim.Native.Nat.{ℕ, _+_, _-_, _≤_, _<_}
 use mathlib.Core.List.{List, _++_}
 use mathlib.Core.Bool.{Bool, true, false, cond}
@@ -18,9 +18,9 @@ use Rattle.model.specs.Header.{count}
 use Rattle.model.specs.Places.{place, index, inside}
 use Rattle.model.specs.Poly.{block, readAt}
 use Rattle.model.specs.Add.{join, joinAt}
-use Rattle.words.specs.Lengths.{Lengths, Inside, RowAt, inside-is, is-inside}
+use Rattle.words.specs.Lengths.{Sizes, Inside, RowAt, inside-is, is-inside}
 use Rattle.blocks.specs.Fill.{filled-row, filled-rest, filled-all, part-table}
-use Rattle.blocks.specs.Rows.{AtRow, at-first, at-next, at-row, row-fits, alongRow, index-row, place-row, along-fits, Cutting, Joining, inner-inside, lineJoined}
+use Rattle.blocks.specs.Rows.{AtRow, at-first, at-next, at-row, row-fits, alongRow, index-row, place-row, along-fits, CuttingRows, JoiningRows, inner-inside, lineJoined}
 
 -- the rows before the place p are done, and i is the index of p
 pub record ByRow (c : List ℕ) (f : ℕ → Float) (d out : List Float) (p : ℕ) (i : List ℕ) : Type 0 where
@@ -28,7 +28,7 @@ pub record ByRow (c : List ℕ) (f : ℕ → Float) (d out : List Float) (p : �
   pub row : AtRow c p i
   pub done : Filled p f d out
 
-module _ {c : List ℕ} {f : ℕ → Float} {d : List Float} (g : Lengths c) (full : length d ≡ count c) where
+module _ {c : List ℕ} {f : ℕ → Float} {d : List Float} (g : Sizes c) (full : length d ≡ count c) where
   pub by-none : ByRow c f d d 0 (four (λ k. 0))
   by-none = record { most = omega arith; row = at-first g; done = filled-none }
 
@@ -55,7 +55,7 @@ module _ {c : List ℕ} {f : ℕ → Float} {d : List Float} (g : Lengths c) (fu
   by-len b = b .done .len ∙ full
 
 -- a row that is cut out of a block with greater lengths
-module _ (n c : List ℕ) (a d : List Float) (q : Cutting n c (length a) (length d)) {out : List Float} {p : ℕ} {i : List ℕ} (b : ByRow c (λ k. readAt (block n a) (index c k)) d out p i) (h : p < count c) where
+module _ (n c : List ℕ) (a d : List Float) (q : CuttingRows n c (length a) (length d)) {out : List Float} {p : ℕ} {i : List ℕ} (b : ByRow c (λ k. readAt (block n a) (index c k)) d out p i) (h : p < count c) where
   pub cut-begins : RowAt c i
   cut-begins = at-row (q .to) (b .row) h
 
@@ -71,7 +71,7 @@ module _ (n c : List ℕ) (a d : List Float) (q : Cutting n c (length a) (length
       ∙ table-same _ _ (at c 3) (λ k l. ap (λ (x : ℕ). getD a x nan) (sym (place-row n i k (cut-begins .begins)) ∙ ap (place n) (sym (index-row k (b .row) l)))))
 
 -- a row that was joined
-module _ (minus : Bool) (n r : List ℕ) (a d : List Float) (q : Joining n r (length a) (length d)) {out : List Float} {p : ℕ} {i : List ℕ}
+module _ (minus : Bool) (n r : List ℕ) (a d : List Float) (q : JoiningRows n r (length a) (length d)) {out : List Float} {p : ℕ} {i : List ℕ}
     (b : ByRow r (λ k. joinAt minus (getD d k nan) (block n a) (index r k)) d out p i) (h : p < count r) where
   pub join-begins : RowAt r i
   join-begins = at-row (q .to) (b .row) h
@@ -92,7 +92,7 @@ module _ (minus : Bool) (n : List ℕ) (a old : List Float) (i : List ℕ) (z : 
   along-out k h =
       decide (inside n (alongRow i k)) (λ t. absurd (let u = inside-is n (alongRow i k) t .i3 in omega arith)) (λ t. t)
 
-  along-never : (k : ℕ) → Lengths n → inside n i ≡ false → inside n (alongRow i k) ≡ false
+  along-never : (k : ℕ) → Sizes n → inside n i ≡ false → inside n (alongRow i k) ≡ false
   along-never k g t =
       decide (inside n (alongRow i k))
       (λ u.
@@ -105,7 +105,7 @@ module _ (minus : Bool) (n : List ℕ) (a old : List Float) (i : List ℕ) (z : 
   abbrev part : List Float
   part = take (at n 3) (drop (place n i) a)
 
-  line-place : (k : ℕ) → Lengths n → Inside n i → count n ≤ length a → lineJoined minus part old k ≡ joinAt minus (getD old k nan) (block n a) (alongRow i k)
+  line-place : (k : ℕ) → Sizes n → Inside n i → count n ≤ length a → lineJoined minus part old k ≡ joinAt minus (getD old k nan) (block n a) (alongRow i k)
   unfolding joinAt
   line-place k g t m =
       let f = along-fits g t z (le-refl (at n 3)) in
@@ -119,11 +119,11 @@ module _ (minus : Bool) (n : List ℕ) (a old : List Float) (i : List ℕ) (z : 
       (λ u. rw (l, u, along-out k (ltb-false k (at n 3) u)))
 
   -- where the block reaches to the row
-  pub row-joined : {row : List Float} → Lengths n → Inside n i → count n ≤ length a → row ≡ table (length old) (lineJoined minus part old)
+  pub row-joined : {row : List Float} → Sizes n → Inside n i → count n ≤ length a → row ≡ table (length old) (lineJoined minus part old)
       → row ≡ table (length old) (λ k. joinAt minus (getD old k nan) (block n a) (alongRow i k))
   row-joined g t m e = e ∙ table-same _ _ (length old) (λ k l. line-place k g t m)
 
   -- and where it does not
-  pub row-kept : Lengths n → inside n i ≡ false → old ≡ table (length old) (λ k. joinAt minus (getD old k nan) (block n a) (alongRow i k))
+  pub row-kept : Sizes n → inside n i ≡ false → old ≡ table (length old) (λ k. joinAt minus (getD old k nan) (block n a) (alongRow i k))
   unfolding joinAt
   row-kept g t = sym (table-all nan old) ∙ table-same _ _ (length old) (λ k l. rw (along-never k g t))

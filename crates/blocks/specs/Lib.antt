@@ -1,6 +1,8 @@
 pub mod Fill
 pub mod Rows
 pub mod ByRow
+pub mod Merge
+pub mod Same
 pub mod Line
 pub mod Combine
 pub mod Two

@@ -15,8 +15,8 @@ use Rattle.model.specs.Header.{count, span}
 use Rattle.model.specs.Places.{place, index, inside}
 use Rattle.model.specs.Poly.{Block, block, readAt}
 use Rattle.model.specs.Add.{join, joinAt}
-use Rattle.words.specs.Lengths.{Lengths, Inside, RowAt, count-is, inside-four, inside-at}
-use Rattle.words.specs.Places.{place-lt, index-inside, place-index, horner}
+use Rattle.words.specs.Lengths.{Lengths, Sizes, Inside, RowAt, count-is, inside-four, inside-at}
+use Rattle.words.specs.Places.{place-lt, index-within, place-index, horner}
 
 -- a block with the lengths n holds one with the lengths c
 pub record Inner (n c : List ℕ) : Type 0 where
@@ -40,7 +40,7 @@ rows c = at c 0 * at c 1 * at c 2
 count-rows : (c : List ℕ) → count c ≡ rows c * at c 3
 count-rows c = count-is c ∙ simp mul-assoc
 
-module _ {c : List ℕ} (g : Lengths c) where
+module _ {c : List ℕ} (g : Sizes c) where
   split : (p : ℕ) → p % at c 3 ≡ 0 → p ≡ p / at c 3 * at c 3
   split p z = sym (div-add-mod' p (at c 3)) ∙ (rw z (add-zero _))
 
@@ -75,7 +75,7 @@ module _ {c : List ℕ} (g : Lengths c) where
 
   pub at-row : {p : ℕ} {i : List ℕ} → AtRow c p i → p < count c → RowAt c i
   unfolding index
-  at-row {p} {i} r h = record { inside = rw (r .is) (index-inside c p g h); begins = ap (λ (l : List ℕ). at l 3) (r .is) ∙ r .begins }
+  at-row {p} {i} r h = record { inside = rw (r .is) (index-within c p g h); begins = ap (λ (l : List ℕ). at l 3) (r .is) ∙ r .begins }
 
 -- the place k of the row that begins at the index i
 abbrev pub alongRow : List ℕ → ℕ → List ℕ
@@ -95,7 +95,7 @@ pub place-row : (n i : List ℕ) (k : ℕ) → at i 3 ≡ 0 → place n (alongRo
 place-row n i k z = rw (horner n (alongRow i k), horner n i, z) (omega arith)
 
 -- as many as w places from an index on lie in a block whose rows are as long
-pub along-fits : {n i : List ℕ} {w : ℕ} → Lengths n → Inside n i → at i 3 ≡ 0 → w ≤ at n 3 → place n i + w ≤ count n
+pub along-fits : {n i : List ℕ} {w : ℕ} → Sizes n → Inside n i → at i 3 ≡ 0 → w ≤ at n 3 → place n i + w ≤ count n
 along-fits {n} {i} {w} g t z h =
     let u : Inside n (alongRow i (at n 3 - 1)) = let q = g .p3 in record { i0 = t .i0; i1 = t .i1; i2 = t .i2; i3 = omega arith } in
     let q = g .p3 in
@@ -113,6 +113,22 @@ pub record Cutting (n c : List ℕ) (m l : ℕ) : Type 0 where
 pub record Joining (n r : List ℕ) (m l : ℕ) : Type 0 where
   pub from : Lengths n
   pub to : Lengths r
+  pub inner : Inner r n
+  pub room : count n ≤ m
+  pub full : l ≡ count r
+
+-- what their loops over rows ask, where lengths may be those of several variables together
+
+pub record CuttingRows (n c : List ℕ) (m l : ℕ) : Type 0 where
+  pub from : Sizes n
+  pub to : Sizes c
+  pub inner : Inner n c
+  pub room : count n ≤ m
+  pub full : l ≡ count c
+
+pub record JoiningRows (n r : List ℕ) (m l : ℕ) : Type 0 where
+  pub from : Sizes n
+  pub to : Sizes r
   pub inner : Inner r n
   pub room : count n ≤ m
   pub full : l ≡ count r

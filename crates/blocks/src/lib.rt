@@ -9,13 +9,21 @@ ghost use Rattle.model.specs.Places.{index};
 ghost use Rattle.model.specs.Refusals.{zeros};
 ghost use Rattle.model.specs.Negate.{negatedAt};
 ghost use Rattle.model.specs.Poly.{block, readAt};
-ghost use Rattle.model.specs.Add.{join, joinAt, firstJoined, turned};
+ghost use Rattle.model.specs.Add.{join, joinAt, firstJoined, turned, placeJoined};
 ghost use Rattle.model.specs.Add.{joined as joinedPlaces};
-ghost use Rattle.blocks.specs.Combine.{Combining};
+ghost use Rattle.blocks.specs.Combine.{Combining, lineSum};
 ghost use Rattle.blocks.specs.Two.{Two, Holds, cutPlaces};
 ghost use Rattle.lists.specs.Four.{at};
-ghost use Rattle.words.specs.Lengths.{Lengths};
-ghost use Rattle.blocks.specs.Rows.{Cutting, Joining, lineJoined, alongRow};
+ghost use Rattle.words.specs.Lengths.{Sizes};
+ghost use Rattle.blocks.specs.Rows.{Cutting, Joining, CuttingRows, JoiningRows, lineJoined, alongRow};
+ghost use Rattle.blocks.specs.Same.{sameLengths};
+ghost use Rattle.blocks.specs.Merge.{merge, Merged};
+
+// The lengths of two blocks, one inside the other.
+struct Nested {
+    of: [usize; 4],
+    to: [usize; 4],
+}
 
 // The front of `from`.
 pub fn copy(from: &[f64], to: &mut [f64])
@@ -74,9 +82,42 @@ fn join_line(minus: bool, with: &[f64], to: &mut [f64])
     }
 }
 
-// The places of a block with the lengths n that lie inside the lengths c.
-pub fn load(a: &[f64], n: [usize; 4], c: [usize; 4], to: &mut [f64])
-    requires { ⌜ Cutting n c (length (now a)) (length (now to)) ⌝ }
+// Whether the lengths are the same.
+pub fn is_same(n: [usize; 4], m: [usize; 4]) -> bool
+    ensures { λ r. ⌜ r ≡ sameLengths n m ⌝ }
+{
+    (n[0] == m[0]) & (n[1] == m[1]) & (n[2] == m[2]) & (n[3] == m[3])
+}
+
+// The last two variables taken as one.
+fn merged(n: [usize; 4]) -> [usize; 4]
+    requires { ⌜ Sizes n ⌝ }
+    ensures { λ r. ⌜ r ≡ merge n ⌝ }
+{
+    [1, n[0], n[1], n[2] * n[3]]
+}
+
+// The same places with the longest rows: the variables after the last one that is cut are taken together with it.
+fn longest_rows(n: [usize; 4], c: [usize; 4]) -> Nested
+    requires { ⌜ Sizes n ⌝ ∗ ⌜ Sizes c ⌝ }
+    ensures { λ r. ⌜ Merged n c (r .of) (r .to) ⌝ }
+{
+    let mut m = n;
+    let mut d = c;
+    let mut left = 3usize;
+    while (0 < left) & (m[3] == d[3]) {
+        let x = merged(m);
+        let y = merged(d);
+        m = x;
+        d = y;
+        left -= 1;
+    }
+    Nested { of: m, to: d }
+}
+
+// Row by row, the places of a block with the lengths n that lie inside the lengths c.
+fn load_rows(a: &[f64], n: [usize; 4], c: [usize; 4], to: &mut [f64])
+    requires { ⌜ CuttingRows n c (length (now a)) (length (now to)) ⌝ }
     ensures { λ _. ⌜ now (to .exit) ≡ table (count c) (λ k. readAt (block n (now (a .entry))) (index c k)) ⌝ }
 {
     let width = c[3];
@@ -91,9 +132,24 @@ pub fn load(a: &[f64], n: [usize; 4], c: [usize; 4], to: &mut [f64])
     }
 }
 
+// The places of a block with the lengths n that lie inside the lengths c.
+pub fn load(a: &[f64], n: [usize; 4], c: [usize; 4], to: &mut [f64])
+    requires { ⌜ Cutting n c (length (now a)) (length (now to)) ⌝ }
+    ensures { λ _. ⌜ now (to .exit) ≡ table (count c) (λ k. readAt (block n (now (a .entry))) (index c k)) ⌝ }
+{
+    if is_same(n, c) {
+        copy(a, to);
+        return;
+    }
+    let r = longest_rows(n, c);
+    let m = r.of;
+    let d = r.to;
+    load_rows(a, m, d, to);
+}
+
 // One row of a block with greater lengths, from the index i on, joined with what a block with the lengths n stores there.
 fn join_row(minus: bool, a: &[f64], n: [usize; 4], i: [usize; 4], to: &mut [f64])
-    requires { ⌜ Lengths n ⌝ ∗ ⌜ (count n ≤ length (now a)) × (at n 3 ≤ length (now to)) ⌝ ∗ ⌜ at i 3 ≡ 0 ⌝ }
+    requires { ⌜ Sizes n ⌝ ∗ ⌜ (count n ≤ length (now a)) × (at n 3 ≤ length (now to)) ⌝ ∗ ⌜ at i 3 ≡ 0 ⌝ }
     ensures { λ _. ⌜ now (to .exit) ≡ table (length (now (to .entry))) (λ k. joinAt minus (getD (now (to .entry)) k nan) (block n (now (a .entry))) (alongRow i k)) ⌝ }
 {
     if words::places::is_inside(n, i) {
@@ -103,9 +159,9 @@ fn join_row(minus: bool, a: &[f64], n: [usize; 4], i: [usize; 4], to: &mut [f64]
     }
 }
 
-// Each place of `to`, a block with the lengths r, joined with what a block with the lengths n stores there.
-pub fn join_block(minus: bool, a: &[f64], n: [usize; 4], r: [usize; 4], to: &mut [f64])
-    requires { ⌜ Joining n r (length (now a)) (length (now to)) ⌝ }
+// Row by row, each place of `to`, a block with the lengths r, joined with what a block with the lengths n stores there.
+fn join_rows(minus: bool, a: &[f64], n: [usize; 4], r: [usize; 4], to: &mut [f64])
+    requires { ⌜ JoiningRows n r (length (now a)) (length (now to)) ⌝ }
     ensures { λ _. ⌜ now (to .exit) ≡ table (count r) (λ k. joinAt minus (getD (now (to .entry)) k nan) (block n (now (a .entry))) (index r k)) ⌝ }
 {
     let width = r[3];
@@ -117,6 +173,17 @@ pub fn join_block(minus: bool, a: &[f64], n: [usize; 4], r: [usize; 4], to: &mut
         let next = words::places::next_row(r, i);
         i = next;
     }
+}
+
+// Each place of `to`, a block with the lengths r, joined with what a block with the lengths n stores there.
+pub fn join_block(minus: bool, a: &[f64], n: [usize; 4], r: [usize; 4], to: &mut [f64])
+    requires { ⌜ Joining n r (length (now a)) (length (now to)) ⌝ }
+    ensures { λ _. ⌜ now (to .exit) ≡ table (count r) (λ k. joinAt minus (getD (now (to .entry)) k nan) (block n (now (a .entry))) (index r k)) ⌝ }
+{
+    let x = longest_rows(n, r);
+    let m = x.of;
+    let d = x.to;
+    join_rows(minus, a, m, d, to);
 }
 
 // a with its first place joined with b's.
@@ -137,6 +204,42 @@ fn turned_joined(minus: bool, a: &[f64], b: &[f64], to: &mut [f64])
     if minus {
         turn(to);
     }
+}
+
+// Each place of `a` added to +0.0, then joined with that of `b`.
+fn join_lines(minus: bool, a: &[f64], b: &[f64], to: &mut [f64])
+    requires { ⌜ (length (now a) ≡ length (now to)) × (length (now b) ≡ length (now to)) ⌝ }
+    ensures { λ _. ⌜ now (to .exit) ≡ table (length (now (to .entry))) (lineSum minus (now (a .entry)) (now (b .entry))) ⌝ }
+{
+    let n = to.len();
+    let mut k = 0;
+    while k < n {
+        let x = joined(false, 0.0, a[k]);
+        to[k] = joined(minus, x, b[k]);
+        k += 1;
+    }
+}
+
+// Two blocks with more than one place, place by place: in one pass where they have the same lengths.
+fn join_both(
+    minus: bool,
+    a: &[f64],
+    n: [usize; 4],
+    b: &[f64],
+    m: [usize; 4],
+    r: [usize; 4],
+    to: &mut [f64],
+)
+    requires { ⌜ Combining n m r (length (now a)) (length (now b)) (length (now to)) ⌝ }
+    ensures { λ _. ⌜ now (to .exit) ≡ table (count r) (placeJoined minus (block n (now (a .entry))) (block m (now (b .entry))) r) ⌝ }
+{
+    if is_same(n, m) {
+        join_lines(minus, a, b, to);
+        return;
+    }
+    clear(to);
+    join_block(false, a, n, r, to);
+    join_block(minus, b, m, r, to);
 }
 
 // The sum or the difference of two blocks that are cut already, with the lengths n and m; r are the lengths of the result.
@@ -160,9 +263,7 @@ pub fn combine(
         turned_joined(minus, a, b, to);
         return;
     }
-    clear(to);
-    join_block(false, a, n, r, to);
-    join_block(minus, b, m, r, to);
+    join_both(minus, a, n, b, m, r, to);
 }
 
 // Two operands with the lengths la and lb, cut to the lengths ca and cb: one at the front of `work`, the other from n on.

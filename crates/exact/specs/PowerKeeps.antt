@@ -12,16 +12,15 @@ use borrow.Author.Tests.{eqb-true}
 use Rattle.lists.specs.Test.{decide, of-both}
 use Rattle.lists.specs.Four.{at, at-four}
 use Rattle.model.specs.declared.Family.the-variants.{Power}
-use Rattle.model.specs.Header.{limit, len, stored, noHeader, span}
+use Rattle.model.specs.Header.{limit, len, stored, noHeader}
 use Rattle.model.specs.Announced.{announced, single}
 use Rattle.model.specs.Poly.{Poly, Block, blockOf, polyOf, cut}
 use Rattle.model.specs.Readings.{oneF}
 use Rattle.model.specs.Product.{constantBlock, multiplied}
 use Rattle.model.specs.Power.{squared, powerPoly}
-use Rattle.words.specs.Rules.{Regular, ruled-at, none-regular}
+use Rattle.words.specs.Rules.{Regular, ruled-at}
 use Rattle.shape.specs.Announced.{single-regular, single-limits}
-use Rattle.shape.specs.Under.{under-same}
-use Rattle.shape.specs.Keeps.{Keeps}
+use Rattle.shape.specs.Keeps.{Keeps, none-keeps}
 use Rattle.exact.specs.Sits.{Sits, cut-at}
 use Rattle.exact.specs.Running.{Most, most-more, constant-most, multiplied-most, most-keeps}
 
@@ -83,10 +82,10 @@ module _ (e : ℕ) (p : Poly) (g : Regular (p .head)) (full : length (p .coeffs)
       (λ k h. rw (at-four (limit (p .head)) k h, at-four (λ k. min (limit (p .head) k) (e * (len (p .head) k - 1) + 1)) k h) (omega arith))
 
   pub power-keeps : Keeps (announced (Power e) (p .head) noHeader) (powerPoly e p)
-  unfolding powerPoly announced span
+  unfolding powerPoly announced
   power-keeps =
       decide (eqb e 0)
-      (λ t. rw t (record { regular = none-regular; under = under-same noHeader; full = refl }))
+      (λ t. rw t (none-keeps oneF))
       (λ t. rw t (decide (eqb e 1)
       (λ u. rw u (once (eqb-true e 1 u)))
       (λ u. rw u squarings)))

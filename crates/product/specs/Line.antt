@@ -4,11 +4,12 @@ use mathlib.Core.List.{List, [], _∷_}
 use mathlib.Core.Bool.{true, false}
 use mathlib.Core.Path.{_≡_, refl, sym, ap, _∙_}
 use native.Mathlib.Omega.{arith}
-use native.Mathlib.Nat.{le-trans, le-refl}
+use native.Mathlib.Nat.{le-trans, le-refl, zero-add}
 use lib.ListN.{length, take, set}
+use lib.Seq.{take-length}
 use lib.Ieee.{Float, eq}
 use Rattle.lists.specs.Four.{at}
-use Rattle.lists.specs.Part.{part, length-part, Below, Kept, below-less, below-then, below-part, kept-set}
+use Rattle.lists.specs.Part.{part, length-part, Below, Kept, below-same, below-less, below-then, below-part, kept-set}
 use Rattle.model.specs.declared.Linear.{Linear}
 use Rattle.model.specs.declared.Way.{Way}
 use Rattle.model.specs.Header.{count, ones, span}
@@ -22,7 +23,7 @@ use Rattle.words.specs.Lengths.{Lengths, count-pos}
 use Rattle.exact.specs.Sits.{Sits, sits-more, sum-at, max-at}
 use Rattle.exact.specs.Ways.{linear-is, line-two}
 use Rattle.exact.specs.ProductKeeps.{product-sits, constant-sits}
-use Rattle.product.specs.Room.{Caps, Under, RaisesTo, Plain, Joins, Lies, Room, LineRoom, Put, Made}
+use Rattle.product.specs.Room.{Caps, Under, RaisesTo, Plain, Joins, Lies, Room, LineRoom, Whole, LineWhole, Put, Stands, Made}
 use Rattle.product.specs.Ways.{under-lengths, count-less, under-sits, sits-under, shape-under, shape-left, shape-right, grown-under, grown-in, grown-fits, ones-under, shape-one, put-stands, made-same, put-made, chosen-four, chosen-five, product-four, product-five, product-plain, raised-lengths, raised-full}
 
 module _ {limits n : List ℕ} {p e s : ℕ} (w : List Float) (b : Lies limits n p e s) (h : s ≤ length w) where
@@ -31,6 +32,35 @@ module _ {limits n : List ℕ} {p e s : ℕ} (w : List Float) (b : Lies limits n
 
   pub lies-sits : Sits limits (block n (part p e w))
   lies-sits = under-sits (b .under) lies-full
+
+-- a line was chosen: the other block, shifted up by one in its variable, fits where the product does
+record Grows (limits n r : List ℕ) (v stage : ℕ) : Type 0 where
+  var : v < 4
+  less : count (grown limits v n) ≤ count r
+  some : 0 < stage
+
+module _ {limits la lb : List ℕ} (stage : ℕ) (xs ys : List Float) (ua : Under limits la) (ub : Under limits lb) (c : Way) (e : c ≡ chosen stage (block la xs) (block lb ys)) where
+  grows-four : c .kind ≡ 4 → Grows limits lb (sumShape limits la lb) (c .line .variable) stage
+  grows-four k =
+      let one : Block = block la xs in
+      let f = chosen-four stage one (block lb ys) (sym (ap (λ (w : Way). w .kind) e) ∙ k) in
+      let i : c .line ≡ linear one = ap (λ (w : Way). w .line) (e ∙ f .is) in
+      let l = linear-is one (f .yes) in
+      let v : ℕ = linear one .variable in
+      let t : 2 ≤ at la v = line-two one v (l .fits) in
+      let g = grown-fits v (l .var) ub (sumShape limits la lb) (shape-right ua ub) (rw (sum-at limits la lb v (l .var)) (omega arith)) in
+      rw i (record { var = l .var; less = count-less (sumShape limits la lb) (grown limits v lb) g; some = f .some })
+
+  grows-five : c .kind ≡ 5 → Grows limits la (sumShape limits la lb) (c .line .variable) stage
+  grows-five k =
+      let two : Block = block lb ys in
+      let f = chosen-five stage (block la xs) two (sym (ap (λ (w : Way). w .kind) e) ∙ k) in
+      let i : c .line ≡ linear two = ap (λ (w : Way). w .line) (e ∙ f .is) in
+      let l = linear-is two (f .yes) in
+      let v : ℕ = linear two .variable in
+      let t : 2 ≤ at lb v = line-two two v (l .fits) in
+      let g = grown-fits v (l .var) ua (sumShape limits la lb) (shape-left ua ub) (rw (sum-at limits la lb v (l .var)) (omega arith)) in
+      rw i (record { var = l .var; less = count-less (sumShape limits la lb) (grown limits v la) g; some = f .some })
 
 -- a product's two blocks
 module _ {w : List Float} {mo pa ea : ℕ} {la : List ℕ} {pb eb : ℕ} {lb : List ℕ} {spare : ℕ} {limits : List ℕ} {stage : ℕ} (r : Room w pa ea la pb eb lb spare limits stage mo) where
@@ -57,43 +87,29 @@ module _ {w : List Float} {mo pa ea : ℕ} {la : List ℕ} {pb eb : ℕ} {lb : L
 
   pub room-four : (c : Way) → c ≡ chosen stage one two → c .kind ≡ 4 → LineRoom w pb eb lb (c .line .variable) spare limits stage mo
   room-four c e k =
-      let h : chosen stage one two .kind ≡ 4 = sym (ap (λ (w : Way). w .kind) e) ∙ k in
-      let f = chosen-four stage one two h in
-      let i : c .line ≡ linear one = ap (λ (w : Way). w .line) (e ∙ f .is) in
-      let l = linear-is one (f .yes) in
-      let v : ℕ = linear one .variable in
-      let t : 2 ≤ at la v = line-two one v (l .fits) in
-      let g = grown-fits v (l .var) (r .right .under) (sumShape limits la lb) (shape-right (r .left .under) (r .right .under)) (rw (sum-at limits la lb v (l .var)) (omega arith)) in
-      let m = count-less (sumShape limits la lb) (grown limits v lb) g in
-      rw i (record {
+      let g = grows-four stage (part pa ea w) (part pb eb w) (r .left .under) (r .right .under) c e k in
+      record {
         lies = r .right;
         caps = r .caps;
-        var = l .var;
-        fits = le-trans m (r .fits);
-        some = f .some;
+        var = g .var;
+        fits = le-trans (g .less) (r .fits);
+        some = g .some;
         low = r .low;
-        room = omega (arith, r .room (f .some), m);
-      })
+        room = omega (arith, r .room (g .some), g .less);
+      }
 
   pub room-five : (c : Way) → c ≡ chosen stage one two → c .kind ≡ 5 → LineRoom w pa ea la (c .line .variable) spare limits stage mo
   room-five c e k =
-      let h : chosen stage one two .kind ≡ 5 = sym (ap (λ (w : Way). w .kind) e) ∙ k in
-      let f = chosen-five stage one two h in
-      let i : c .line ≡ linear two = ap (λ (w : Way). w .line) (e ∙ f .is) in
-      let l = linear-is two (f .yes) in
-      let v : ℕ = linear two .variable in
-      let t : 2 ≤ at lb v = line-two two v (l .fits) in
-      let g = grown-fits v (l .var) (r .left .under) (sumShape limits la lb) (shape-left (r .left .under) (r .right .under)) (rw (sum-at limits la lb v (l .var)) (omega arith)) in
-      let m = count-less (sumShape limits la lb) (grown limits v la) g in
-      rw i (record {
+      let g = grows-five stage (part pa ea w) (part pb eb w) (r .left .under) (r .right .under) c e k in
+      record {
         lies = r .left;
         caps = r .caps;
-        var = l .var;
-        fits = le-trans m (r .fits);
-        some = f .some;
+        var = g .var;
+        fits = le-trans (g .less) (r .fits);
+        some = g .some;
         low = r .low;
-        room = omega (arith, r .room (f .some), m);
-      })
+        room = omega (arith, r .room (g .some), g .less);
+      }
 
 module _ (limits : List ℕ) (stage : ℕ) (a b : Block) {s : ℕ} {w w' out : List Float} {r : List ℕ} (c : Way) (e : c ≡ chosen stage a b) where
   pub made-four : c .kind ≡ 4 → Made (linearProduct (λ x. productOf (stage - 1) limits x (constantBlock (c .line .c))) limits (c .line) b) s w w' out r → Made (productOf stage limits a b) s w w' out r
@@ -111,6 +127,20 @@ module _ (limits : List ℕ) (stage : ℕ) (a b : Block) {s : ℕ} {w w' out : L
       let f : productOf stage limits a b ≡ plainProduct limits (c .kind) (c .line .c) a b =
       product-plain limits a b stage (λ h. h4 (ap (λ (w : Way). w .kind) e ∙ h)) (λ h. h5 (ap (λ (w : Way). w .kind) e ∙ h)) ∙ ap (λ (z : Way). plainProduct limits (z .kind) (z .line .c) a b) (sym e) in
       made-same f (rw i (put-made o))
+
+-- the same where there is no work to leave alone
+module _ (limits : List ℕ) (a b : Block) {out : List Float} {r : List ℕ} (c : Way) (e : c ≡ chosen 1 a b) where
+  as-made : {p : Block} → Stands p out r → Made p 0 [] [] out r
+  as-made x = record { stands = x; below = below-same }
+
+  pub stands-four : c .kind ≡ 4 → Stands (linearProduct (λ x. productOf 0 limits x (constantBlock (c .line .c))) limits (c .line) b) out r → Stands (productOf 1 limits a b) out r
+  stands-four k x = made-four limits 1 a b c e k (as-made x) .stands
+
+  pub stands-five : c .kind ≡ 5 → Stands (linearProduct (λ x. productOf 0 limits x (constantBlock (c .line .c))) limits (c .line) a) out r → Stands (productOf 1 limits a b) out r
+  stands-five k x = made-five limits 1 a b c e k (as-made x) .stands
+
+  pub stands-plain : {d : List Float} → (c .kind ≡ 4 → ⊥) → (c .kind ≡ 5 → ⊥) → Put (plainProduct limits (c .kind) (c .line .c) a b) d out r → Stands (productOf 1 limits a b) out r
+  stands-plain h4 h5 o = made-plain limits 1 a b {s = 0} {w = []} {w' = []} c e h4 h5 o refl .stands
 
 -- a linear product, step by step: r and n are what was computed; o1 the raised block; w1 where it was kept; w2 with the constant; w3 and o2 after the product; w4 where that was kept
 module _ {w : List Float} {mo p e : ℕ} {l : List ℕ} {v spare : ℕ} {limits : List ℕ} {stage : ℕ} (room : LineRoom w p e l v spare limits stage mo) where
@@ -257,3 +287,51 @@ module _ {w : List Float} {mo p e : ℕ} {l : List ℕ} {v spare : ℕ} {limits 
         let down : block k (part (spare + n + 1) (spare + n + 1 + z) w4) ≡ productOf (stage - 1) limits x (constantBlock c) = rw (m3 .stands .lengths, down-is) in
         let a : joinedBlock false (block r (part spare (spare + n) w4)) (block k (part (spare + n + 1) (spare + n + 1 + z) w4)) ≡ joinedBlock false (raised limits v m x) (productOf (stage - 1) limits x (constantBlock c)) = rw (up, down) in
         rw (← ev, ← em, ← ec, t) (made-same (sym a) (record { stands = put-stands h; below = line-below }))
+
+-- ---- operands that no limit cuts, where the caller has them
+
+module _ {la lb limits : List ℕ} (a b : List Float) {mo mw : ℕ} (t : Whole la lb limits (length a) (length b) mo mw) where
+  whole-small-a : count la ≤ count (sumShape limits la lb)
+  whole-small-a = count-less (sumShape limits la lb) la (shape-left (t .plain .left) (t .plain .right))
+
+  whole-small-b : count lb ≤ count (sumShape limits la lb)
+  whole-small-b = count-less (sumShape limits la lb) lb (shape-right (t .plain .left) (t .plain .right))
+
+  pub whole-some : 0 < count (sumShape limits la lb)
+  whole-some = count-pos (under-lengths (shape-under (t .plain .left) (t .plain .right)) (t .plain .caps))
+
+  module _ (c : Way) (e : c ≡ chosen 1 (block la a) (block lb b)) where
+    pub whole-four : c .kind ≡ 4 → LineWhole lb (c .line .variable) limits (length b) mo mw
+    whole-four k =
+        let g = grows-four 1 a b (t .plain .left) (t .plain .right) c e k in
+        record {
+          raises = record { under = t .plain .right; caps = t .plain .caps; var = g .var; full = t .plain .full-b; fits = le-trans (g .less) (t .plain .fits) };
+          room = omega (arith, t .room, t .plain .full-b, g .less, whole-small-b, whole-some);
+        }
+
+    pub whole-five : c .kind ≡ 5 → LineWhole la (c .line .variable) limits (length a) mo mw
+    whole-five k =
+        let g = grows-five 1 a b (t .plain .left) (t .plain .right) c e k in
+        record {
+          raises = record { under = t .plain .left; caps = t .plain .caps; var = g .var; full = t .plain .full-a; fits = le-trans (g .less) (t .plain .fits) };
+          room = omega (arith, t .room, t .plain .full-a, g .less, whole-small-a, whole-some);
+        }
+
+-- the block was kept at the front of the work
+module _ {n limits : List ℕ} {v mo mw : ℕ} (x : List Float) (t : LineWhole n v limits (length x) mo mw) {w w' : List Float} (l : length w ≡ mw) (h : Kept 0 (0 + length x) (take (length x) x) w w') where
+  pub whole-room : LineRoom w' 0 (length x) n v (length x) limits 1 mo
+  whole-room =
+      record {
+        lies = record { under = t .raises .under; ends = t .raises .full ∙ sym (zero-add (count n)); below = le-refl _ };
+        caps = t .raises .caps;
+        var = t .raises .var;
+        fits = t .raises .fits;
+        some = le-refl _;
+        low = le-refl _;
+        room = omega (arith, t .room, l, h .below .len);
+      }
+
+  pub whole-line : (f : Block → Block) {s : ℕ} {w'' out : List Float} {r : List ℕ} → Made (f (block n (part 0 (length x) w'))) s w' w'' out r → Stands (f (block n x)) out r
+  whole-line f m =
+      let e : part 0 (length x) w' ≡ x = ap (λ (k : ℕ). part 0 k w') (sym (zero-add (length x))) ∙ (h .holds ∙ take-length x) in
+      rw e at (m .stands)

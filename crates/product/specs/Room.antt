@@ -104,6 +104,16 @@ pub record LineRoom (w : List Float) (p e : ℕ) (n : List ℕ) (v spare : ℕ) 
   pub low : stage ≤ 1
   pub room : spare + (2 * count (grown limits v n) + 1) ≤ length w
 
+-- two operands that no limit cuts, where the caller has them
+pub record Whole (la lb limits : List ℕ) (ma mb mo mw : ℕ) : Type 0 where
+  pub plain : Plain la lb limits ma mb mo
+  pub room : 8 * count (sumShape limits la lb) ≤ mw
+
+-- one of them, that is to be multiplied by a linear factor in v
+pub record LineWhole (n : List ℕ) (v : ℕ) (limits : List ℕ) (ma mo mw : ℕ) : Type 0 where
+  pub raises : RaisesTo n v limits ma mo
+  pub room : ma + (2 * count (grown limits v n) + 1) ≤ mw
+
 -- two operands that lie where the caller has them: n the announced count
 pub record Times (la lb limits : List ℕ) (n ma mb mo mw : ℕ) : Type 0 where
   pub left : Lengths la

@@ -27,11 +27,12 @@ use Rattle.words.specs.Lengths.{Lengths, lengths-of, lengths-pos, count-pos, co
 use Rattle.words.specs.Places.{place-index}
 use Rattle.gates.specs.Gate.{PairReady}
 use Rattle.blocks.specs.Rows.{Inner}
+use Rattle.blocks.specs.Same.{sameLengths, same-is, same-count, cut-all}
 use Rattle.blocks.specs.Two.{Two, Holds, cutPlaces, cut-is}
 use Rattle.exact.specs.Sits.{Sits, cut-at}
 use Rattle.exact.specs.Running.{multiplied-fits}
 use Rattle.exact.specs.ProductKeeps.{product-keeps}
-use Rattle.product.specs.Room.{Under, Room, Times, Put, Stands, Made}
+use Rattle.product.specs.Room.{Under, Room, Times, Whole, Put, Stands, Made}
 use Rattle.product.specs.Ways.{under-lengths, inner-of, count-less, shape-under, shape-left, shape-right}
 
 -- cutting changes nothing where all lies under the limits
@@ -153,6 +154,30 @@ module _ {la lb limits : List ℕ} {n ma mb mo mw : ℕ} (t : Times la lb limits
           let p : block ca (part 0 na w) ≡ cut limits (block la a) = ap (block ca) x ∙ cut-is limits la a ea in
           let q : block cb (part n (n + nb) w) ≡ cut limits (block lb b) = ap (block cb) y ∙ cut-is limits lb b eb in
           other-stands limits (block la a) (block lb b) z (rw (p, q) at (m .stands))
+
+    -- where nothing is cut
+    module _ (sa : sameLengths la ca ≡ true) (sb : sameLengths lb cb ≡ true) where
+      pub times-whole : Whole ca cb limits ma mb mo mw
+      times-whole =
+          let z : count (sumShape limits ca cb) ≡ n = sym (t .all ∙ (rw (ea, eb))) in
+          record {
+            plain = record {
+              left = rw ea under-a;
+              right = rw eb under-b;
+              caps = t .caps;
+              full-a = t .full-a ∙ same-count (same-is la ca sa);
+              full-b = t .full-b ∙ same-count (same-is lb cb sb);
+              fits = omega (arith, z, t .out);
+            };
+            room = omega (arith, z, t .work);
+          }
+
+      pub whole-stands : (a b : List Float) {out : List Float} {r : List ℕ} → length a ≡ ma → length b ≡ mb → (isZero (block la a) || isZero (block lb b)) ≡ false
+          → Stands (productOf 1 limits (block ca a) (block cb b)) out r → Stands (multiplied limits (block la a) (block lb b)) out r
+      whole-stands a b ka kb z h =
+          let p : block ca a ≡ cut limits (block la a) = ap (block ca) (sym (cut-all la ca a (same-is la ca sa) (ka ∙ t .full-a))) ∙ cut-is limits la a ea in
+          let q : block cb b ≡ cut limits (block lb b) = ap (block cb) (sym (cut-all lb cb b (same-is lb cb sb) (kb ∙ t .full-b))) ∙ cut-is limits lb b eb in
+          other-stands limits (block la a) (block lb b) z (rw (p, q) at h)
 
   -- the true lengths lie under the announced ones
   pub times-sits : (a b : List Float) → Sits (sumShape limits (cutTo limits la) (cutTo limits lb)) (multiplied limits (block la a) (block lb b))

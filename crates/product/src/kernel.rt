@@ -15,7 +15,7 @@ ghost use Rattle.model.specs.Poly.{block};
 ghost use Rattle.model.specs.Add.{joinedBlock};
 ghost use Rattle.model.specs.Product.{isZero, justC, constantBlock, scaledAt, scaled, grown, raisedAt, raised, chosen, plainProduct, linearProduct, productOf, multiplied};
 ghost use Rattle.words.specs.Lengths.{Lengths};
-ghost use Rattle.product.specs.Room.{lineWay, Raising, RaisesTo, raisedRow, raisedFlat, Rows, Plain, Joins, Room, LineRoom, Times, Put, Stands, Made};
+ghost use Rattle.product.specs.Room.{lineWay, Raising, RaisesTo, raisedRow, raisedFlat, Rows, Plain, Joins, Room, LineRoom, Whole, LineWhole, Times, Put, Stands, Made};
 
 // A constant alone.
 fn just(c: f64) -> Linear
@@ -343,6 +343,49 @@ pub fn times(
     product(work, pa, ea, la, pb, eb, lb, spare, limits, 1, out)
 }
 
+// A block that no limit cuts times a linear factor.
+fn line_whole(
+    a: &[f64],
+    n: [usize; 4],
+    line: Linear,
+    limits: [usize; 4],
+    out: &mut [f64],
+    work: &mut [f64],
+) -> [usize; 4]
+    requires { ⌜ LineWhole n (line .variable) limits (length (now a)) (length (now out)) (length (now work)) ⌝ }
+    ensures { λ r. ⌜ Stands (linearProduct (λ x. productOf 0 limits x (constantBlock (line .c))) limits line (block n (now (a .entry)))) (now (out .exit)) r ⌝ }
+{
+    let e = a.len();
+    keep(a, e, work, 0);
+    linear_product(work, 0, e, n, line, e, limits, 1, out)
+}
+
+// The product of two operands that no limit cuts: they are read where they lie.
+fn product_whole(
+    a: &[f64],
+    la: [usize; 4],
+    b: &[f64],
+    lb: [usize; 4],
+    limits: [usize; 4],
+    out: &mut [f64],
+    work: &mut [f64],
+) -> [usize; 4]
+    requires { ⌜ Whole la lb limits (length (now a)) (length (now b)) (length (now out)) (length (now work)) ⌝ }
+    ensures { λ r. ⌜ Stands (productOf 1 limits (block la (now (a .entry))) (block lb (now (b .entry)))) (now (out .exit)) r ⌝ }
+{
+    let w = choose(a, la, b, lb, 1);
+    let kind = w.kind;
+    let line = w.line;
+    if kind == 4 {
+        return line_whole(b, lb, line, limits, out, work);
+    }
+    if kind == 5 {
+        return line_whole(a, la, line, limits, out, work);
+    }
+    let c = line.c;
+    plain(a, la, b, lb, kind, c, limits, out)
+}
+
 // The product of two operands with the lengths la and lb, to the front of `out`: zero is tested before the cut. n is the announced count.
 fn multiply_front(
     a: &[f64],
@@ -361,6 +404,9 @@ fn multiply_front(
     let cb = shape::limits::cut_to(limits, lb);
     if is_zero(a, la) | is_zero(b, lb) {
         return zero_to(out);
+    }
+    if blocks::is_same(la, ca) & blocks::is_same(lb, cb) {
+        return product_whole(a, ca, b, cb, limits, out, work);
     }
     blocks::load_two(a, la, ca, b, lb, cb, n, work);
     let na = words::places::count_of(ca);

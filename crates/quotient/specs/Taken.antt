@@ -14,7 +14,7 @@ use Rattle.model.specs.Header.{span}
 use Rattle.model.specs.Places.{index}
 use Rattle.model.specs.Refusals.{zeroF, zeros}
 use Rattle.model.specs.General.{lo, term, productAt}
-use Rattle.words.specs.Lengths.{lengths-pos}
+use Rattle.words.specs.Lengths.{lengths-pos, sizes-of}
 use Rattle.words.specs.Spans.{span-ones, ones-of-span}
 use Rattle.blocks.specs.Rows.{at-first}
 use Rattle.general.specs.Index.{inRow}
@@ -82,7 +82,7 @@ module _ {ly r : List ℕ} {v : ℕ} (g : Single ly r v) where
       (a, omega arith)
 
   pub first-zero : (w : ℕ) → w < 4 → at (index r 0) w ≡ 0
-  first-zero w q = ap (λ (x : List ℕ). at x w) (sym (at-first (g .result) .is)) ∙ at-four (λ x. 0) w q
+  first-zero w q = ap (λ (x : List ℕ). at x w) (sym (at-first (sizes-of (g .result)) .is)) ∙ at-four (λ x. 0) w q
 
   one-ly : inRow ly v ≡ 1
   one-ly = let s = g .some in span-ones ly (4 - (v + 1)) (v + 1) (λ w p q. ones w p (omega arith) .1)

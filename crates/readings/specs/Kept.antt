@@ -17,7 +17,7 @@ use Rattle.model.specs.Announced.{announced}
 use Rattle.model.specs.Refusals.{zeroF}
 use Rattle.model.specs.Poly.{Poly, poly}
 use Rattle.model.specs.Readings.{taylorPolynomial, coefficientsOfTerm, oneF}
-use Rattle.words.specs.Rules.{GoodVar, Ruled, Regular, ruled-at, none-regular}
+use Rattle.words.specs.Rules.{GoodVar, Ruled, Regular, ruled-at}
 use Rattle.shape.specs.Under.{under-same}
 use Rattle.shape.specs.Keeps.{Keeps}
 use Rattle.model.specs.Constructed.{constant, variable}
@@ -43,11 +43,7 @@ ones-keeps {h} x r =
 pub full-keeps : {h : Header} {a : List Float} → Regular h → length a ≡ stored h → Keeps h (poly h a)
 full-keeps {h} r e = record { regular = r; under = under-same h; full = e }
 
--- constructors: their header is the announced one
-
-pub none-keeps : (x : Float) → Keeps noHeader (constant noHeader x)
-unfolding span
-none-keeps x = full-keeps none-regular refl
+-- constructors: their header is the announced one (without variables: `none-keeps`, crate shape)
 
 pub constant-keeps : (vars : ℕ) (l : List ℕ) (x : Float) → Regular (zeroWith vars l) → Keeps (zeroWith vars l) (constant (zeroWith vars l) x)
 constant-keeps vars l x r = full-keeps r (sym (zero-count vars l))

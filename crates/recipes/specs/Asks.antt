@@ -16,12 +16,16 @@ pub or-next : (r next : Refusal) → r .number ≡ 0 → orElse r next ≡ next
 unfolding orElse
 or-next r next h = simp (eq-eqb (r .number) 0 h)
 
+-- by whether a refusal is none
+pub by-refusal : {P : Type 0} (r : Refusal) → (r .number ≡ 0 → P) → ((r .number ≡ 0 → ⊥) → P) → P
+by-refusal r f g = decide (eqb (r .number) 0) (λ t. f (eqb-true (r .number) 0 t)) (λ t. g (eqb-false (r .number) 0 t))
+
 -- neither refuses
 pub or-none : (r next : Refusal) → orElse r next .number ≡ 0 → (r .number ≡ 0) × (next .number ≡ 0)
 or-none r next e =
-    decide (eqb (r .number) 0)
-    (λ t. let z = eqb-true (r .number) 0 t in (z, ap (λ (x : Refusal). x .number) (sym (or-next r next z)) ∙ e))
-    (λ t. let n = eqb-false (r .number) 0 t in absurd (n (ap (λ (x : Refusal). x .number) (sym (or-first next n)) ∙ e)))
+    by-refusal r
+    (λ z. (z, ap (λ (x : Refusal). x .number) (sym (or-next r next z)) ∙ e))
+    (λ n. absurd (n (ap (λ (x : Refusal). x .number) (sym (or-first next n)) ∙ e)))
 
 pub ask-none : (b : Bool) {k : ℕ} (p : ℕ) (next : Refusal) → (k ≡ 0 → ⊥) → askAt b k p next .number ≡ 0 → (b ≡ true) × (next .number ≡ 0)
 ask-none true p next h e = (refl, e)

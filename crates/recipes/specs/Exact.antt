@@ -9,7 +9,7 @@ use native.Mathlib.Nat.{le-antisymm}
 use lib.Dec.{ltb, eqb}
 use lib.ListN.{length, take, getD, length-map}
 use lib.Seq.{length-take-le}
-use borrow.Author.Tests.{ltb-true, ltb-false, eqb-true, eqb-false, ne-eqb}
+use borrow.Author.Tests.{ltb-true, ltb-false, eqb-true, ne-eqb}
 use Rattle.lists.specs.Chain.{chain, length-chain}
 use Rattle.lists.specs.Test.{decide}
 use Rattle.model.specs.declared.Header.{Header}
@@ -20,6 +20,7 @@ use Rattle.model.specs.Refusals.{refusedAt}
 use Rattle.model.specs.Recipe.{announcedStep, inputHeads, announcedPlaces, announcedSteps, total, largest}
 use Rattle.model.specs.Check.{checkRefusal, checkAnswer}
 use Rattle.model.specs.Reasons.{WrongSizes, many-inputs, no-step, many-places, StepReason, Reason, sizes, input, step, turn, FirstReason}
+use Rattle.recipes.specs.Asks.{by-refusal}
 use Rattle.recipes.specs.Answered.{answer-no, answer-yes}
 use Rattle.recipes.specs.Judged.{Sizes}
 use Rattle.recipes.specs.Formed.{not-both}
@@ -53,7 +54,7 @@ module _ (hs ss : List ℕ) where
   abbrev known : ℕ → List Header
   known i = chain announcedStep (inputHeads hs) (take i ss)
 
-  length-known : (i : ℕ) → i < length ss → length (known i) ≡ length hs + i
+  pub length-known : (i : ℕ) → i < length ss → length (known i) ≡ length hs + i
   length-known i l = omega (arith, length-chain announcedStep (inputHeads hs) (take i ss), length-take-le i ss (omega arith), length-map hs headerOf)
 
   -- ---- not refused: no reason
@@ -143,9 +144,6 @@ module _ (hs ss : List ℕ) where
   abbrev r : Refusal
   r = checkRefusal hs ss
 
-  either : {P : Type 0} → (r .number ≡ 0 → P) → ((r .number ≡ 0 → ⊥) → P) → P
-  either f g = decide (eqb (r .number) 0) (λ t. f (eqb-true (r .number) 0 t)) (λ t. g (eqb-false (r .number) 0 t))
-
   -- the answer, by whether the check's refusal is none
   yes : r .number ≡ 0 → Accepted (total (announcedSteps hs ss)) (largest (announcedSteps hs ss)) (total (inputHeads hs)) ≡ checkAnswer hs ss
   yes z = answer-yes hs ss {r = r} refl z refl refl refl
@@ -169,11 +167,11 @@ check-exact hs ss =
     let q = checkRefusal hs ss in
     let o = outcome hs ss in
     record {
-      accepts = λ f. either hs ss (λ z. sym (yes hs ss z)) (λ n. absurd (f _ _ (refused-first hs ss o n .reason)));
+      accepts = λ f. by-refusal q (λ z. sym (yes hs ss z)) (λ n. absurd (f _ _ (refused-first hs ss o n .reason)));
       accepted =
-          λ x y z e p n w. either hs ss (λ a. accepted-none hs ss o a w) (λ b. let c = no hs ss b in let f : _≡_ {A = ℕ} 0 1 = cc in omega (arith, f));
-      refuses = λ r f. either hs ss (λ z. absurd (accepted-none hs ss o z (f .reason))) (λ n. sym (no hs ss n) ∙ ap Refused (first-one (refused-first hs ss o n) f));
+          λ x y z e p n w. by-refusal q (λ a. accepted-none hs ss o a w) (λ b. let c = no hs ss b in let f : _≡_ {A = ℕ} 0 1 = cc in omega (arith, f));
+      refuses = λ r f. by-refusal q (λ z. absurd (accepted-none hs ss o z (f .reason))) (λ n. sym (no hs ss n) ∙ ap Refused (first-one (refused-first hs ss o n) f));
       refused =
-          λ r e. either hs ss (λ a. let c = yes hs ss a in let f : _≡_ {A = ℕ} 0 1 = cc in absurd (omega (arith, f)))
+          λ r e. by-refusal q (λ a. let c = yes hs ss a in let f : _≡_ {A = ℕ} 0 1 = cc in absurd (omega (arith, f)))
           (λ n. let c = no hs ss n in let f : q ≡ r = cc in rw f at (refused-first hs ss o n));
     }

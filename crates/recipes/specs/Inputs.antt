@@ -7,13 +7,14 @@ use native.Mathlib.Omega.{arith}
 use native.Mathlib.Numerals.{add-one}
 use lib.ListN.{length, getD, take, drop, set, length-take, drop-of-length-le}
 use lib.Seq.{drop-cons, take-all, take-suc, length-take-le}
+use Rattle.lists.specs.All.{All}
 use Rattle.lists.specs.Grow.{over, length-over, over-more}
-use Rattle.model.specs.Header.{noHeader}
+use Rattle.model.specs.Header.{noHeader, span}
 use Rattle.model.specs.Word.{goodWord}
 use Rattle.model.specs.Refusals.{refusedAt, noRefusal}
 use Rattle.model.specs.Recipe.{inputHeads}
 use Rattle.model.specs.Check.{askAt, inputsRefusal}
-use Rattle.words.specs.Rules.{Regular, none-regular}
+use Rattle.words.specs.Rules.{Good, none-regular}
 use Rattle.words.specs.Words.{good-word}
 use Rattle.kinds.specs.Known.{Known}
 use Rattle.recipes.specs.Asks.{ask-none}
@@ -42,18 +43,25 @@ module _ {hs : List ℕ} {i : ℕ} (k : Looking hs i) where
   looking-end l = sym (k .left ∙ ap (inputsRefusal i) (drop-of-length-le hs l))
 
 -- where no input is refused
-first-good : (p w : ℕ) (ws : List ℕ) → inputsRefusal p (w ∷ ws) .number ≡ 0 → (goodWord w ≡ true) × (inputsRefusal (suc p) ws .number ≡ 0)
+pub first-good : (p w : ℕ) (ws : List ℕ) → inputsRefusal p (w ∷ ws) .number ≡ 0 → (goodWord w ≡ true) × (inputsRefusal (suc p) ws .number ≡ 0)
 unfolding inputsRefusal
 first-good p w ws e = ask-none (goodWord w) p (inputsRefusal (suc p) ws) (λ z. omega (arith, z)) e
 
-regular-at : (p : ℕ) (hs : List ℕ) → inputsRefusal p hs .number ≡ 0 → (q : ℕ) → Regular (getD (inputHeads hs) q noHeader)
+pub none-good : Good noHeader
+unfolding span
+none-good = record { regular = none-regular; most = omega arith }
+
+good-at : (p : ℕ) (hs : List ℕ) → inputsRefusal p hs .number ≡ 0 → (q : ℕ) → Good (getD (inputHeads hs) q noHeader)
 unfolding inputsRefusal
-regular-at p [] e q = none-regular
-regular-at p (w ∷ ws) e zero = good-word w (first-good p w ws e .0) .regular
-regular-at p (w ∷ ws) e (suc q) = regular-at (suc p) ws (first-good p w ws e .1) q
+good-at p [] e q = none-good
+good-at p (w ∷ ws) e zero = good-word w (first-good p w ws e .0)
+good-at p (w ∷ ws) e (suc q) = good-at (suc p) ws (first-good p w ws e .1) q
+
+pub inputs-good : (hs : List ℕ) → inputsRefusal 0 hs .number ≡ 0 → All Good noHeader (inputHeads hs)
+inputs-good hs e = record { at = good-at 0 hs e }
 
 pub inputs-known : (hs : List ℕ) → inputsRefusal 0 hs .number ≡ 0 → Known (inputHeads hs)
-inputs-known hs e = record { at = regular-at 0 hs e }
+inputs-known hs e = record { at = λ q. good-at 0 hs e q .regular }
 
 -- the loop that notes the inputs: new is `known` after i turns
 

@@ -4,9 +4,9 @@ use mathlib.Core.Bool.{true, false}
 use mathlib.Core.List.{List, [], _∷_, _++_}
 use mathlib.Core.Path.{_≡_, refl}
 use native.Mathlib.Omega.{arith}
-use lib.Dec.{leb, eqb}
+use lib.Dec.{leb}
 use lib.ListN.{length, take, getD}
-use borrow.Author.Tests.{leb-false, eqb-true, eqb-false}
+use borrow.Author.Tests.{leb-false}
 use Rattle.lists.specs.Chain.{chain}
 use Rattle.lists.specs.Test.{decide}
 use Rattle.model.specs.declared.Header.{Header}
@@ -16,7 +16,7 @@ use Rattle.model.specs.Refusals.{refusedAt, noRefusal}
 use Rattle.model.specs.Recipe.{announcedStep, inputHeads}
 use Rattle.model.specs.Check.{orElse, rightSizes, stepRefusal, inputsRefusal, stepsRefusal, checkRefusal}
 use Rattle.model.specs.Reasons.{WrongSizes, many-inputs, no-step, many-places}
-use Rattle.recipes.specs.Asks.{or-first, or-next}
+use Rattle.recipes.specs.Asks.{or-first, or-next, by-refusal}
 use Rattle.recipes.specs.Judged.{Sizes, sizes}
 use Rattle.recipes.specs.Formed.{not-both}
 
@@ -80,9 +80,9 @@ steps-outcome known [] = all-clear (λ j l. absurd (omega arith))
 steps-outcome known (w ∷ ws) =
     let r = stepRefusal w known in
     let next = stepsRefusal (known ++ (announcedStep w known ∷ [])) ws in
-    decide (eqb (r .number) 0)
-    (λ t. let z = eqb-true (r .number) 0 t in rw (or-next r next z) (steps-later known w ws z (steps-outcome (known ++ (announcedStep w known ∷ [])) ws)))
-    (λ t. let n = eqb-false (r .number) 0 t in rw (or-first {r = r} next n) (one-refused 0 r refl (omega arith) (λ j l. absurd (omega arith)) n))
+    by-refusal r
+    (λ z. rw (or-next r next z) (steps-later known w ws z (steps-outcome (known ++ (announcedStep w known ∷ [])) ws)))
+    (λ n. rw (or-first {r = r} next n) (one-refused 0 r refl (omega arith) (λ j l. absurd (omega arith)) n))
 
 -- ---- the whole
 

@@ -4,7 +4,7 @@ use mathlib.Core.List.{List}
 use mathlib.Core.Bool.{Bool, true, _&&_}
 use mathlib.Core.Path.{_≡_, refl, sym, ap, _∙_}
 use native.Mathlib.Omega.{arith}
-use native.Mathlib.Nat.{mul-le-mul, mul-one, mul-pos, le-refl}
+use native.Mathlib.Nat.{mul-le-mul, mul-one, mul-pos, mul-comm, le-refl}
 use borrow.Author.Tests.{ltb-true, lt-ltb}
 use lib.Dec.{ltb, lit<}
 use Rattle.lists.specs.Test.{and-left, and-right}
@@ -68,6 +68,39 @@ count-most {n} g = rw (count-is n) (size4 g)
 
 pub count-pos : {n : List ℕ} → Lengths n → 0 < count n
 count-pos {n} g = rw (count-is n) (mul-pos (g .p0) (mul-pos (g .p1) (mul-pos (g .p2) (g .p3))))
+
+-- lengths of any size, with no more places than lengths of 1 to 64 can have
+pub record Sizes (n : List ℕ) : Type 0 where
+  pub p0 : 0 < at n 0
+  pub p1 : 0 < at n 1
+  pub p2 : 0 < at n 2
+  pub p3 : 0 < at n 3
+  pub most : count n ≤ 16777216
+
+pub sizes-of : {n : List ℕ} → Lengths n → Sizes n
+sizes-of g = record { p0 = g .p0; p1 = g .p1; p2 = g .p2; p3 = g .p3; most = count-most g }
+
+pub no-less : (x m : ℕ) → 0 < m → x ≤ x * m
+no-less x m h = rw (mul-one x) at (mul-le-mul (le-refl x) h)
+
+no-less' : (x m : ℕ) → 0 < m → x ≤ m * x
+no-less' x m h = rw (mul-comm x m) at (no-less x m h)
+
+-- so each of them is small
+pub sizes-low : {n : List ℕ} → Sizes n → (k : ℕ) → k < 4 → at n k ≤ 16777216
+sizes-low {n} g =
+    let z : ℕ = at n 2 * at n 3 in
+    let y : ℕ = at n 1 * z in
+    let u : at n 0 * y ≤ 16777216 = rw (count-is n) at (g .most) in
+    let d : 0 < z = mul-pos (g .p2) (g .p3) in
+    let e : 0 < y = mul-pos (g .p1) d in
+    let v : y ≤ 16777216 = omega (arith, u, no-less' y (at n 0) (g .p0)) in
+    let w : z ≤ 16777216 = omega (arith, v, no-less' z (at n 1) (g .p1)) in
+    each (λ k. at n k ≤ 16777216)
+    (omega (arith, u, no-less (at n 0) y e))
+    (omega (arith, v, no-less (at n 1) z d))
+    (omega (arith, w, no-less (at n 2) (at n 3) (g .p3)))
+    (omega (arith, w, no-less' (at n 3) (at n 2) (g .p2)))
 
 -- an index that lies inside
 pub record Inside (n i : List ℕ) : Type 0 where

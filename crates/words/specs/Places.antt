@@ -8,7 +8,7 @@ use lib.Arith.{digits-lt, digits-div, digits-mod}
 use Rattle.lists.specs.Four.{at, four}
 use Rattle.model.specs.Header.{span, count}
 use Rattle.model.specs.Places.{strides, offset, place, index}
-use Rattle.words.specs.Lengths.{Lengths, Inside, count-is, count-most}
+use Rattle.words.specs.Lengths.{Lengths, Sizes, Inside, sizes-of, no-less, count-is}
 
 -- the place by Horner's rule, from the first variable to the last
 pub horner : (n i : List ℕ) → place n i ≡ ((at i 0 * at n 1 + at i 1) * at n 2 + at i 2) * at n 3 + at i 3
@@ -21,9 +21,9 @@ count-left n = count-is n ∙ simp mul-assoc
 pub place-lt : (n i : List ℕ) → Inside n i → place n i < count n
 place-lt n i h = rw (horner n i, count-left n) (digits-lt (digits-lt (digits-lt (h .i0) (h .i1)) (h .i2)) (h .i3))
 
-pub index-inside : (n : List ℕ) (p : ℕ) → Lengths n → p < count n → Inside n (index n p)
+pub index-within : (n : List ℕ) (p : ℕ) → Sizes n → p < count n → Inside n (index n p)
 unfolding index
-index-inside n p g h =
+index-within n p g h =
     let k : p < at n 0 * at n 1 * at n 2 * at n 3 = rw (← count-left n) h in
     record {
       i0 = div-lt-iff-lt-mul (g .p1) .1 (div-lt-iff-lt-mul (g .p2) .1 (div-lt-iff-lt-mul (g .p3) .1 k));
@@ -31,6 +31,9 @@ index-inside n p g h =
       i2 = mod-lt _ (g .p2);
       i3 = mod-lt _ (g .p3);
     }
+
+pub index-inside : (n : List ℕ) (p : ℕ) → Lengths n → p < count n → Inside n (index n p)
+index-inside n p g h = index-within n p (sizes-of g) h
 
 -- a place's index leads back to it
 pub place-index : (n : List ℕ) (p : ℕ) → place n (index n p) ≡ p
@@ -51,8 +54,18 @@ pub index-place : (n i : List ℕ) → Inside n i → index n (place n i) ≡ fo
 index-place n i h = index-back n i (h .i1) (h .i2) (h .i3)
 
 -- no step of working out a place overflows
-pub place-small : (n i : List ℕ) {s : List ℕ} → s ≡ strides n → Lengths n → Inside n i → offset s i ≤ 2 ^ 24
-place-small n i e g h = rw e (omega (arith, place-lt n i h, count-most g))
+pub record Steps (n i : List ℕ) : Type 0 where
+  pub first : at i 0 * at n 1 + at i 1 ≤ 16777216
+  pub second : (at i 0 * at n 1 + at i 1) * at n 2 + at i 2 ≤ 16777216
+  pub last : ((at i 0 * at n 1 + at i 1) * at n 2 + at i 2) * at n 3 + at i 3 ≤ 16777216
+
+pub place-steps : (n i : List ℕ) → Sizes n → Inside n i → Steps n i
+place-steps n i g h =
+    let x : ℕ = at i 0 * at n 1 + at i 1 in
+    let y : ℕ = x * at n 2 + at i 2 in
+    let l : y * at n 3 + at i 3 ≤ 16777216 = let m : place n i ≤ 16777216 = omega (arith, place-lt n i h, g .most) in rw (horner n i) at m in
+    let u : y ≤ 16777216 = omega (arith, l, no-less y (at n 3) (g .p3)) in
+    record { first = omega (arith, u, no-less x (at n 2) (g .p2)); second = u; last = l }
 
 -- The index of the next row, the last variable's number 0: one more in the last variable but one that has room for it.
 
@@ -60,7 +73,7 @@ place-small n i e g h = rw e (omega (arith, place-lt n i h, count-most g))
 rows-add : (x a b n2 n3 : ℕ) → a * n2 + b ≡ x + 1 → (a * n2 + b) * n3 + 0 ≡ x * n3 + 0 + n3
 rows-add x a b n2 n3 e = rw e (omega arith)
 
-module _ (n i : List ℕ) (g : Lengths n) (z : at i 3 ≡ 0) where
+module _ (n i : List ℕ) (g : Sizes n) (z : at i 3 ≡ 0) where
   abbrev rowOf : ℕ
   rowOf = (at i 0 * at n 1 + at i 1) * at n 2 + at i 2
 

@@ -2,7 +2,7 @@
 ghost use mathlib.Core.Path.{_≡_};
 ghost use Rattle.model.specs.Header.{count};
 ghost use Rattle.model.specs.Places.{strides, place, index, inside};
-ghost use Rattle.words.specs.Lengths.{Lengths, Inside, RowAt};
+ghost use Rattle.words.specs.Lengths.{Lengths, Sizes, Inside, RowAt};
 ghost use Rattle.lists.specs.Four.{at};
 ghost use Prim.Native.Nat.{_+_};
 
@@ -25,11 +25,10 @@ pub fn strides_of(n: [usize; 4]) -> [usize; 4]
 
 // The place of an index that lies inside.
 pub fn place_of(n: [usize; 4], i: [usize; 4]) -> usize
-    requires { ⌜ Lengths n ⌝ ∗ ⌜ Inside n i ⌝ }
+    requires { ⌜ Sizes n ⌝ ∗ ⌜ Inside n i ⌝ }
     ensures { λ r. ⌜ r ≡ place n i ⌝ }
 {
-    let s = strides_of(n);
-    i[0] * s[0] + i[1] * s[1] + i[2] * s[2] + i[3] * s[3]
+    ((i[0] * n[1] + i[1]) * n[2] + i[2]) * n[3] + i[3]
 }
 
 // The index of a place.
@@ -51,7 +50,7 @@ pub fn is_inside(n: [usize; 4], i: [usize; 4]) -> bool
 
 // The index of the first place of the next row: a row is the places that differ in the last variable alone.
 pub fn next_row(n: [usize; 4], i: [usize; 4]) -> [usize; 4]
-    requires { ⌜ Lengths n ⌝ ∗ ⌜ RowAt n i ⌝ }
+    requires { ⌜ Sizes n ⌝ ∗ ⌜ RowAt n i ⌝ }
     ensures { λ r. ⌜ r ≡ index n (place n i + at n 3) ⌝ }
 {
     if i[2] + 1 < n[2] {

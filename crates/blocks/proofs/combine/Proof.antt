@@ -2,15 +2,14 @@ use native.Mathlib.Omega.{arith}
 use mathlib.Core.Path.{_≡_, refl, sym, ap, _∙_}
 use lib.ListN.{length}
 use Rattle.model.specs.Poly.{block}
-use Rattle.blocks.specs.Combine.{combine-left, combine-right, combine-some, joining-left, joining-right, way-left, way-right, way-both, first-set, turned-yes, turned-no}
+use Rattle.blocks.specs.Combine.{combine-left, combine-right, combine-some, way-left, way-right, way-both, first-set, turned-yes, turned-no}
 use borrow.Author.Needs.{needs}
 use Rattle.blocks.proofs.combine.Statement.{statement}
 use Rattle.blocks.proofs.combine.Tie as tie
 use Rattle.blocks.proofs.combine.Reads as reads
 use Rattle.blocks.proofs.combine.Lts as lts
-use Rattle.blocks.proofs.clear.Reads as clear-reads
 use Rattle.blocks.proofs.first_joined.Reads as first-joined-reads
-use Rattle.blocks.proofs.join_block.Reads as join-block-reads
+use Rattle.blocks.proofs.join_both.Reads as join-both-reads
 use Rattle.blocks.proofs.turned_joined.Reads as turned-joined-reads
 
 first-joined-requires : tie.Need-first-joined-requires
@@ -40,23 +39,17 @@ returns-2 c =
     let p = (c .before .before .before .before .before .before .before .before .before) .pre in
     c .before .before .turned-joined .ensures ∙ way-right _ (a' .r) (block (a' .n) (a' .a .now)) (block (a' .m) (a' .b .now)) (λ e. c .before .before .before .before .before .if1 .left (p .full-b ∙ e)) (sym (p .full-a) ∙ c .before .before .before .before .if2 .taken)
 
-clear-requires : tie.Need-clear-requires
-clear-requires c κs = search needs
-
-join-block-requires : tie.Need-join-block-requires
-join-block-requires c κs = joining-left ((c .before .before .before .before .before .before .before .before .before .before) .pre) (c .before .before .before .clear .kept .0)
-
-join-block-requires-2 : tie.Need-join-block-requires-2
-join-block-requires-2 c κs = joining-right ((c .before .before .before .before .before .before .before .before .before .before .before .before .before .before) .pre) (c .before .before .before .join-block .kept .1 .1 .1 .1 .0 ∙ c .before .before .before .before .before .before .before .clear .kept .0)
+join-both-requires : tie.Need-join-both-requires
+join-both-requires c κs = (c .before .before .before .before .before .before) .pre
 
 same-length-3 : tie.Need-same-length-3
 same-length-3 c = search needs
 
 returns-3 : tie.Need-returns-3
 returns-3 c =
-    let a' = (c .before .before .before .before .before .before .before .before .before .before .before .before .before .before .before .before .before) .args in
-    let p = (c .before .before .before .before .before .before .before .before .before .before .before .before .before .before .before .before .before) .pre in
-    way-both _ (a' .r) (block (a' .n) (a' .a .now)) (block (a' .m) (a' .b .now)) (a' .to .now) (λ e. c .before .before .before .before .before .before .before .before .before .before .before .before .before .if1 .left (p .full-b ∙ e)) (λ e. c .before .before .before .before .before .before .before .before .before .before .before .before .if2 .left (p .full-a ∙ e)) (p .full) (c .before .before .before .before .before .before .before .before .before .before .clear .ensures) (c .before .before .before .before .before .before .join-block .ensures) (c .before .before .join-block2 .ensures)
+    let a = (c .before .before .before .before .before .before .before .before .before) .args in
+    let p = (c .before .before .before .before .before .before .before .before .before) .pre in
+    c .before .before .join-both .ensures ∙ way-both (a .minus) (a .r) (block (a .n) (a .a .now)) (block (a .m) (a .b .now)) (λ e. c .before .before .before .before .before .if1 .left (p .full-b ∙ e)) (λ e. c .before .before .before .before .if2 .left (p .full-a ∙ e))
 
 pub combine-spec : {M : Type 1} → statement M
 combine-spec =
@@ -68,8 +61,6 @@ combine-spec =
     turned-joined-requires
     same-length-2
     returns-2
-    clear-requires
-    join-block-requires
-    join-block-requires-2
+    join-both-requires
     same-length-3
     returns-3)

@@ -1,130 +1,25 @@
-use native.Mathlib.Omega.{arith}
-use mathlib.Core.Path.{_≡_, refl, sym, ap, _∙_}
-use mathlib.Core.List.{List, _++_}
-use Prim.Native.Nat.{ℕ, _+_, _-_, _≤_, _<_}
-use lib.ListN.{length, take, drop, getD, length-take, length-drop}
-use lib.Ieee.{Float, nan}
-use lib.Seq.{take-take, length-take-le}
-use Rattle.lists.specs.Four.{at}
-use Rattle.lists.specs.Table.{table}
-use Rattle.model.specs.Header.{count}
-use Rattle.model.specs.Places.{place, index}
-use Rattle.model.specs.Poly.{block, readAt}
-use Rattle.model.specs.Add.{joinAt}
-use Rattle.words.specs.Lengths.{Lengths, RowAt}
-use Rattle.blocks.specs.Rows.{Cutting, Joining, alongRow}
-use Rattle.blocks.specs.ByRow.{ByRow, by-none, by-put, by-end, by-fits, by-len, cut-begins, cut-inside, cut-from, cut-row, join-begins, joined-row}
+use mathlib.Core.Path.{_∙_}
+use Rattle.words.specs.Lengths.{sizes-of}
+use Rattle.blocks.specs.Merge.{joining-merged, join-merged}
+use borrow.Author.Needs.{needs}
 use Rattle.blocks.proofs.join_block.Statement.{statement}
 use Rattle.blocks.proofs.join_block.Tie as tie
 use Rattle.blocks.proofs.join_block.Reads as reads
 use Rattle.blocks.proofs.join_block.Lts as lts
-use Rattle.blocks.proofs.join_row.Reads as join-row-reads
-use Rattle.words.proofs.places.next_row.Reads as next-row-reads
+use Rattle.blocks.proofs.join_rows.Reads as join-rows-reads
+use Rattle.blocks.proofs.longest_rows.Reads as longest-rows-reads
 
-abbrev Inv-loop : tie.InvT-loop
-Inv-loop minus a n to₀ r w p₀ i₀ to p i = (w ≡ at r 3) × ByRow r (λ k. joinAt minus (getD to₀ k nan) (block n a) (index r k)) to₀ to p i
+longest-rows-requires : tie.Need-longest-rows-requires
+longest-rows-requires c κs = (sizes-of ((c .before .before) .pre .from), sizes-of ((c .before .before) .pre .to))
 
-abbrev μ-loop : tie.MeasureT-loop
-μ-loop minus a n to₀ r w p₀ i₀ to p i = length to₀ - p
+join-rows-requires : tie.Need-join-rows-requires
+join-rows-requires c κs = joining-merged (c .before .before .before .longest-rows .ensures) ((c .before .before .before .before .before .before) .pre)
 
-to-len : (c : tie.In-loop Inv-loop μ-loop) → length (c .before .loop .to) ≡ length ((c .before .before .before .before) .args .to .now)
-to-len c =
-    let p = (c .before .before .before .before) .pre in
-    by-len (p .to) (p .full) (c .before .loop .inv .1) ∙ sym (p .full)
+same-length : tie.Need-same-length
+same-length c = search needs
 
-more : (c : tie.In-loop Inv-loop μ-loop) → c .before .loop .at < count ((c .before .before .before .before) .args .t4)
-more c =
-    let p = (c .before .before .before .before) .pre in
-    let n = by-len (p .to) (p .full) (c .before .loop .inv .1) in omega arith
-
-to-fits : (c : tie.In-loop Inv-loop μ-loop) → c .before .loop .at + at ((c .before .before .before .before) .args .t4) 3 ≤ length (c .before .loop .to)
-to-fits c =
-    let p = (c .before .before .before .before) .pre in
-    by-fits (p .to) (p .full) (c .before .loop .inv .1) (more c)
-
-rowed : (c : tie.After-join-row Inv-loop μ-loop)
-    → c .join-row .last .1 .1 .1 .1 .0 ≡ table (at ((c .before .before .before .before .before .before) .args .t4) 3) (λ k. joinAt ((c .before .before .before .before .before .before) .args .minus) (getD (take (at ((c .before .before .before .before .before .before) .args .t4) 3) (drop (c .before .before .before .loop .at) (c .before .before .before .loop .to))) k nan) (block ((c .before .before .before .before .before .before) .args .n) ((c .before .before .before .before .before .before) .args .a .now)) (alongRow (c .before .before .before .loop .i) k))
-rowed c =
-    let w : ℕ = at ((c .before .before .before .before .before .before) .args .t4) 3 in
-    let p = to-fits (c .before .before) in
-    let k : c .before .before .before .loop .at + w - c .before .before .before .loop .at ≡ w = omega arith in
-    let m : length (take w (drop (c .before .before .before .loop .at) (c .before .before .before .loop .to))) ≡ w = simp (length-take, length-drop) (omega arith) in
-    (rw k at (c .join-row .ensures)) ∙ (rw m)
-
-array-read-width : tie.Need-array-read-width Inv-loop μ-loop
-array-read-width c = omega arith
-
-loop-holds : tie.Need-loop-holds Inv-loop μ-loop
-loop-holds c =
-    let p = (c .before .before) .pre in
-    (refl, by-none (p .to) (p .full))
-
-add-join-row : tie.Need-add-join-row Inv-loop μ-loop
-add-join-row c = omega (arith, to-fits (c))
-
-mul-join-row : tie.Need-mul-join-row Inv-loop μ-loop
-mul-join-row c = omega (arith, to-fits (c))
-
-sub-join-row : tie.Need-sub-join-row Inv-loop μ-loop
-sub-join-row c = omega arith
-
-part-join-row-start : tie.Need-part-join-row-start Inv-loop μ-loop
-part-join-row-start c = omega arith
-
-part-join-row-end : tie.Need-part-join-row-end Inv-loop μ-loop
-part-join-row-end c = omega (arith, to-fits (c))
-
-join-row-requires : tie.Need-join-row-requires Inv-loop μ-loop
-join-row-requires c κs =
-    let a = (c .before .before .before .before .before) .args in
-    let p' = (c .before .before .before .before .before) .pre in
-    (p' .from, ((p' .room, (let p = to-fits (c .before) in let q = p' .inner .c3 in simp (length-take, length-drop) (omega arith))), join-begins (a .minus) (a .n) (a .t4) (a .a .now) (a .to .now) (p') (c .before .before .loop .inv .1) (more (c .before)) .begins))
-
-add-at : tie.Need-add-at Inv-loop μ-loop
-add-at c = omega (arith, to-fits (c .before .before .before .before))
-
-next-row-requires : tie.Need-next-row-requires Inv-loop μ-loop
-next-row-requires c κs =
-    let a = (c .before .before .before .before .before .before .before .before) .args in
-    let p = (c .before .before .before .before .before .before .before .before) .pre in
-    (p .to, join-begins (a .minus) (a .n) (a .t4) (a .a .now) (a .to .now) (p) (c .before .before .before .before .before .loop .inv .1) (more (c .before .before .before .before)))
-
-loop-less : tie.Need-loop-less Inv-loop μ-loop
-loop-less c = let q = (c .before .before .before .before .before .before .before .before .before) .pre .to .p3 in omega (arith, to-fits (c .before .before .before .before .before), to-len (c .before .before .before .before .before))
-
-loop-again : tie.Need-loop-again Inv-loop μ-loop
-loop-again c =
-    let a = (c .before .before .before .before .before .before .before .before .before) .args in
-    let p = (c .before .before .before .before .before .before .before .before .before) .pre in
-    (refl, by-put (p .to) (p .full) (c .before .before .before .before .before .before .loop .inv .1) (more (c .before .before .before .before .before)) (let e : c .before .before .before .before .before .before .loop .at + at (a .t4) 3 - c .before .before .before .before .before .before .loop .at ≡ at (a .t4) 3 = omega arith in e) (joined-row (a .minus) (a .n) (a .t4) (a .a .now) (a .to .now) (p) (c .before .before .before .before .before .before .loop .inv .1) (more (c .before .before .before .before .before)) (rowed (c .before .before .before))) (c .next-row .ensures))
-
-same-length : tie.Need-same-length Inv-loop μ-loop
-same-length c =
-    let p = (c .before .before .before .before) .pre in
-    by-len (p .to) (p .full) (c .before .loop .inv .1) ∙ sym (p .full)
-
-returns : tie.Need-returns Inv-loop μ-loop
-returns c =
-    let p = (c .before .before .before .before) .pre in
-    by-end (p .to) (p .full) (c .before .loop .inv .1) (let n = by-len (p .to) (p .full) (c .before .loop .inv .1) in omega arith)
+returns : tie.Need-returns
+returns c = let a = (c .before .before .before .before .before .before .before .before .before) .args in c .before .before .join-rows .ensures ∙ join-merged (c .before .before .before .before .before .before .longest-rows .ensures) (a .minus) (a .a .now) (a .to .now)
 
 pub join-block-spec : {M : Type 1} → statement M
-join-block-spec =
-    tie.close
-    (tie.spec
-    Inv-loop
-    μ-loop
-    array-read-width
-    loop-holds
-    add-join-row
-    mul-join-row
-    sub-join-row
-    part-join-row-start
-    part-join-row-end
-    join-row-requires
-    add-at
-    next-row-requires
-    loop-less
-    loop-again
-    same-length
-    returns)
+join-block-spec = tie.close (tie.spec longest-rows-requires join-rows-requires same-length returns)

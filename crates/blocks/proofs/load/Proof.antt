@@ -1,161 +1,61 @@
-use Rattle.blocks.specs.ByRow.{ByRow, by-none, by-put, by-end, by-fits, by-len, cut-begins, cut-inside, cut-from, cut-row, join-begins, joined-row}
 use native.Mathlib.Omega.{arith}
-use mathlib.Core.Path.{_≡_, refl, sym, ap, _∙_}
-use mathlib.Core.List.{List, _++_}
-use Prim.Native.Nat.{ℕ, _+_, _-_, _≤_, _<_}
-use lib.ListN.{length, take, drop, getD, length-take, length-drop}
-use lib.Ieee.{Float, nan}
-use lib.Seq.{take-take, length-take-le}
-use Rattle.lists.specs.Four.{at}
-use Rattle.lists.specs.Table.{table}
+use mathlib.Core.Path.{_≡_, sym, ap, _∙_}
+use Prim.Native.Nat.{ℕ, _≤_}
+use lib.ListN.{length, take}
 use Rattle.model.specs.Header.{count}
-use Rattle.model.specs.Places.{place, index}
-use Rattle.model.specs.Poly.{block, readAt}
-use Rattle.model.specs.Add.{joinAt}
-use Rattle.words.specs.Lengths.{Lengths, RowAt}
-use Rattle.blocks.specs.Rows.{Cutting, Joining}
-use Rattle.blocks.specs.ByRow.{ByRow, by-none, by-more, by-end, by-fits, by-len, cut-begins, cut-inside, cut-from, cut-row, join-begins, joined-row}
+use Rattle.words.specs.Lengths.{sizes-of}
+use Rattle.blocks.specs.Same.{Same, same-is, same-count, cut-front}
+use Rattle.blocks.specs.Merge.{cutting-merged, cut-merged}
+use borrow.Author.Needs.{needs}
 use Rattle.blocks.proofs.load.Statement.{statement}
 use Rattle.blocks.proofs.load.Tie as tie
 use Rattle.blocks.proofs.load.Reads as reads
 use Rattle.blocks.proofs.load.Lts as lts
 use Rattle.blocks.proofs.copy.Reads as copy-reads
-use Rattle.words.proofs.places.next_row.Reads as next-row-reads
-use Rattle.words.proofs.places.place_of.Reads as place-of-reads
+use Rattle.blocks.proofs.is_same.Reads as is-same-reads
+use Rattle.blocks.proofs.load_rows.Reads as load-rows-reads
+use Rattle.blocks.proofs.longest_rows.Reads as longest-rows-reads
 
-abbrev Inv-loop : tie.InvT-loop
-Inv-loop a n to₀ d w p₀ i₀ to p i = (w ≡ at d 3) × ByRow d (λ k. readAt (block n a) (index d k)) to₀ to p i
+same : (c : tie.Then1) → Same ((c .before .before .before .before) .args .n) ((c .before .before .before .before) .args .c)
+same c = same-is _ _ (sym (c .before .is-same .ensures) ∙ c .if1 .taken)
 
-abbrev μ-loop : tie.MeasureT-loop
-μ-loop a n to₀ d w p₀ i₀ to p i = length to₀ - p
+is-same-requires : tie.Need-is-same-requires
+is-same-requires c κs = search needs
 
-to-len : (c : tie.In-loop Inv-loop μ-loop) → length (c .before .loop .to) ≡ length ((c .before .before .before .before) .args .to .now)
-to-len c =
-    let p = (c .before .before .before .before) .pre in
-    by-len (p .to) (p .full) (c .before .loop .inv .1) ∙ sym (p .full)
+copy-requires : tie.Need-copy-requires
+copy-requires c κs = let p = (c .before .before .before .before .before) .pre in omega (arith, p .room, p .full, same-count (same (c .before)))
 
-more : (c : tie.In-loop Inv-loop μ-loop) → c .before .loop .at < count ((c .before .before .before .before) .args .t3)
-more c =
-    let p = (c .before .before .before .before) .pre in
-    let n = by-len (p .to) (p .full) (c .before .loop .inv .1) in omega arith
+same-length : tie.Need-same-length
+same-length c = search needs
 
-to-fits : (c : tie.In-loop Inv-loop μ-loop) → c .before .loop .at + at ((c .before .before .before .before) .args .t3) 3 ≤ length (c .before .loop .to)
-to-fits c =
-    let p = (c .before .before .before .before) .pre in
-    by-fits (p .to) (p .full) (c .before .loop .inv .1) (more c)
-
-from-fits : (c : tie.After-place-of Inv-loop μ-loop) → c .place-of .result + at ((c .before .before .before .before .before) .args .t3) 3 ≤ length ((c .before .before .before .before .before) .args .a .now)
-from-fits c =
-    let a = (c .before .before .before .before .before) .args in
-    omega (arith, c .place-of .ensures, cut-from (a .n) (a .t3) (a .a .now) (a .to .now) ((c .before .before .before .before .before) .pre) (c .before .before .loop .inv .1) (more (c .before)))
-
-copied : (c : tie.After-copy Inv-loop μ-loop) → c .copy .last .1 .0 ≡ take (at ((c .before .before .before .before .before .before .before .before) .args .t3) 3) (drop (place ((c .before .before .before .before .before .before .before .before) .args .n) (c .before .before .before .before .before .loop .i)) ((c .before .before .before .before .before .before .before .before) .args .a .now))
-copied c =
-    let w : ℕ = at ((c .before .before .before .before .before .before .before .before) .args .t3) 3 in
-    let p = to-fits (c .before .before .before .before) in
-    let e : c .before .before .before .place-of .result + w - c .before .before .before .place-of .result ≡ w = omega arith in
-    let k : c .before .before .before .before .before .loop .at + w - c .before .before .before .before .before .loop .at ≡ w = omega arith in
-    let m : length (take (c .before .before .before .before .before .loop .at + w - c .before .before .before .before .before .loop .at) (drop (c .before .before .before .before .before .loop .at) (c .before .before .before .before .before .loop .to))) ≡ w = simp (length-take, length-drop) (omega arith) in
-    c .copy .ensures ∙ (rw (m, e, c .before .before .before .place-of .ensures) (take-take w w _ (omega arith)))
-
-array-read-width : tie.Need-array-read-width Inv-loop μ-loop
-array-read-width c = omega arith
-
-loop-holds : tie.Need-loop-holds Inv-loop μ-loop
-loop-holds c =
-    let p = (c .before .before) .pre in
-    (refl, by-none (p .to) (p .full))
-
-place-of-requires : tie.Need-place-of-requires Inv-loop μ-loop
-place-of-requires c κs =
-    let a = (c .before .before .before .before) .args in
-    let p = (c .before .before .before .before) .pre in
-    (p .from, cut-inside (a .n) (a .t3) (a .a .now) (a .to .now) (p) (c .before .loop .inv .1) (more (c)))
-
-add-copy : tie.Need-add-copy Inv-loop μ-loop
-add-copy c = omega (arith, from-fits (c))
-
-mul-copy : tie.Need-mul-copy Inv-loop μ-loop
-mul-copy c = omega (arith, from-fits (c))
-
-sub-copy : tie.Need-sub-copy Inv-loop μ-loop
-sub-copy c = omega arith
-
-part-copy-start : tie.Need-part-copy-start Inv-loop μ-loop
-part-copy-start c = omega arith
-
-part-copy-end : tie.Need-part-copy-end Inv-loop μ-loop
-part-copy-end c = omega (arith, from-fits (c))
-
-add-copy-2 : tie.Need-add-copy-2 Inv-loop μ-loop
-add-copy-2 c = omega (arith, to-fits (c .before .before))
-
-mul-copy-2 : tie.Need-mul-copy-2 Inv-loop μ-loop
-mul-copy-2 c = omega (arith, to-fits (c .before .before))
-
-sub-copy-2 : tie.Need-sub-copy-2 Inv-loop μ-loop
-sub-copy-2 c = omega arith
-
-part-copy-start-2 : tie.Need-part-copy-start-2 Inv-loop μ-loop
-part-copy-start-2 c = omega arith
-
-part-copy-end-2 : tie.Need-part-copy-end-2 Inv-loop μ-loop
-part-copy-end-2 c = omega (arith, to-fits (c .before .before))
-
-copy-requires : tie.Need-copy-requires Inv-loop μ-loop
-copy-requires c κs = let p = from-fits (c .before .before) in let q = to-fits (c .before .before .before) in simp (length-take, length-drop) (omega arith)
-
-add-at : tie.Need-add-at Inv-loop μ-loop
-add-at c = omega (arith, to-fits (c .before .before .before .before .before .before))
-
-next-row-requires : tie.Need-next-row-requires Inv-loop μ-loop
-next-row-requires c κs =
-    let a = (c .before .before .before .before .before .before .before .before .before .before) .args in
-    let p = (c .before .before .before .before .before .before .before .before .before .before) .pre in
-    (p .to, cut-begins (a .n) (a .t3) (a .a .now) (a .to .now) (p) (c .before .before .before .before .before .before .before .loop .inv .1) (more (c .before .before .before .before .before .before)))
-
-loop-less : tie.Need-loop-less Inv-loop μ-loop
-loop-less c = let q = (c .before .before .before .before .before .before .before .before .before .before .before) .pre .to .p3 in omega (arith, to-fits (c .before .before .before .before .before .before .before), to-len (c .before .before .before .before .before .before .before))
-
-loop-again : tie.Need-loop-again Inv-loop μ-loop
-loop-again c =
-    let a = (c .before .before .before .before .before .before .before .before .before .before .before) .args in
-    let p = (c .before .before .before .before .before .before .before .before .before .before .before) .pre in
-    (refl, by-put (p .to) (p .full) (c .before .before .before .before .before .before .before .before .loop .inv .1) (more (c .before .before .before .before .before .before .before)) (let e : c .before .before .before .before .before .before .before .before .loop .at + at (a .t3) 3 - c .before .before .before .before .before .before .before .before .loop .at ≡ at (a .t3) 3 = omega arith in e) (cut-row (a .n) (a .t3) (a .a .now) (a .to .now) (p) (c .before .before .before .before .before .before .before .before .loop .inv .1) (more (c .before .before .before .before .before .before .before)) (copied (c .before .before .before))) (c .next-row .ensures))
-
-same-length : tie.Need-same-length Inv-loop μ-loop
-same-length c =
-    let p = (c .before .before .before .before) .pre in
-    by-len (p .to) (p .full) (c .before .loop .inv .1) ∙ sym (p .full)
-
-returns : tie.Need-returns Inv-loop μ-loop
+returns : tie.Need-returns
 returns c =
-    let p = (c .before .before .before .before) .pre in
-    by-end (p .to) (p .full) (c .before .loop .inv .1) (let n = by-len (p .to) (p .full) (c .before .loop .inv .1) in omega arith)
+    let a = (c .before .before .before .before .before .before .before .before) .args in
+    let p = (c .before .before .before .before .before .before .before .before) .pre in
+    let e : take (length (a .to .now)) (a .a .now) ≡ take (count (a .c)) (a .a .now) = ap (λ (k : ℕ). take k (a .a .now)) (p .full) in
+    c .before .before .copy .ensures ∙ (e ∙ cut-front (a .n) (a .c) (a .a .now) (same (c .before .before .before .before)) (omega (arith, p .room, same-count (same (c .before .before .before .before)))))
+
+longest-rows-requires : tie.Need-longest-rows-requires
+longest-rows-requires c κs = (sizes-of ((c .before .before .before .before) .pre .from), sizes-of ((c .before .before .before .before) .pre .to))
+
+load-rows-requires : tie.Need-load-rows-requires
+load-rows-requires c κs = cutting-merged (c .before .before .before .longest-rows .ensures) ((c .before .before .before .before .before .before .before .before) .pre)
+
+same-length-2 : tie.Need-same-length-2
+same-length-2 c = search needs
+
+returns-2 : tie.Need-returns-2
+returns-2 c = c .before .before .load-rows .ensures ∙ cut-merged (c .before .before .before .before .before .before .longest-rows .ensures) ((c .before .before .before .before .before .before .before .before .before .before .before) .args .a .now)
 
 pub load-spec : {M : Type 1} → statement M
 load-spec =
     tie.close
     (tie.spec
-    Inv-loop
-    μ-loop
-    array-read-width
-    loop-holds
-    place-of-requires
-    add-copy
-    mul-copy
-    sub-copy
-    part-copy-start
-    part-copy-end
-    add-copy-2
-    mul-copy-2
-    sub-copy-2
-    part-copy-start-2
-    part-copy-end-2
+    is-same-requires
     copy-requires
-    add-at
-    next-row-requires
-    loop-less
-    loop-again
     same-length
-    returns)
+    returns
+    longest-rows-requires
+    load-rows-requires
+    same-length-2
+    returns-2)

@@ -8,7 +8,7 @@ use borrow.Author.Tests.{not-true, not-false}
 use lib.Ieee.{nan}
 use Rattle.model.specs.Places.{place, inside}
 use Rattle.model.specs.Readings.{coefficientAnswer}
-use Rattle.words.specs.Lengths.{inside-is}
+use Rattle.words.specs.Lengths.{inside-is, sizes-of}
 use Rattle.gates.specs.Gate.{IndexReady, index-ready, read-refused, read-done}
 use Rattle.readings.specs.Read.{read-lengths, read-place, coefficient-stored, coefficient-past}
 use borrow.Author.Needs.{needs}
@@ -45,7 +45,7 @@ unfolding coefficientAnswer
 returns-2 c = read-done (c .before .before .before .before .before .before .index-gate .ensures) (c .before .before .before .before .if1 .left) (coefficient-past ((c .before .before .before .before .before .before .before .before) .args .head) ((c .before .before .before .before .before .before .before .before) .args .a .now) ((c .before .before .before .before .before .before .before .before) .args .index) (not-true _ (rw (c .before .is-inside .ensures, c .before .before .before .header-of .ensures) at (c .if2 .taken))))
 
 place-of-requires : tie.Need-place-of-requires
-place-of-requires c κs = rw (c .before .before .before .header-of .ensures) (read-lengths (ready (c .before .before .before .before) .read), inside-is _ _ (there c))
+place-of-requires c κs = rw (c .before .before .before .header-of .ensures) (sizes-of (read-lengths (ready (c .before .before .before .before) .read)), inside-is _ _ (there c))
 
 mul-t8 : tie.Need-mul-t8
 mul-t8 c = omega (arith, low c)

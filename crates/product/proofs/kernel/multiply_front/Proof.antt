@@ -1,11 +1,26 @@
 use native.Mathlib.Omega.{arith}
-use mathlib.Core.Path.{sym, _∙_}
+use mathlib.Core.Bool.{Bool, true, false, _||_}
+use mathlib.Core.Path.{_≡_, refl, sym, _∙_}
+use Rattle.lists.specs.Test.{and-left, and-right}
 use Rattle.model.specs.Poly.{block}
+use Rattle.model.specs.Product.{isZero}
+use Rattle.blocks.specs.Same.{sameLengths}
 use Rattle.product.specs.Ways.{put-stands}
-use Rattle.product.specs.Times.{zero-is, zero-put, times-some, times-any, times-small, times-lens, times-two, times-room, times-stands}
+use Rattle.product.specs.Times.{zero-is, zero-put, times-some, times-any, times-small, times-lens, times-two, times-room, times-stands, times-whole, whole-stands}
 use borrow.Author.Needs.{needs}
 use Rattle.product.proofs.kernel.multiply_front.Statement.{statement}
 use Rattle.product.proofs.kernel.multiply_front.Tie as tie
+
+zeros : (c : tie.After-is-zero2) → (c .before .is-zero .result || c .is-zero2 .result) ≡ (isZero (block ((c .before .before .before .before .before .before .before .before) .args .la) ((c .before .before .before .before .before .before .before .before) .args .a .now)) || isZero (block ((c .before .before .before .before .before .before .before .before) .args .lb) ((c .before .before .before .before .before .before .before .before) .args .b .now)))
+zeros c =
+    let a = (c .before .before .before .before .before .before .before .before) .args in
+    zero-is (block (a .la) (a .a .now)) (block (a .lb) (a .b .now)) (c .before .is-zero .ensures) (c .is-zero2 .ensures)
+
+same-a : (c : tie.Then2) → sameLengths ((c .before .before .before .before .before .before .before .before .before .before .before .before) .args .la) (c .before .before .before .before .before .before .before .cut-to .result) ≡ true
+same-a c = sym (c .before .before .is-same .ensures) ∙ and-left (c .before .before .is-same .result) (c .before .is-same2 .result) (c .if2 .taken)
+
+same-b : (c : tie.Then2) → sameLengths ((c .before .before .before .before .before .before .before .before .before .before .before .before) .args .lb) (c .before .before .before .before .before .before .cut-to2 .result) ≡ true
+same-b c = sym (c .before .is-same2 .ensures) ∙ and-right (c .before .before .is-same .result) (c .before .is-same2 .result) (c .if2 .taken)
 
 cut-to-requires : tie.Need-cut-to-requires
 cut-to-requires c κs = search needs
@@ -14,37 +29,30 @@ cut-to-requires-2 : tie.Need-cut-to-requires-2
 cut-to-requires-2 c κs = search needs
 
 is-zero-requires : tie.Need-is-zero-requires
-is-zero-requires c κs = times-any (c .before .before .before .before .before .before .pre) .0
+is-zero-requires c κs = times-any ((c .before .before .before .before .before .before) .pre) .0
 
 is-zero-requires-2 : tie.Need-is-zero-requires-2
-is-zero-requires-2 c κs = times-any (c .before .before .before .before .before .before .before .pre) .1
+is-zero-requires-2 c κs = times-any ((c .before .before .before .before .before .before .before) .pre) .1
 
 zero-to-requires : tie.Need-zero-to-requires
-zero-to-requires c κs = omega (arith, times-some (c .before .before .before .before .before .before .before .before .before .before .pre), c .before .before .before .before .before .before .before .before .before .before .pre .out)
+zero-to-requires c κs = let p = (c .before .before .before .before .before .before .before .before .before .before) .pre in omega (arith, times-some p, p .out)
 
 same-length : tie.Need-same-length
 same-length c = search needs
 
 returns : tie.Need-returns
-returns c = put-stands (zero-put (c .before .before .before .before .before .before .before .before .before .before .before .before .before .args .limits) (block (c .before .before .before .before .before .before .before .before .before .before .before .before .before .args .la) (c .before .before .before .before .before .before .before .before .before .before .before .before .before .args .a .now)) (block (c .before .before .before .before .before .before .before .before .before .before .before .before .before .args .lb) (c .before .before .before .before .before .before .before .before .before .before .before .before .before .args .b .now)) (sym (zero-is (block (c .before .before .before .before .before .before .before .before .before .before .before .before .before .args .la) (c .before .before .before .before .before .before .before .before .before .before .before .before .before .args .a .now)) (block (c .before .before .before .before .before .before .before .before .before .before .before .before .before .args .lb) (c .before .before .before .before .before .before .before .before .before .before .before .before .before .args .b .now)) (c .before .before .before .before .before .before .is-zero .ensures) (c .before .before .before .before .before .is-zero2 .ensures)) ∙ c .before .before .before .before .if1 .taken) (c .before .before .zero-to .ensures))
+returns c =
+    let a = (c .before .before .before .before .before .before .before .before .before .before .before .before .before) .args in
+    put-stands (zero-put (a .limits) (block (a .la) (a .a .now)) (block (a .lb) (a .b .now)) (sym (zeros (c .before .before .before .before .before)) ∙ c .before .before .before .before .if1 .taken) (c .before .before .zero-to .ensures))
 
-load-two-requires : tie.Need-load-two-requires
-load-two-requires c κs = times-two (c .before .before .before .before .before .before .before .before .before .before .pre) (c .before .before .before .before .before .cut-to .ensures) (c .before .before .before .before .cut-to2 .ensures)
+is-same-requires : tie.Need-is-same-requires
+is-same-requires c κs = search needs
 
-count-of-requires : tie.Need-count-of-requires
-count-of-requires c κs = times-lens (c .before .before .before .before .before .before .before .before .before .before .before .before .before .pre) (c .before .before .before .before .before .before .before .before .cut-to .ensures) (c .before .before .before .before .before .before .before .cut-to2 .ensures) .0
+is-same-requires-2 : tie.Need-is-same-requires-2
+is-same-requires-2 c κs = search needs
 
-count-of-requires-2 : tie.Need-count-of-requires-2
-count-of-requires-2 c κs = times-lens (c .before .before .before .before .before .before .before .before .before .before .before .before .before .before .pre) (c .before .before .before .before .before .before .before .before .before .cut-to .ensures) (c .before .before .before .before .before .before .before .before .cut-to2 .ensures) .1
-
-add-end : tie.Need-add-end
-add-end c = omega (arith, c .count-of2 .ensures, times-two (c .before .before .before .before .before .before .before .before .before .before .before .before .before .before .before .pre) (c .before .before .before .before .before .before .before .before .before .before .cut-to .ensures) (c .before .before .before .before .before .before .before .before .before .cut-to2 .ensures) .small-b, c .before .before .before .before .before .before .before .before .before .before .before .before .before .before .before .pre .work, times-small (c .before .before .before .before .before .before .before .before .before .before .before .before .before .before .before .pre))
-
-mul-product : tie.Need-mul-product
-mul-product c = omega (arith, times-small (c .before .before .before .before .before .before .before .before .before .before .before .before .before .before .before .before .pre))
-
-product-requires : tie.Need-product-requires
-product-requires c κs = times-room (c .before .before .before .before .before .before .before .before .before .before .before .before .before .before .before .before .before .pre) (c .before .before .before .before .before .before .before .before .before .before .before .before .cut-to .ensures) (c .before .before .before .before .before .before .before .before .before .before .before .cut-to2 .ensures) (c .before .before .before .before .before .before .load-two .kept .1 .1 .1 .1 .1 .1 .1 .0) (c .before .before .before .count-of .ensures) (c .before .before .count-of2 .ensures)
+product-whole-requires : tie.Need-product-whole-requires
+product-whole-requires c κs = times-whole ((c .before .before .before .before .before .before .before .before .before .before .before .before .before .before) .pre) (c .before .before .before .before .before .before .before .before .before .cut-to .ensures) (c .before .before .before .before .before .before .before .before .cut-to2 .ensures) (same-a (c .before .before)) (same-b (c .before .before))
 
 same-length-2 : tie.Need-same-length-2
 same-length-2 c = search needs
@@ -53,7 +61,40 @@ same-length-3 : tie.Need-same-length-3
 same-length-3 c = search needs
 
 returns-2 : tie.Need-returns-2
-returns-2 c = times-stands (c .before .before .before .before .before .before .before .before .before .before .before .before .before .before .before .before .before .before .before .before .before .before .pre) (c .before .before .before .before .before .before .before .before .before .before .before .before .before .before .before .before .before .cut-to .ensures) (c .before .before .before .before .before .before .before .before .before .before .before .before .before .before .before .before .cut-to2 .ensures) (c .before .before .before .before .before .before .before .before .before .before .before .load-two .kept .1 .1 .1 .1 .1 .1 .1 .0) (c .before .before .before .before .before .before .before .before .count-of .ensures) (c .before .before .before .before .before .before .before .count-of2 .ensures) (c .before .before .before .before .before .before .before .before .before .before .before .before .before .before .before .before .before .before .before .before .before .before .args .a .now) (c .before .before .before .before .before .before .before .before .before .before .before .before .before .before .before .before .before .before .before .before .before .before .args .b .now) (sym (zero-is (block (c .before .before .before .before .before .before .before .before .before .before .before .before .before .before .before .before .before .before .before .before .before .before .args .la) (c .before .before .before .before .before .before .before .before .before .before .before .before .before .before .before .before .before .before .before .before .before .before .args .a .now)) (block (c .before .before .before .before .before .before .before .before .before .before .before .before .before .before .before .before .before .before .before .before .before .before .args .lb) (c .before .before .before .before .before .before .before .before .before .before .before .before .before .before .before .before .before .before .before .before .before .before .args .b .now)) (c .before .before .before .before .before .before .before .before .before .before .before .before .before .before .before .is-zero .ensures) (c .before .before .before .before .before .before .before .before .before .before .before .before .before .before .is-zero2 .ensures)) ∙ c .before .before .before .before .before .before .before .before .before .before .before .before .before .if1 .left) (c .before .before .before .before .before .before .before .before .before .before .before .load-two .ensures) (c .before .before .before .before .product .ensures)
+returns-2 c =
+    let a = (c .before .before .before .before .before .before .before .before .before .before .before .before .before .before .before .before .before .before .before) .args in
+    whole-stands ((c .before .before .before .before .before .before .before .before .before .before .before .before .before .before .before .before .before .before .before) .pre) (c .before .before .before .before .before .before .before .before .before .before .before .before .before .before .cut-to .ensures) (c .before .before .before .before .before .before .before .before .before .before .before .before .before .cut-to2 .ensures) (same-a (c .before .before .before .before .before .before .before)) (same-b (c .before .before .before .before .before .before .before)) (a .a .now) (a .b .now) refl refl (sym (zeros (c .before .before .before .before .before .before .before .before .before .before .before)) ∙ c .before .before .before .before .before .before .before .before .before .before .if1 .left) (c .before .before .before .before .product-whole .ensures)
+
+load-two-requires : tie.Need-load-two-requires
+load-two-requires c κs = times-two ((c .before .before .before .before .before .before .before .before .before .before .before .before .before) .pre) (c .before .before .before .before .before .before .before .before .cut-to .ensures) (c .before .before .before .before .before .before .before .cut-to2 .ensures)
+
+count-of-requires : tie.Need-count-of-requires
+count-of-requires c κs = times-lens ((c .before .before .before .before .before .before .before .before .before .before .before .before .before .before .before .before) .pre) (c .before .before .before .before .before .before .before .before .before .before .before .cut-to .ensures) (c .before .before .before .before .before .before .before .before .before .before .cut-to2 .ensures) .0
+
+count-of-requires-2 : tie.Need-count-of-requires-2
+count-of-requires-2 c κs = times-lens ((c .before .before .before .before .before .before .before .before .before .before .before .before .before .before .before .before .before) .pre) (c .before .before .before .before .before .before .before .before .before .before .before .before .cut-to .ensures) (c .before .before .before .before .before .before .before .before .before .before .before .cut-to2 .ensures) .1
+
+add-end : tie.Need-add-end
+add-end c =
+    let p = (c .before .before .before .before .before .before .before .before .before .before .before .before .before .before .before .before .before .before) .pre in
+    omega (arith, c .count-of2 .ensures, times-two p (c .before .before .before .before .before .before .before .before .before .before .before .before .before .cut-to .ensures) (c .before .before .before .before .before .before .before .before .before .before .before .before .cut-to2 .ensures) .small-b, p .work, times-small p)
+
+mul-product : tie.Need-mul-product
+mul-product c = omega (arith, times-small ((c .before .before .before .before .before .before .before .before .before .before .before .before .before .before .before .before .before .before .before) .pre))
+
+product-requires : tie.Need-product-requires
+product-requires c κs = times-room ((c .before .before .before .before .before .before .before .before .before .before .before .before .before .before .before .before .before .before .before .before) .pre) (c .before .before .before .before .before .before .before .before .before .before .before .before .before .before .before .cut-to .ensures) (c .before .before .before .before .before .before .before .before .before .before .before .before .before .before .cut-to2 .ensures) (c .before .before .before .before .before .before .load-two .kept .1 .1 .1 .1 .1 .1 .1 .0) (c .before .before .before .count-of .ensures) (c .before .before .count-of2 .ensures)
+
+same-length-4 : tie.Need-same-length-4
+same-length-4 c = search needs
+
+same-length-5 : tie.Need-same-length-5
+same-length-5 c = search needs
+
+returns-3 : tie.Need-returns-3
+returns-3 c =
+    let a = (c .before .before .before .before .before .before .before .before .before .before .before .before .before .before .before .before .before .before .before .before .before .before .before .before .before) .args in
+    times-stands ((c .before .before .before .before .before .before .before .before .before .before .before .before .before .before .before .before .before .before .before .before .before .before .before .before .before) .pre) (c .before .before .before .before .before .before .before .before .before .before .before .before .before .before .before .before .before .before .before .before .cut-to .ensures) (c .before .before .before .before .before .before .before .before .before .before .before .before .before .before .before .before .before .before .before .cut-to2 .ensures) (c .before .before .before .before .before .before .before .before .before .before .before .load-two .kept .1 .1 .1 .1 .1 .1 .1 .0) (c .before .before .before .before .before .before .before .before .count-of .ensures) (c .before .before .before .before .before .before .before .count-of2 .ensures) (a .a .now) (a .b .now) (sym (zeros (c .before .before .before .before .before .before .before .before .before .before .before .before .before .before .before .before .before)) ∙ c .before .before .before .before .before .before .before .before .before .before .before .before .before .before .before .before .if1 .left) (c .before .before .before .before .before .before .before .before .before .before .before .load-two .ensures) (c .before .before .before .before .product .ensures)
 
 pub multiply-front-spec : {M : Type 1} → statement M
 multiply-front-spec =
@@ -66,12 +107,18 @@ multiply-front-spec =
     zero-to-requires
     same-length
     returns
+    is-same-requires
+    is-same-requires-2
+    product-whole-requires
+    same-length-2
+    same-length-3
+    returns-2
     load-two-requires
     count-of-requires
     count-of-requires-2
     add-end
     mul-product
     product-requires
-    same-length-2
-    same-length-3
-    returns-2)
+    same-length-4
+    same-length-5
+    returns-3)

@@ -6,7 +6,7 @@ use lib.Ieee.{nan}
 use Rattle.lists.specs.Table.{table, Filled, filled-none, filled-more}
 use Rattle.model.specs.Places.{index, place}
 use Rattle.model.specs.Poly.{block, readAt}
-use Rattle.words.specs.Lengths.{Inside}
+use Rattle.words.specs.Lengths.{Inside, sizes-of}
 use Rattle.words.specs.Places.{place-lt}
 use Rattle.blocks.specs.Fill.{filled-all}
 use Rattle.readings.specs.Rows.{pick-inside}
@@ -41,7 +41,7 @@ array-write-i : tie.Need-array-write-i Inv-loop μ-loop
 array-write-i c = (c .before .before .before .before .before) .pre .var
 
 place-of-requires : tie.Need-place-of-requires Inv-loop μ-loop
-place-of-requires c κs = ((c .before .before .before .before .before) .pre .from, rw (c .index-of .ensures) (inside (c .before)))
+place-of-requires c κs = (sizes-of ((c .before .before .before .before .before) .pre .from), rw (c .index-of .ensures) (inside (c .before)))
 
 mul-to : tie.Need-mul-to Inv-loop μ-loop
 mul-to c = omega (arith, low c)

@@ -1,4 +1,6 @@
 use native.Mathlib.Omega.{arith}
+use lib.Dec.{lit<}
+use Rattle.words.specs.Lengths.{sizes-low}
 use Rattle.words.specs.Places.{next-0, next-1, next-2}
 use borrow.Author.Needs.{needs}
 use Rattle.words.proofs.places.next_row.Statement.{statement}
@@ -10,7 +12,7 @@ array-read-if1 : tie.Need-array-read-if1
 array-read-if1 c = search needs
 
 add-if1 : tie.Need-add-if1
-add-if1 c = search needs
+add-if1 c = let h = (c) .pre .1 .inside .i2 in omega (arith, h, sizes-low ((c) .pre .0) 2 (lit< tt))
 
 array-read-if1-2 : tie.Need-array-read-if1-2
 array-read-if1-2 c = search needs
@@ -25,7 +27,7 @@ array-read-t21 : tie.Need-array-read-t21
 array-read-t21 c = search needs
 
 add-t22 : tie.Need-add-t22
-add-t22 c = search needs
+add-t22 c = let h = (c .before) .pre .1 .inside .i2 in omega (arith, h, sizes-low ((c .before) .pre .0) 2 (lit< tt))
 
 returns : tie.Need-returns
 returns c = next-2 ((c .before) .args .t1) ((c .before) .args .t2) ((c .before) .pre .0) ((c .before) .pre .1 .begins) ((c .before) .pre .1 .inside .i1) (c .if1 .taken)
@@ -34,7 +36,7 @@ array-read-if2 : tie.Need-array-read-if2
 array-read-if2 c = search needs
 
 add-if2 : tie.Need-add-if2
-add-if2 c = search needs
+add-if2 c = let h = (c .before) .pre .1 .inside .i1 in omega (arith, h, sizes-low ((c .before) .pre .0) 1 (lit< tt))
 
 array-read-if2-2 : tie.Need-array-read-if2-2
 array-read-if2-2 c = search needs
@@ -46,7 +48,7 @@ array-read-t32 : tie.Need-array-read-t32
 array-read-t32 c = search needs
 
 add-t33 : tie.Need-add-t33
-add-t33 c = search needs
+add-t33 c = let h = (c .before .before) .pre .1 .inside .i1 in omega (arith, h, sizes-low ((c .before .before) .pre .0) 1 (lit< tt))
 
 returns-2 : tie.Need-returns-2
 returns-2 c =
@@ -58,7 +60,7 @@ array-read-t7 : tie.Need-array-read-t7
 array-read-t7 c = search needs
 
 add-t8 : tie.Need-add-t8
-add-t8 c = search needs
+add-t8 c = let h = (c .before .before) .pre .1 .inside .i0 in omega (arith, h, sizes-low ((c .before .before) .pre .0) 0 (lit< tt))
 
 returns-3 : tie.Need-returns-3
 returns-3 c =

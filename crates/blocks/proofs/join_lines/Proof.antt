@@ -1,0 +1,87 @@
+use borrow.Author.Needs.{needs}
+use native.Mathlib.Omega.{arith}
+use mathlib.Core.Path.{_≡_, refl, ap, _∙_}
+use Prim.Native.Nat.{ℕ, _≤_, _-_}
+use lib.ListN.{length, getD}
+use lib.Ieee.{Float, nan}
+use Rattle.lists.specs.Table.{Filled, filled-none, filled-more}
+use Rattle.model.specs.Add.{join}
+use Rattle.blocks.specs.Fill.{filled-all}
+use Rattle.blocks.specs.Combine.{lineSum}
+use Rattle.blocks.proofs.join_lines.Statement.{statement}
+use Rattle.blocks.proofs.join_lines.Tie as tie
+use Rattle.blocks.proofs.join_lines.Reads as reads
+use Rattle.blocks.proofs.join_lines.Lts as lts
+use Rattle.blocks.proofs.joined.Reads as joined-reads
+
+abbrev Inv-loop : tie.InvT-loop
+Inv-loop minus a b to₀ n k₀ to k = (k ≤ n) × ((n ≡ length to₀) × Filled k (lineSum minus a b) to₀ to)
+
+abbrev μ-loop : tie.MeasureT-loop
+μ-loop minus a b to₀ n k₀ to k = n - k
+
+loop-holds : tie.Need-loop-holds Inv-loop μ-loop
+loop-holds c = (omega arith, (refl, filled-none))
+
+mul-joined : tie.Need-mul-joined Inv-loop μ-loop
+mul-joined c = omega arith
+
+shared-slice-read-joined : tie.Need-shared-slice-read-joined Inv-loop μ-loop
+shared-slice-read-joined c = omega arith
+
+joined-requires : tie.Need-joined-requires Inv-loop μ-loop
+joined-requires c κs = search needs
+
+mul-joined-2 : tie.Need-mul-joined-2 Inv-loop μ-loop
+mul-joined-2 c = omega arith
+
+shared-slice-read-joined-2 : tie.Need-shared-slice-read-joined-2 Inv-loop μ-loop
+shared-slice-read-joined-2 c = omega arith
+
+joined-requires-2 : tie.Need-joined-requires-2 Inv-loop μ-loop
+joined-requires-2 c κs = search needs
+
+mul-to : tie.Need-mul-to Inv-loop μ-loop
+mul-to c = omega arith
+
+slice-write-to : tie.Need-slice-write-to Inv-loop μ-loop
+slice-write-to c = omega arith
+
+add-k : tie.Need-add-k Inv-loop μ-loop
+add-k c = omega arith
+
+loop-less : tie.Need-loop-less Inv-loop μ-loop
+loop-less c = omega arith
+
+loop-again : tie.Need-loop-again Inv-loop μ-loop
+loop-again c =
+    let a = (c .before .before .before .before .before .before .before .before .before) .args in
+    let k : ℕ = c .before .before .before .before .before .loop .k in
+    (omega arith, (refl, filled-more (c .before .before .before .before .before .loop .inv .1 .1) (c .joined2 .ensures ∙ ap (λ (x : Float). join (a .minus) x (getD (a .b .now) k nan)) (c .before .before .joined .ensures)) (omega arith)))
+
+same-length : tie.Need-same-length Inv-loop μ-loop
+same-length c = c .before .loop .inv .1 .1 .len
+
+returns : tie.Need-returns Inv-loop μ-loop
+returns c = filled-all (c .before .loop .inv .1 .1) (omega arith) (omega arith)
+
+pub join-lines-spec : {M : Type 1} → statement M
+join-lines-spec =
+    tie.close
+    (tie.spec
+    Inv-loop
+    μ-loop
+    loop-holds
+    mul-joined
+    shared-slice-read-joined
+    joined-requires
+    mul-joined-2
+    shared-slice-read-joined-2
+    joined-requires-2
+    mul-to
+    slice-write-to
+    add-k
+    loop-less
+    loop-again
+    same-length
+    returns)

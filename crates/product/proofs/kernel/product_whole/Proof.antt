@@ -1,0 +1,70 @@
+use Rattle.model.specs.Poly.{block}
+use Rattle.product.specs.Ways.{plain-lens}
+use Rattle.product.specs.Line.{whole-four, whole-five, stands-four, stands-five, stands-plain}
+use borrow.Author.Needs.{needs}
+use Rattle.product.proofs.kernel.product_whole.Statement.{statement}
+use Rattle.product.proofs.kernel.product_whole.Tie as tie
+use Rattle.product.proofs.kernel.product_whole.Reads as reads
+use Rattle.product.proofs.kernel.product_whole.Lts as lts
+use Rattle.product.proofs.kernel.choose.Reads as choose-reads
+use Rattle.product.proofs.kernel.line_whole.Reads as line-whole-reads
+use Rattle.product.proofs.kernel.plain.Reads as plain-reads
+
+choose-requires : tie.Need-choose-requires
+choose-requires c κs = let p = (c .before .before .before .before) .pre .plain in (plain-lens p .0, (plain-lens p .1, (p .full-a, p .full-b)))
+
+line-whole-requires : tie.Need-line-whole-requires
+line-whole-requires c κs = let a = (c .before .before .before .before .before .before .before .before .before) .args in whole-four (a .a .now) (a .b .now) ((c .before .before .before .before .before .before .before .before .before) .pre) (c .before .before .before .before .choose .result) (c .before .before .before .before .choose .ensures) (c .before .before .if1 .taken)
+
+same-length : tie.Need-same-length
+same-length c = search needs
+
+same-length-2 : tie.Need-same-length-2
+same-length-2 c = search needs
+
+returns : tie.Need-returns
+returns c =
+    let a = (c .before .before .before .before .before .before .before .before .before .before .before .before .before .before) .args in
+    stands-four (a .limits) (block (a .la) (a .a .now)) (block (a .lb) (a .b .now)) (c .before .before .before .before .before .before .before .before .before .choose .result) (c .before .before .before .before .before .before .before .before .before .choose .ensures) (c .before .before .before .before .before .before .before .if1 .taken) (c .before .before .before .before .line-whole .ensures)
+
+line-whole-requires-2 : tie.Need-line-whole-requires-2
+line-whole-requires-2 c κs = let a = (c .before .before .before .before .before .before .before .before .before .before) .args in whole-five (a .a .now) (a .b .now) ((c .before .before .before .before .before .before .before .before .before .before) .pre) (c .before .before .before .before .before .choose .result) (c .before .before .before .before .before .choose .ensures) (c .before .before .if2 .taken)
+
+same-length-3 : tie.Need-same-length-3
+same-length-3 c = search needs
+
+same-length-4 : tie.Need-same-length-4
+same-length-4 c = search needs
+
+returns-2 : tie.Need-returns-2
+returns-2 c =
+    let a = (c .before .before .before .before .before .before .before .before .before .before .before .before .before .before .before) .args in
+    stands-five (a .limits) (block (a .la) (a .a .now)) (block (a .lb) (a .b .now)) (c .before .before .before .before .before .before .before .before .before .before .choose .result) (c .before .before .before .before .before .before .before .before .before .before .choose .ensures) (c .before .before .before .before .before .before .before .if2 .taken) (c .before .before .before .before .line-whole2 .ensures)
+
+plain-requires : tie.Need-plain-requires
+plain-requires c κs = search needs
+
+same-length-5 : tie.Need-same-length-5
+same-length-5 c = search needs
+
+returns-3 : tie.Need-returns-3
+returns-3 c =
+    let a = (c .before .before .before .before .before .before .before .before .before .before .before .before) .args in
+    stands-plain (a .limits) (block (a .la) (a .a .now)) (block (a .lb) (a .b .now)) (c .before .before .before .before .before .before .before .choose .result) (c .before .before .before .before .before .before .before .choose .ensures) (c .before .before .before .before .before .if1 .left) (c .before .before .before .before .if2 .left) (c .before .before .plain .ensures)
+
+pub product-whole-spec : {M : Type 1} → statement M
+product-whole-spec =
+    tie.close
+    (tie.spec
+    choose-requires
+    line-whole-requires
+    same-length
+    same-length-2
+    returns
+    line-whole-requires-2
+    same-length-3
+    same-length-4
+    returns-2
+    plain-requires
+    same-length-5
+    returns-3)

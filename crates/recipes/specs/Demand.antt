@@ -1,0 +1,93 @@
+-- Demand 3: 'If the check accepts and the buffers are as long as it says, then for any coefficients the run finishes every step (answers done), each limit is
+-- exactly the one announced, no stored length exceeds its announced one, and each value is the operation's value (demand 2's definition) of its operands'
+-- values. So refusal 9 never happens.'
+-- Said of definitions of crate model alone, for all words, coefficients and buffers. The theorem is `demand-3`, Demanded.antt.
+use Prim.Native.Nat.{ℕ, _+_, _*_, _≤_, _<_}
+use mathlib.Core.Bool.{true, false}
+use mathlib.Core.List.{List}
+use mathlib.Core.Path.{_≡_}
+use lib.ListN.{length, take, drop, getD}
+use lib.Ieee.{Float}
+use Rattle.model.specs.declared.Header.{Header}
+use Rattle.model.specs.declared.Refusal.{Refusal}
+use Rattle.model.specs.declared.Step.{Step}
+use Rattle.model.specs.declared.CheckAnswer.the-variants.{Accepted}
+use Rattle.model.specs.declared.RunAnswer.the-variants.{Done, Refused}
+use Rattle.model.specs.Header.{len, stored, noHeader, goodHeader}
+use Rattle.model.specs.Word.{wordOf}
+use Rattle.model.specs.Refusals.{padded}
+use Rattle.model.specs.Poly.{Poly}
+use Rattle.model.specs.Constructed.{constant, wholeF}
+use Rattle.model.specs.Negate.{negated}
+use Rattle.model.specs.Add.{combined}
+use Rattle.model.specs.Product.{productPoly}
+use Rattle.model.specs.Quotient.{quotientPoly}
+use Rattle.model.specs.Power.{powerPoly}
+use Rattle.model.specs.Shifts.{derivativePoly, expansionPoly, shiftDownPoly}
+use Rattle.model.specs.Substitute.{substitutePoly}
+use Rattle.model.specs.Steps.{stepOf, usesOf}
+use Rattle.model.specs.Recipe.{headAt, announcedPlaces, announcedSteps, total}
+use Rattle.model.specs.Check.{checkAnswer}
+use Rattle.model.specs.Run.{inputValues, valueAt, values, runAnswer, runPool, runWords}
+
+-- the value v keeps to the announced header h
+pub record AsAnnounced (h : Header) (v : Poly) : Type 0 where
+  -- each limit is exactly the one announced
+  pub vars : v .head .vars ≡ h .vars
+  pub limits : v .head .limits ≡ h .limits
+  -- no stored length exceeds its announced one
+  pub lengths : (k : ℕ) → k < 4 → len (v .head) k ≤ len h k
+  -- it is a polynomial
+  pub rules : goodHeader (v .head) ≡ true
+  pub full : length (v .coeffs) ≡ stored (v .head)
+
+-- the value v of the step s at the place p is its operation's of its operands' values, by its kind; they stand at earlier places
+pub record Computed (s : Step) (p : ℕ) (value : ℕ → Poly) (v : Poly) : Type 0 where
+  pub kinds : s .kind ≤ 10
+  pub a-earlier : usesOf (s .kind) .a ≡ true → s .a < p
+  pub b-earlier : usesOf (s .kind) .b ≡ true → s .b < p
+  pub constants : s .kind ≡ 0 → v ≡ constant noHeader (wholeF (s .n))
+  pub negates : s .kind ≡ 1 → v ≡ negated (value (s .a))
+  pub adds : s .kind ≡ 2 → v ≡ combined false (value (s .a)) (value (s .b))
+  pub subtracts : s .kind ≡ 3 → v ≡ combined true (value (s .a)) (value (s .b))
+  pub multiplies : s .kind ≡ 4 → v ≡ productPoly (value (s .a)) (value (s .b))
+  pub divides : s .kind ≡ 5 → v ≡ quotientPoly (value (s .a)) (value (s .b))
+  pub powers : s .kind ≡ 6 → v ≡ powerPoly (s .n) (value (s .a))
+  pub derives : s .kind ≡ 7 → v ≡ derivativePoly (s .variable) (s .n) (value (s .a))
+  pub expands : s .kind ≡ 8 → v ≡ expansionPoly (s .variable) (s .n) (value (s .a))
+  pub shifts : s .kind ≡ 9 → v ≡ shiftDownPoly (s .variable) (s .n) (value (s .a))
+  pub substitutes : s .kind ≡ 10 → v ≡ substitutePoly (s .variable) (value (s .a)) (value (s .b))
+
+-- hs the inputs' header words, cs their coefficients, ss the step words, pool, words and scratch the buffers as they came
+module _ (hs : List ℕ) (cs : List Float) (ss : List ℕ) (pool : List Float) (words : List ℕ) (scratch : List Float) where
+  -- the value of a place, inputs first, and what it announces
+  abbrev pub value : ℕ → Poly
+  value p = valueAt (values hs cs ss) p
+
+  abbrev pub head : ℕ → Header
+  head p = headAt (announcedPlaces hs ss) p
+
+  -- the place of the step number i
+  abbrev pub stepPlace : ℕ → ℕ
+  stepPlace i = length hs + i
+
+  pub record StepDone (i : ℕ) : Type 0 where
+    pub announced : AsAnnounced (head (stepPlace i)) (value (stepPlace i))
+    pub computed : Computed (stepOf (getD ss i 0)) (stepPlace i) value (value (stepPlace i))
+    -- the buffers hold it: its true header, and its coefficients, then +0.0, at the announced places
+    pub word : getD (runWords hs cs ss pool words scratch) i 0 ≡ wordOf (value (stepPlace i) .head)
+    pub coeffs : take (stored (head (stepPlace i))) (drop (total (take i (announcedSteps hs ss))) (runPool hs cs ss pool words scratch))
+        ≡ padded (stored (head (stepPlace i))) (value (stepPlace i) .coeffs)
+
+  pub record Finished : Type 0 where
+    pub done : runAnswer hs cs ss pool words scratch ≡ Done
+    -- the first places hold the inputs
+    pub inputs : take (length hs) (values hs cs ss) ≡ inputValues hs cs
+    pub steps : (i : ℕ) → i < length ss → StepDone i
+
+  pub record Demand3 : Type 0 where
+    -- the check accepts, and the buffers are as long as it says
+    pub finishes : (places most inputs : ℕ) → checkAnswer hs ss ≡ Accepted places most inputs → inputs ≤ length cs → places ≤ length pool → length ss ≤ length words
+        → 8 * most ≤ length scratch → Finished
+    -- with any buffers
+    pub never-9 : (r : Refusal) → runAnswer hs cs ss pool words scratch ≡ Refused r → r .number ≡ 9 → ⊥
