@@ -1,5 +1,5 @@
 // What changes one variable (document 01, port order 7). Each entry takes any words, numbers and buffers.
-mod kernel;
+pub mod kernel;
 
 use gates::stored_of;
 use model::Answer;

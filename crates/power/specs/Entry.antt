@@ -62,7 +62,7 @@ module _ {e w ma mo ms : ℕ} (g : WorkReady (Power e) w ma mo ms) where
   entry-ruled a f = power-keeps e (held w a) (g .one .good .regular) f .regular .rules
 
 -- the block under the announced header is the value
-block-value : (e : ℕ) (p : Poly) → Regular (p .head) → polyOf (announced (Power e) (p .head) noHeader) (powerBlock e (announced (Power e) (p .head) noHeader .limits) (blockOf p)) ≡ powerPoly e p
+pub block-value : (e : ℕ) (p : Poly) → Regular (p .head) → polyOf (announced (Power e) (p .head) noHeader) (powerBlock e (announced (Power e) (p .head) noHeader .limits) (blockOf p)) ≡ powerPoly e p
 unfolding powerBlock powerPoly announced single
 block-value e p g =
     decide (eqb e 0)

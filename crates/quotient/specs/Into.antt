@@ -7,9 +7,9 @@ use native.Mathlib.Omega.{arith}
 use native.Mathlib.Nat.{le-refl, add-zero}
 use lib.Dec.{eqb, lit<}
 use lib.ListN.{length, getD, take, drop}
-use lib.Seq.{take-all}
+use lib.Seq.{take-all, length-take-le}
 use lib.Ieee.{Float, nan, eq}
-use borrow.Author.Tests.{eqb-true, eq-eqb, ne-eqb}
+use borrow.Author.Tests.{eqb-true, eqb-false, eq-eqb, ne-eqb}
 use Rattle.lists.specs.Test.{of-both, decide}
 use Rattle.lists.specs.Four.{at, four, at-four, four-same, each}
 use Rattle.lists.specs.Table.{table, length-table}
@@ -26,7 +26,7 @@ use Rattle.shape.specs.Under.{count-under}
 use Rattle.blocks.specs.Rows.{Inner}
 use Rattle.blocks.specs.Two.{Two, Holds, cutPlaces, cut-is}
 use Rattle.quotient.specs.Laid.{Laid, laid-part}
-use Rattle.quotient.specs.Room.{Dividing, Room, First, Recurring, Divides}
+use Rattle.quotient.specs.Room.{Dividing, Room, First, Recurring, Divides, loadedQuotient}
 use Rattle.quotient.specs.Firsts.{length-recurred}
 use Rattle.quotient.specs.Gather.{part-at}
 
@@ -71,6 +71,11 @@ module _ {lx ly r : List ℕ} {nx ny mw mo : ℕ} (t : Recurring lx ly r nx ny m
       let p : part (2 * mo) (3 * mo) w' ≡ f = laid-part a (3 * mo) (omega arith) (let z = t .work in let y = t .out in omega arith) in
       e ∙ (ap (take n) p ∙ take-all n f (omega arith))
 
+  pub recurring-fits : (nx ≤ mw) × (mo < mw)
+  recurring-fits =
+      let q = count-pos (t .result) in
+      (omega (arith, t .full-x, t .work, count-in (t .inner-x)), omega (arith, t .out, t .work))
+
 -- ---- a constant
 
 pick : (u : Bool) (x z : Block) → cond u (x .places) (z .places) ≡ cond u x z .places
@@ -81,6 +86,10 @@ constant-is : (l : List ℕ) (x y : Block) (c : Float) → count (y .lengths) �
     → cond (eq c oneF) (x .places) (table (count (x .lengths)) (dividedAt c (x .places))) ≡ quotientOf l x y .places
 unfolding quotientOf
 constant-is l x y c n e = rw (← e) (simp (eq-eqb _ _ n) (pick (eq (first (y .places)) oneF) x (block (x .lengths) (table (count (x .lengths)) (dividedAt (first (y .places)) (x .places))))))
+
+recurred-is : (l r : List ℕ) (x y : Block) → (count (y .lengths) ≡ 1 → ⊥) → r ≡ quotientShape l (x .lengths) (y .lengths) → recurred x y r ≡ quotientOf l x y .places
+unfolding quotientOf
+recurred-is l r x y n s = rw s (simp (ne-eqb _ _ n))
 
 -- ---- two operands
 
@@ -174,6 +183,14 @@ module _ {la lb limits r : List ℕ} {ma mb mo mw : ℕ} (t : Divides la lb limi
       let y : ca ≡ four (at ca) = ea ∙ ap (λ (z : List ℕ). four (at z)) (sym ea) in
       x ∙ (s ∙ sym y)
 
+  -- the lengths of what is divided
+  pub loaded-lengths : (x y : List Float) → quotientOf limits (block ca x) (block cb y) .lengths ≡ r
+  unfolding quotientOf
+  loaded-lengths x y =
+      decide (eqb (count cb) 1)
+      (λ e. rw e (of-both (λ (z : Block). z .lengths ≡ r) (eq (first y) oneF) {x = block ca x} (sym (same-shape (eqb-true _ _ e))) (sym (same-shape (eqb-true _ _ e)))))
+      (λ e. rw e (sym (t .shape ∙ rw (← ea, ← eb))))
+
   module _ {na nb : ℕ} (ka : na ≡ count ca) (kb : nb ≡ count cb) where
     pub into-recur : Recurring ca cb r na nb mw mo
     into-recur = record {
@@ -191,54 +208,38 @@ module _ {la lb limits r : List ℕ} {ma mb mo mw : ℕ} (t : Divides la lb limi
     pub same-count : nb ≡ 1 → mo ≡ na
     same-count e = t .out ∙ (ap count (same-shape (sym kb ∙ e)) ∙ sym ka)
 
-    pub into-fits : (na ≤ mw) × (mo < mw)
-    into-fits =
-        let q = count-pos shape-lengths in
-        (omega (arith, ka, t .work, small-left), omega (arith, t .out, t .work))
+    -- what lies in the work, divided
+    pub loaded-is : (w : List Float) {o : List Float} → length w ≡ mw → o ≡ loadedQuotient ca na cb nb r mo w → o ≡ quotientOf limits (block ca (take na w)) (block cb (part mo (mo + nb) w)) .places
+    unfolding loadedQuotient
+    loaded-is w {o} lw e =
+        let x : List Float = take na w in
+        let y : List Float = part mo (mo + nb) w in
+        let c : Float = getD w mo nan in
+        let k : length x ≡ count ca = length-take-le na w (omega (arith, recurring-fits into-recur .0)) ∙ ka in
+        decide (eqb nb 1)
+        (λ h.
+        let n : nb ≡ 1 = eqb-true nb 1 h in
+        let m : first y ≡ c = part-at mo (mo + nb) w 0 (omega arith) ∙ ap (λ (i : ℕ). getD w i nan) (add-zero mo) in
+        e ∙ rw h (ap (λ (i : ℕ). cond (eq c oneF) x (table i (dividedAt c x))) k ∙ constant-is limits (block ca x) (block cb y) c (sym kb ∙ n) m))
+        (λ h.
+        let n : count cb ≡ 1 → ⊥ = λ z. eqb-false nb 1 h (kb ∙ z) in
+        let s : r ≡ quotientShape limits ca cb = t .shape ∙ rw (← ea, ← eb) in
+        e ∙ rw h (recurred-is limits r (block ca x) (block cb y) n s))
 
     module _ (a b w : List Float) (h : Holds mo (cutPlaces la ca a) (cutPlaces lb cb b) w) where
-      front : take na w ≡ cutPlaces la ca a
-      front = ap (λ (k : ℕ). take k w) (ka ∙ sym (length-table _ (count ca))) ∙ h .front
-
-      back : part mo (mo + nb) w ≡ cutPlaces lb cb b
-      back =
-          let e : mo + nb - mo ≡ length (cutPlaces lb cb b) = omega (arith, kb, length-table (λ k. readAt (block lb b) (index cb k)) (count cb)) in
-          ap (λ (k : ℕ). take k (drop mo w)) e ∙ h .back
-
       dividend : block ca (take na w) ≡ cut limits (block la a)
-      dividend = ap (block ca) front ∙ cut-is limits la a ea
+      dividend = ap (block ca) (ap (λ (k : ℕ). take k w) (ka ∙ sym (length-table _ (count ca))) ∙ h .front) ∙ cut-is limits la a ea
 
       divisor : block cb (part mo (mo + nb) w) ≡ cut limits (block lb b)
-      divisor = ap (block cb) back ∙ cut-is limits lb b eb
+      divisor =
+          let e : mo + nb - mo ≡ length (cutPlaces lb cb b) = omega (arith, kb, length-table (λ k. readAt (block lb b) (index cb k)) (count cb)) in
+          ap (block cb) (ap (λ (k : ℕ). take k (drop mo w)) e ∙ h .back) ∙ cut-is limits lb b eb
 
-      -- the recurrence
-      pub into-recurred : {o : List Float} → (nb ≡ 1 → ⊥) → o ≡ recurred (block ca (take na w)) (block cb (part mo (mo + nb) w)) r → o ≡ divided limits (block la a) (block lb b) .places
-      unfolding divided quotientOf
-      into-recurred {o} n e =
-          let q : count (cut limits (block lb b) .lengths) ≡ 1 → ⊥ = λ z. n (kb ∙ (ap (λ (x : Block). count (x .lengths)) divisor ∙ z)) in
-          let s : r ≡ quotientShape limits (cut limits (block la a) .lengths) (cut limits (block lb b) .lengths) =
-          t .shape ∙ (rw (← ea, ← eb) (ap (λ (x : Block). quotientShape limits (x .lengths) cb) dividend ∙ ap (λ (x : Block). quotientShape limits (cut limits (block la a) .lengths) (x .lengths)) divisor)) in
-          e ∙ rw (dividend, divisor, s) (simp (ne-eqb _ _ q))
-
-      -- a constant
-      pub into-constant : {o : List Float} → nb ≡ 1 → o ≡ cond (eq (getD w mo nan) oneF) (take na w) (table (length (take na w)) (dividedAt (getD w mo nan) (take na w))) → o ≡ divided limits (block la a) (block lb b) .places
-      unfolding divided quotientOf
-      into-constant {o} n e =
-          let c : Float = getD w mo nan in
-          let q : count (cut limits (block lb b) .lengths) ≡ 1 = ap (λ (x : Block). count (x .lengths)) (sym divisor) ∙ (sym kb ∙ n) in
-          let m : first (cut limits (block lb b) .places) ≡ c =
-          ap (λ (x : Block). first (x .places)) (sym divisor) ∙ (part-at mo (mo + nb) w 0 (omega arith) ∙ ap (λ (x : ℕ). getD w x nan) (add-zero mo)) in
-          let k : length (take na w) ≡ count ca = ap length front ∙ length-table _ (count ca) in
-          e ∙ (ap (λ (x : ℕ). cond (eq c oneF) (take na w) (table x (dividedAt c (take na w)))) k
-          ∙ (ap (λ (x : Block). cond (eq c oneF) (x .places) (table (count (x .lengths)) (dividedAt c (x .places)))) dividend
-          ∙ constant-is limits (cut limits (block la a)) (cut limits (block lb b)) c q m))
+      pub into-loaded : {o : List Float} → length w ≡ mw → o ≡ loadedQuotient ca na cb nb r mo w → o ≡ divided limits (block la a) (block lb b) .places
+      unfolding divided
+      into-loaded lw e = loaded-is w lw e ∙ rw (dividend, divisor)
 
 -- the true lengths are the announced ones
 pub into-lengths : {la lb limits r : List ℕ} {ma mb mo mw : ℕ} → Divides la lb limits r ma mb mo mw → (a b : List Float) → divided limits (block la a) (block lb b) .lengths ≡ r
-unfolding divided quotientOf cut
-into-lengths {la} {lb} {limits} {r} t a b =
-    let x : Block = cut limits (block la a) in
-    let y : Block = cut limits (block lb b) in
-    decide (eqb (count (cutTo limits lb)) 1)
-    (λ e. rw e (of-both (λ (z : Block). z .lengths ≡ r) (eq (first (y .places)) oneF) {x = x} (sym (same-shape t refl refl (eqb-true _ _ e))) (sym (same-shape t refl refl (eqb-true _ _ e)))))
-    (λ e. rw e (sym (t .shape)))
+unfolding divided cut
+into-lengths {la} {lb} {limits} t a b = loaded-lengths t refl refl (cut limits (block la a) .places) (cut limits (block lb b) .places)

@@ -1,11 +1,19 @@
 -- What the functions of the quotient ask. The m.. are the lengths of buffers.
 use Prim.Native.Nat.{ℕ, _+_, _-_, _*_, _≤_, _<_}
 use mathlib.Core.List.{List}
+use mathlib.Core.Bool.{cond}
 use mathlib.Core.Path.{_≡_}
+use lib.Dec.{eqb}
+use lib.ListN.{length, getD, take}
+use lib.Ieee.{Float, nan, eq}
+use Rattle.lists.specs.Table.{table}
+use Rattle.lists.specs.Part.{part}
 use Rattle.lists.specs.Four.{at}
 use Rattle.model.specs.Header.{span, count}
 use Rattle.model.specs.Limits.{cutTo}
-use Rattle.model.specs.Quotient.{quotientShape}
+use Rattle.model.specs.Poly.{block}
+use Rattle.model.specs.Readings.{oneF}
+use Rattle.model.specs.Quotient.{quotientShape, dividedAt, recurred}
 use Rattle.words.specs.Lengths.{Lengths}
 use Rattle.blocks.specs.Rows.{Inner}
 use Rattle.general.specs.Index.{inRow}
@@ -101,3 +109,10 @@ pub record Divides (la lb limits r : List ℕ) (ma mb mo mw : ℕ) : Type 0 wher
   pub full-b : mb ≡ count lb
   pub out : mo ≡ count r
   pub work : mw ≡ 8 * count r
+
+-- the quotient of what lies in the work w: the dividend, na places, at its front, the divisor, nb places, from n on
+unfoldable pub loadedQuotient : List ℕ → ℕ → List ℕ → ℕ → List ℕ → ℕ → List Float → List Float
+loadedQuotient ca na cb nb r n w =
+    let x = take na w in
+    let c = getD w n nan in
+    cond (eqb nb 1) (cond (eq c oneF) x (table (length x) (dividedAt c x))) (recurred (block ca x) (block cb (part n (n + nb) w)) r)

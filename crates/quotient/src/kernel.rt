@@ -19,7 +19,7 @@ ghost use Rattle.general.specs.Index.{inRow};
 ghost use Rattle.general.specs.Rows.{Strided};
 ghost use Rattle.quotient.specs.Laid.{Laid};
 ghost use Rattle.quotient.specs.Level.{takenAt, leftAt, levelOf, passed};
-ghost use Rattle.quotient.specs.Room.{Dividing, Taking, Room, RowRoom, Line, Adding, First, Recurring, Divides};
+ghost use Rattle.quotient.specs.Room.{Dividing, Taking, Room, RowRoom, Line, Adding, First, Recurring, Divides, loadedQuotient};
 ghost use Rattle.quotient.specs.First.{firstAt};
 
 // Each place divided by c.
@@ -326,6 +326,28 @@ fn divide_constant(c: f64, a: &[f64], to: &mut [f64])
     divide_by(c, a, to);
 }
 
+// The quotient of two operands that are loaded already, cut to the limits: the dividend, na places, at the front of the work, the divisor, nb places, from as many
+// places on as the quotient has, whose lengths are r.
+pub fn divide_loaded(
+    work: &mut [f64],
+    ca: [usize; 4],
+    na: usize,
+    cb: [usize; 4],
+    nb: usize,
+    r: [usize; 4],
+    out: &mut [f64],
+)
+    requires { ⌜ Recurring ca cb r na nb (length (now work)) (length (now out)) ⌝ ∗ ⌜ (nb ≡ 1 → length (now out) ≡ na) ⌝ }
+    ensures { λ _. ⌜ now (out .exit) ≡ loadedQuotient ca na cb nb r (length (now (out .entry))) (now (work .entry)) ⌝ }
+{
+    let n = out.len();
+    if nb == 1 {
+        divide_constant(work[n], &work[..na], out);
+        return;
+    }
+    recur(work, ca, na, cb, nb, r, out);
+}
+
 // The quotient of two operands with the lengths la and lb under the limits: all of `out`. r are the announced lengths.
 pub fn divide_into(
     a: &[f64],
@@ -346,9 +368,5 @@ pub fn divide_into(
     blocks::load_two(a, la, ca, b, lb, cb, n, work);
     let na = words::places::count_of(ca);
     let nb = words::places::count_of(cb);
-    if nb == 1 {
-        divide_constant(work[n], &work[..na], out);
-        return;
-    }
-    recur(work, ca, na, cb, nb, r, out);
+    divide_loaded(work, ca, na, cb, nb, r, out);
 }

@@ -19,7 +19,7 @@ use Rattle.kinds.specs.Known.{Known}
 use Rattle.recipes.specs.Inputs.{inputs-known}
 use Rattle.recipes.specs.Judged.{Judged, accepts, places-known}
 
-drop-map : {A B : Type 0} (f : A → B) (n : ℕ) (l : List A) → drop n (map f l) ≡ map f (drop n l)
+pub drop-map : {A B : Type 0} (f : A → B) (n : ℕ) (l : List A) → drop n (map f l) ≡ map f (drop n l)
 drop-map f zero l = refl
 drop-map f (suc n) [] = refl
 drop-map f (suc n) (x ∷ l) = drop-map f n l

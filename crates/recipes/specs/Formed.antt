@@ -24,19 +24,19 @@ unfolding rows table
 kind-is k h = sym (List·getD-map (λ (u : Uses). u .kind) rows k noKind) ∙ table-at false (λ j. leb j 10) 16 k h
 
 -- the six tests
-record Tests (w p : ℕ) : Type 0 where
-  kind : usesOf (stepOf w .kind) .kind ≡ true
-  a : namedBefore p (usesOf (stepOf w .kind) .a) (stepOf w .a) ≡ true
-  b : namedBefore p (usesOf (stepOf w .kind) .b) (stepOf w .b) ≡ true
-  variable : zeroUnless (usesOf (stepOf w .kind) .variable) (stepOf w .variable) ≡ true
-  n : zeroUnless (usesOf (stepOf w .kind) .n) (stepOf w .n) ≡ true
-  spare : eqb (spareOf w) 0 ≡ true
+pub record Tests (w p : ℕ) : Type 0 where
+  pub kind : usesOf (stepOf w .kind) .kind ≡ true
+  pub a : namedBefore p (usesOf (stepOf w .kind) .a) (stepOf w .a) ≡ true
+  pub b : namedBefore p (usesOf (stepOf w .kind) .b) (stepOf w .b) ≡ true
+  pub variable : zeroUnless (usesOf (stepOf w .kind) .variable) (stepOf w .variable) ≡ true
+  pub n : zeroUnless (usesOf (stepOf w .kind) .n) (stepOf w .n) ≡ true
+  pub spare : eqb (spareOf w) 0 ≡ true
 
 tests-formed : {w p : ℕ} → Tests w p → formed w p ≡ true
 unfolding formed
 tests-formed t = simp (t .kind, t .a, t .b, t .variable, t .n, t .spare)
 
-formed-tests : (w p : ℕ) → formed w p ≡ true → Tests w p
+pub formed-tests : (w p : ℕ) → formed w p ≡ true → Tests w p
 unfolding formed
 formed-tests w p e =
     let s = stepOf w in

@@ -19,3 +19,7 @@ pub mod Values
 pub mod Buffers
 pub mod Never
 pub mod Demanded
+pub mod Standing
+pub mod Running
+pub mod Admission
+pub mod Ran

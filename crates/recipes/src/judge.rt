@@ -34,8 +34,8 @@ fn inputs_refusal(headers: &[u64]) -> Refusal
     Refusal::none()
 }
 
-// The inputs' words into the front of `known`.
-fn note_inputs(headers: &[u64], known: &mut [u64])
+// The words of `headers` into the front of `known`.
+pub fn note_inputs(headers: &[u64], known: &mut [u64])
     requires { ⌜ length (now headers) ≤ length (now known) ⌝ }
     ensures { λ r. ⌜ now (known .exit) ≡ over (now (headers .entry)) (now (known .entry)) ⌝ }
 {

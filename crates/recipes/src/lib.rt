@@ -1,12 +1,18 @@
-// Recipes (document 01): the check. It takes any words, any number of them.
-mod judge;
+// Recipes (document 01): the check and the run. They take any words, any number of them, and any buffers.
+mod admit;
+pub mod judge;
+mod running;
 
+use admit::admit;
+use admit::run_admitted;
 use judge::judge;
 use judge::largest_of;
 use judge::total_of;
 use model::CheckAnswer;
+use model::RunAnswer;
 ghost use mathlib.Core.Path.{_≡_};
 ghost use Rattle.model.specs.Check.{checkAnswer};
+ghost use Rattle.model.specs.Run.{runAnswer, runPool, runWords, runScratch};
 
 // What a run of the recipe takes, or why there is none: refusals 7, 1, 3, 4, 5.
 pub fn check(headers: &[u64], steps: &[u64]) -> CheckAnswer
@@ -26,4 +32,44 @@ pub fn check(headers: &[u64], steps: &[u64]) -> CheckAnswer
         largest,
         inputs: total_of(headers),
     }
+}
+
+// The values of the steps, end to end at announced counts in the pool, and their true headers in `words`: refusals of the check, then 2, 5, 6.
+// Done, the first 8 times the largest announced count of scratch are +0.0.
+pub fn run(
+    headers: &[u64],
+    coefficients: &[f64],
+    steps: &[u64],
+    pool: &mut [f64],
+    words: &mut [u64],
+    scratch: &mut [f64],
+) -> RunAnswer
+    ensures answer { λ r. ⌜ r ≡ runAnswer (now (headers .entry)) (now (coefficients .entry)) (now (steps .entry)) (now (pool .entry)) (now (words .entry)) (now (scratch .entry)) ⌝ }
+    ensures values { λ r. ⌜ now (pool .exit) ≡ runPool (now (headers .entry)) (now (coefficients .entry)) (now (steps .entry)) (now (pool .entry)) (now (words .entry)) (now (scratch .entry)) ⌝ }
+    ensures heads { λ r. ⌜ now (words .exit) ≡ runWords (now (headers .entry)) (now (coefficients .entry)) (now (steps .entry)) (now (pool .entry)) (now (words .entry)) (now (scratch .entry)) ⌝ }
+    ensures cleared { λ r. ⌜ now (scratch .exit) ≡ runScratch (now (headers .entry)) (now (coefficients .entry)) (now (steps .entry)) (now (pool .entry)) (now (words .entry)) (now (scratch .entry)) ⌝ }
+{
+    let mut known = [0u64; 64];
+    let refused = admit(
+        headers,
+        steps,
+        coefficients.len(),
+        pool.len(),
+        words.len(),
+        scratch.len(),
+        &mut known,
+    );
+    if refused.number != 0 {
+        return RunAnswer::Refused(refused);
+    }
+    run_admitted(
+        headers,
+        coefficients,
+        steps,
+        &mut known,
+        pool,
+        words,
+        scratch,
+    );
+    RunAnswer::Done
 }

@@ -32,7 +32,7 @@ ghost use Rattle.product.specs.Room.{Room, Put, Made, Stands};
 ghost use Rattle.substitution.specs.Room.{wayOf, putFor, rowOf, byRow, byPart, Whole, Given, Puts, Cuts, Adding, Turning, timesPut, turnOf, Turned, turns, Hornering};
 
 // Which way b goes for v.
-fn choose(vars: usize, v: usize, b: &[f64], lb: [usize; 4]) -> Way
+pub fn choose(vars: usize, v: usize, b: &[f64], lb: [usize; 4]) -> Way
     requires { ⌜ Lengths lb ⌝ ∗ ⌜ length (now b) ≡ count lb ⌝ }
     ensures { λ r. ⌜ r ≡ wayOf vars v (block lb (now (b .entry))) ⌝ }
 {
@@ -99,7 +99,7 @@ fn power_parts(m: f64, s: usize, width: usize, to: &mut [f64])
 }
 
 // The lengths of a row of v: 1 there, cut to the limits elsewhere.
-fn row_lengths(limits: [usize; 4], v: usize, n: [usize; 4]) -> [usize; 4]
+pub fn row_lengths(limits: [usize; 4], v: usize, n: [usize; 4]) -> [usize; 4]
     requires { ⌜ v < 4 ⌝ }
     ensures { λ r. ⌜ r ≡ rowOf limits v n ⌝ }
 {
@@ -109,7 +109,7 @@ fn row_lengths(limits: [usize; 4], v: usize, n: [usize; 4]) -> [usize; 4]
 }
 
 // The highest power of v that a block with the lengths n stores.
-fn highest(n: [usize; 4], v: usize) -> usize
+pub fn highest(n: [usize; 4], v: usize) -> usize
     requires { ⌜ v < 4 ⌝ ∗ ⌜ 0 < at n v ⌝ }
     ensures { λ r. ⌜ at n v ≡ suc r ⌝ }
 {
@@ -134,7 +134,13 @@ pub fn load_row(
 }
 
 // b is zero: the row 0 of v.
-fn zero_put(a: &[f64], la: [usize; 4], v: usize, limits: [usize; 4], out: &mut [f64]) -> [usize; 4]
+pub fn zero_put(
+    a: &[f64],
+    la: [usize; 4],
+    v: usize,
+    limits: [usize; 4],
+    out: &mut [f64],
+) -> [usize; 4]
     requires { ⌜ Cuts la (rowOf limits v la) v (length (now a)) (length (now out)) ⌝ }
     ensures { λ r. ⌜ Put (rowAt limits v (block la (now (a .entry))) 0) (now (out .entry)) (now (out .exit)) r ⌝ }
 {
@@ -145,7 +151,7 @@ fn zero_put(a: &[f64], la: [usize; 4], v: usize, limits: [usize; 4], out: &mut [
 }
 
 // b is m times v: row k times m to the k.
-fn line_put(
+pub fn line_put(
     a: &[f64],
     la: [usize; 4],
     v: usize,

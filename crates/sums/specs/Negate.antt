@@ -21,7 +21,7 @@ use Rattle.words.specs.Words.{pack-unpack}
 use Rattle.gates.specs.Gate.{OneReady, one-ready, answer-no, answer-yes, leaves-no, leaves-yes, written-full}
 
 -- the announced header of a header that keeps the rules is that header
-same-header : {h : Header} → Regular h → announced Same h noHeader ≡ h
+pub same-header : {h : Header} → Regular h → announced Same h noHeader ≡ h
 unfolding announced single
 same-header {h} r = let e : h ≡ single Same h = λ i. record { vars = h .vars; limits = r .ls i; lengths = r .ns i } in sym e
 

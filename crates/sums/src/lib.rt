@@ -1,5 +1,5 @@
 // Add, negate, subtract (document 01, port order 3). Each entry takes any words, numbers and buffers.
-mod kernel;
+pub mod kernel;
 
 use model::Answer;
 use model::Family;

@@ -1,0 +1,83 @@
+use native.Mathlib.Omega.{arith}
+use mathlib.Core.Path.{_≡_, refl, sym, ap, _∙_}
+use Prim.Native.Nat.{ℕ, _-_, _≤_}
+use mathlib.Core.List.{List}
+use lib.ListN.{length}
+use Rattle.model.specs.Header.{stored}
+use borrow.Author.Needs.{needs}
+use Rattle.recipes.specs.Counts.{word-ruled}
+use Rattle.recipes.specs.Standing.{Begun, Starting, starting-none, starting-fits, starting-more}
+use Rattle.recipes.proofs.running.note_starts.Statement.{statement}
+use Rattle.recipes.proofs.running.note_starts.Tie as tie
+use Rattle.recipes.proofs.running.note_starts.Reads as reads
+use Rattle.recipes.proofs.running.note_starts.Lts as lts
+use Rattle.gates.proofs.stored_of.Reads as stored-of-reads
+use Rattle.words.proofs.word.header_of.Reads as header-of-reads
+
+abbrev Inv-loop : tie.InvT-loop
+Inv-loop headers starts₀ from₀ i₀ starts from i = Starting headers starts₀ starts from i
+
+abbrev μ-loop : tie.MeasureT-loop
+μ-loop headers starts₀ from₀ i₀ starts from i = length headers - i
+
+ending : {hs old starts : List ℕ} {f i : ℕ} → Starting hs old starts f i → length hs ≤ i → Begun hs (length hs) old starts
+ending {hs} {i = i} s l = let e : i ≡ length hs = omega (arith, s .most) in rw e at (s .begun)
+
+loop-holds : tie.Need-loop-holds Inv-loop μ-loop
+loop-holds c = starting-none
+
+mul-starts : tie.Need-mul-starts Inv-loop μ-loop
+mul-starts c = omega (arith, c .before .before .before .before .pre .1, c .before .loop .inv .begun .len, c .before .before .before .before .good)
+
+slice-write-starts : tie.Need-slice-write-starts Inv-loop μ-loop
+slice-write-starts c = omega (arith, c .before .before .before .before .pre .1, c .before .loop .inv .begun .len)
+
+mul-header-of : tie.Need-mul-header-of Inv-loop μ-loop
+mul-header-of c = search needs
+
+shared-slice-read-header-of : tie.Need-shared-slice-read-header-of Inv-loop μ-loop
+shared-slice-read-header-of c = search needs
+
+header-of-requires : tie.Need-header-of-requires Inv-loop μ-loop
+header-of-requires c κs = search needs
+
+stored-of-requires : tie.Need-stored-of-requires Inv-loop μ-loop
+stored-of-requires c κs = rw (c .header-of .ensures) (word-ruled (c .before .before .before .before .before .before .args .headers .now) (c .before .before .before .before .before .before .pre .0) (c .before .before .before .loop .i))
+
+add-from : tie.Need-add-from Inv-loop μ-loop
+add-from c = record { fits = starting-fits (c .before .before .before .before .loop .inv) (c .before .before .before .before .before .before .before .pre .0) (c .stored-of .ensures ∙ ap stored (c .before .header-of .ensures)) (c .before .before .before .before .before .before .before .pre .1 .1) }
+
+add-i : tie.Need-add-i Inv-loop μ-loop
+add-i c = search needs
+
+loop-less : tie.Need-loop-less Inv-loop μ-loop
+loop-less c = search needs
+
+loop-again : tie.Need-loop-again Inv-loop μ-loop
+loop-again c = starting-more (c .before .before .before .before .loop .inv) (c .before .before .before .before .before .before .before .pre .0) (c .stored-of .ensures ∙ ap stored (c .before .header-of .ensures)) (c .before .before .before .loop-test .taken) (c .before .before .before .before .before .before .before .pre .1 .0)
+
+same-length : tie.Need-same-length Inv-loop μ-loop
+same-length c = c .before .loop .inv .begun .len
+
+returns : tie.Need-returns Inv-loop μ-loop
+returns c = ending (c .before .loop .inv) (c .loop-test .left)
+
+pub note-starts-spec : {M : Type 1} → statement M
+note-starts-spec =
+    tie.close
+    (tie.spec
+    Inv-loop
+    μ-loop
+    loop-holds
+    mul-starts
+    slice-write-starts
+    mul-header-of
+    shared-slice-read-header-of
+    header-of-requires
+    stored-of-requires
+    add-from
+    add-i
+    loop-less
+    loop-again
+    same-length
+    returns)

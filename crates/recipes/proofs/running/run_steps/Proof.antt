@@ -1,0 +1,124 @@
+use native.Mathlib.Omega.{arith}
+use mathlib.Core.Path.{_≡_, refl, sym, ap, _∙_}
+use Prim.Native.Nat.{ℕ, _+_, _-_}
+use lib.ListN.{length, getD, take, length-set}
+use borrow.Author.Needs.{needs}
+use Rattle.model.specs.Header.{stored}
+use Rattle.model.specs.Recipe.{announcedStep, announcedPlaces}
+use Rattle.recipes.specs.Running.{Running, fit, room-ruled, room-is, step-in, step-lent, running-more, end-words, end-pool}
+use Rattle.recipes.proofs.running.run_steps.Statement.{statement}
+use Rattle.recipes.proofs.running.run_steps.Tie as tie
+use Rattle.recipes.proofs.running.run_steps.Reads as reads
+use Rattle.recipes.proofs.running.run_steps.Lts as lts
+use Rattle.gates.proofs.stored_of.Reads as stored-of-reads
+use Rattle.kinds.proofs.step.step_of.Reads as step-of-reads
+use Rattle.recipes.proofs.running.step_word.Reads as step-word-reads
+use Rattle.words.proofs.word.header_of.Reads as header-of-reads
+
+abbrev Inv-loop : tie.InvT-loop
+Inv-loop headers coefficients steps known₀ starts₀ pool₀ scratch₀ inputs at₀ i₀ known starts pool scratch at i = Running headers coefficients steps known₀ pool₀ i at known starts pool × (length starts ≡ length starts₀) × (length scratch ≡ length scratch₀)
+
+abbrev μ-loop : tie.MeasureT-loop
+μ-loop headers coefficients steps known₀ starts₀ pool₀ scratch₀ inputs at₀ i₀ known starts pool scratch at i = length steps - i
+
+counted : (c : tie.After-stored-of Inv-loop μ-loop) → c .stored-of .result ≡ stored (announcedStep (getD (c .before .before .before .before .before .before .before .before .before .before .before .before .before .before .args .steps .now) (c .before .before .before .before .before .before .loop .i) 0) (announcedPlaces (c .before .before .before .before .before .before .before .before .before .before .before .before .before .before .args .headers .now) (take (c .before .before .before .before .before .before .loop .i) (c .before .before .before .before .before .before .before .before .before .before .before .before .before .before .args .steps .now))))
+counted c = c .stored-of .ensures ∙ (ap stored (c .before .header-of .ensures) ∙ room-is (c .before .before .before .before .before .before .before .before .before .before .before .before .before .before .pre .0) (c .before .before .before .before .before .before .loop .inv .0) (c .before .before .before .before .before .loop-test .taken))
+
+loop-holds : tie.Need-loop-holds Inv-loop μ-loop
+loop-holds c = (c .before .before .before .before .before .before .before .pre .1, refl, refl)
+
+mul-step-of : tie.Need-mul-step-of Inv-loop μ-loop
+mul-step-of c = search needs
+
+shared-slice-read-step-of : tie.Need-shared-slice-read-step-of Inv-loop μ-loop
+shared-slice-read-step-of c = search needs
+
+step-of-requires : tie.Need-step-of-requires Inv-loop μ-loop
+step-of-requires c κs = search needs
+
+add-p : tie.Need-add-p Inv-loop μ-loop
+add-p c = omega (arith, fit (c .before .before .before .before .before .before .before .before .before .before .before .pre .0), c .before .before .loop-test .taken)
+
+mul-header-of : tie.Need-mul-header-of Inv-loop μ-loop
+mul-header-of c = omega (arith, fit (c .before .before .before .before .before .before .before .before .before .before .before .pre .0), c .before .before .loop-test .taken)
+
+slice-read-header-of : tie.Need-slice-read-header-of Inv-loop μ-loop
+slice-read-header-of c = omega (arith, fit (c .before .before .before .before .before .before .before .before .before .before .before .before .pre .0), c .before .before .before .loop-test .taken, c .before .before .before .before .loop .inv .0 .len-known, c .before .before .before .before .before .before .before .before .before .before .before .before .pre .0 .many)
+
+header-of-requires : tie.Need-header-of-requires Inv-loop μ-loop
+header-of-requires c κs = search needs
+
+stored-of-requires : tie.Need-stored-of-requires Inv-loop μ-loop
+stored-of-requires c κs = rw (c .header-of .ensures) (room-ruled (c .before .before .before .before .before .before .before .before .before .before .before .before .before .pre .0) (c .before .before .before .before .before .loop .inv .0) (c .before .before .before .before .loop-test .taken))
+
+step-word-requires : tie.Need-step-word-requires Inv-loop μ-loop
+step-word-requires c κs = (rw (c .before .before .before .before .before .before .before .step-of .ensures) (step-in (c .before .before .before .before .before .before .before .before .before .before .before .before .before .before .before .before .before .before .pre .0) (c .before .before .before .before .before .before .before .before .before .before .loop .inv .0) (c .before .before .before .before .before .before .before .before .before .loop-test .taken) (counted (c .before .before .before .before)) (c .before .before .before .before .before .before .before .before .before .before .loop .inv .0 .len-pool)), rw (c .before .before .before .before .before .before .before .before .before .before .loop .inv .2) (step-lent (c .before .before .before .before .before .before .before .before .before .before .before .before .before .before .before .before .before .before .pre .0) (c .before .before .before .before .before .before .before .before .before .before .loop .inv .0) (c .before .before .before .before .before .before .before .before .before .loop-test .taken) (counted (c .before .before .before .before)) (c .before .before .before .before .before .before .before .before .before .before .loop .inv .0 .len-pool)))
+
+mul-known : tie.Need-mul-known Inv-loop μ-loop
+mul-known c = omega (arith, fit (c .before .before .before .before .before .before .before .before .before .before .before .before .before .before .before .before .before .before .before .before .before .before .before .pre .0), c .before .before .before .before .before .before .before .before .before .before .before .before .before .before .loop-test .taken)
+
+slice-write-known : tie.Need-slice-write-known Inv-loop μ-loop
+slice-write-known c = omega (arith, fit (c .before .before .before .before .before .before .before .before .before .before .before .before .before .before .before .before .before .before .before .before .before .before .before .pre .0), c .before .before .before .before .before .before .before .before .before .before .before .before .before .before .loop-test .taken, c .before .before .before .before .before .before .before .before .before .before .before .before .before .before .before .loop .inv .0 .len-known, c .before .before .before .before .before .before .before .before .before .before .before .before .before .before .before .before .before .before .before .before .before .before .before .pre .0 .many)
+
+mul-starts : tie.Need-mul-starts Inv-loop μ-loop
+mul-starts c = omega (arith, fit (c .before .before .before .before .before .before .before .before .before .before .before .before .before .before .before .before .before .before .before .before .before .before .before .pre .0), c .before .before .before .before .before .before .before .before .before .before .before .before .before .before .loop-test .taken)
+
+slice-write-starts : tie.Need-slice-write-starts Inv-loop μ-loop
+slice-write-starts c = omega (arith, fit (c .before .before .before .before .before .before .before .before .before .before .before .before .before .before .before .before .before .before .before .before .before .before .before .pre .0), c .before .before .before .before .before .before .before .before .before .before .before .before .before .before .loop-test .taken, c .before .before .before .before .before .before .before .before .before .before .before .before .before .before .before .loop .inv .0 .len-starts)
+
+add-at : tie.Need-add-at Inv-loop μ-loop
+add-at c = let g = step-lent (c .before .before .before .before .before .before .before .before .before .before .before .before .before .before .before .before .before .before .before .before .before .before .before .pre .0) (c .before .before .before .before .before .before .before .before .before .before .before .before .before .before .before .loop .inv .0) (c .before .before .before .before .before .before .before .before .before .before .before .before .before .before .loop-test .taken) (counted (c .before .before .before .before .before .before .before .before .before)) (c .before .before .before .before .before .before .before .before .before .before .before .before .before .before .before .loop .inv .0 .len-pool) in omega (arith, g .room, (c .before .before .before .before .before .before .before .before .before .before .before .before .before .before .before .loop .inv .0 .len-pool), c .before .before .before .before .before .before .before .before .before .before .before .before .before .before .before .before .before .before .before .before .before .before .before .good)
+
+add-i : tie.Need-add-i Inv-loop μ-loop
+add-i c = omega (arith, fit (c .before .before .before .before .before .before .before .before .before .before .before .before .before .before .before .before .before .before .before .before .before .before .before .pre .0), c .before .before .before .before .before .before .before .before .before .before .before .before .before .before .loop-test .taken)
+
+loop-less : tie.Need-loop-less Inv-loop μ-loop
+loop-less c = search needs
+
+loop-again : tie.Need-loop-again Inv-loop μ-loop
+loop-again c = (running-more (c .before .before .before .before .before .before .before .before .before .before .before .before .before .before .before .before .before .before .before .before .before .before .before .pre .0) (c .before .before .before .before .before .before .before .before .before .before .before .before .before .before .before .loop .inv .0) (c .before .before .before .before .before .before .before .before .before .before .before .before .before .before .loop-test .taken) (counted (c .before .before .before .before .before .before .before .before .before)) (c .before .before .before .before .before .before .before .before .before .before .before .before .before .before .before .loop .inv .0 .len-pool) (rw (c .before .before .before .before .before .before .before .before .before .before .before .before .step-of .ensures) at (c .before .before .before .before .step-word .ensures .0)) (rw (c .before .before .before .before .before .before .before .before .before .before .before .before .step-of .ensures) at (c .before .before .before .before .step-word .ensures .1)), length-set (c .before .before .before .before .before .before .before .before .before .before .before .before .before .before .before .loop .starts) (length (c .before .before .before .before .before .before .before .before .before .before .before .before .before .before .before .before .before .before .before .before .before .before .before .args .headers .now) + c .before .before .before .before .before .before .before .before .before .before .before .before .before .before .before .loop .i) (c .before .before .before .before .before .before .before .before .before .before .before .before .before .before .before .loop .at) ∙ c .before .before .before .before .before .before .before .before .before .before .before .before .before .before .before .loop .inv .1, c .before .before .before .before .step-word .kept .1 .1 .1 .1 .1 .1 .1 .1 .0 ∙ c .before .before .before .before .before .before .before .before .before .before .before .before .before .before .before .loop .inv .2)
+
+same-length : tie.Need-same-length Inv-loop μ-loop
+same-length c = c .before .loop .inv .0 .len-known
+
+same-length-2 : tie.Need-same-length-2 Inv-loop μ-loop
+same-length-2 c = c .before .loop .inv .1
+
+same-length-3 : tie.Need-same-length-3 Inv-loop μ-loop
+same-length-3 c = c .before .loop .inv .0 .len-pool
+
+same-length-4 : tie.Need-same-length-4 Inv-loop μ-loop
+same-length-4 c = c .before .loop .inv .2
+
+returns : tie.Need-returns Inv-loop μ-loop
+returns c = (end-words (c .before .before .before .before .before .before .before .before .before .pre .0) (c .before .loop .inv .0) (c .loop-test .left), end-pool (c .before .before .before .before .before .before .before .before .before .pre .0) (c .before .loop .inv .0) (c .loop-test .left))
+
+pub run-steps-spec : {M : Type 1} → statement M
+run-steps-spec =
+    tie.close
+    (tie.spec
+    Inv-loop
+    μ-loop
+    loop-holds
+    mul-step-of
+    shared-slice-read-step-of
+    step-of-requires
+    add-p
+    mul-header-of
+    slice-read-header-of
+    header-of-requires
+    stored-of-requires
+    step-word-requires
+    mul-known
+    slice-write-known
+    mul-starts
+    slice-write-starts
+    add-at
+    add-i
+    loop-less
+    loop-again
+    same-length
+    same-length-2
+    same-length-3
+    same-length-4
+    returns)

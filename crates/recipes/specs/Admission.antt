@@ -1,0 +1,91 @@
+-- Why a run is refused before its first step, and what an admitted run shows at its end.
+use Prim.Native.Nat.{ℕ, suc, _+_, _-_, _*_, _≤_, _<_}
+use mathlib.Core.Bool.{Bool, true, false, _&&_}
+use mathlib.Core.List.{List, [], _∷_, _++_}
+use mathlib.Core.Path.{_≡_, refl, sym, ap, _∙_}
+use native.Mathlib.Omega.{arith}
+use lib.Dec.{leb}
+use lib.ListN.{length, take, drop, length-drop}
+use lib.Seq.{drop-at, length-take-le}
+use lib.Ieee.{Float}
+use borrow.Author.Tests.{le-leb, lt-leb}
+use Rattle.lists.specs.Grow.{over}
+use Rattle.lists.specs.Part.{part}
+use Rattle.model.specs.declared.Header.{Header}
+use Rattle.model.specs.declared.Refusal.{Refusal}
+use Rattle.model.specs.Refusals.{refusedBy, noRefusal, zeros, cleared}
+use Rattle.model.specs.Recipe.{inputHeads, announcedPlaces, announcedSteps, total, largest}
+use Rattle.model.specs.Check.{orElse, checkRefusal}
+use Rattle.model.specs.Run.{lentRefusal}
+use Rattle.words.specs.Lengths.{lengths-of, count-most}
+use Rattle.kinds.specs.Known.{Known}
+use Rattle.recipes.specs.Asks.{or-first, or-next}
+use Rattle.recipes.specs.Judging.{heads}
+use Rattle.recipes.specs.Judged.{Judged}
+use Rattle.recipes.specs.Answered.{Passed, passed}
+use Rattle.recipes.specs.Running.{Admitted}
+
+-- c, p, w and s the lengths of coefficients, pool, words and scratch
+pub record Admits (hs ss : List ℕ) (c p w s : ℕ) (old new : List ℕ) (r : Refusal) : Type 0 where
+  pub answer : r ≡ orElse (checkRefusal hs ss) (lentRefusal hs ss c p w s)
+  pub len : length new ≡ length old
+  pub noted : r .number ≡ 0 → heads (length hs + length ss) new ≡ announcedPlaces hs ss
+
+module _ (hs ss : List ℕ) (c p w s : ℕ) {old new : List ℕ} {r : Refusal} (j : Judged hs ss old new r) where
+  pub admit-check : (r .number ≡ 0 → ⊥) → Admits hs ss c p w s old new r
+  admit-check n = record { answer = sym (rw (← j .answer) (or-first {r = r} (lentRefusal hs ss c p w s) n)); len = j .len; noted = j .noted }
+
+  module _ (z : r .number ≡ 0) where
+    past-check : orElse (checkRefusal hs ss) (lentRefusal hs ss c p w s) ≡ lentRefusal hs ss c p w s
+    past-check = or-next (checkRefusal hs ss) (lentRefusal hs ss c p w s) (ap (λ (x : Refusal). x .number) (sym (j .answer)) ∙ z)
+
+    lent : {q : Refusal} → q ≡ lentRefusal hs ss c p w s → Admits hs ss c p w s old new q
+    lent e = record { answer = e ∙ sym past-check; len = j .len; noted = λ y. j .noted z }
+
+    module _ {a : ℕ} (ea : a ≡ total (inputHeads hs)) where
+      pub admit-2 : c < a → Admits hs ss c p w s old new (refusedBy 2)
+      unfolding lentRefusal
+      admit-2 l = lent (rw (← ea) (simp (lt-leb _ _ l)))
+
+      module _ (la : a ≤ c) {b : ℕ} (eb : b ≡ total (announcedSteps hs ss)) where
+        pub admit-5 : (leb b p && leb (length ss) w) ≡ false → Admits hs ss c p w s old new (refusedBy 5)
+        unfolding lentRefusal
+        admit-5 l = lent (rw (← ea, ← eb) (simp (le-leb _ _ la, l)))
+
+        module _ (lb : (leb b p && leb (length ss) w) ≡ true) {m : ℕ} (em : m ≡ largest (announcedSteps hs ss)) where
+          pub admit-6 : s < 8 * m → Admits hs ss c p w s old new (refusedBy 6)
+          unfolding lentRefusal
+          admit-6 l = lent (rw (← ea, ← eb, ← em) (simp (le-leb _ _ la, lb, lt-leb _ _ l)))
+
+          pub admit-none : 8 * m ≤ s → Admits hs ss c p w s old new noRefusal
+          unfolding lentRefusal
+          admit-none l = lent (rw (← ea, ← eb, ← em) (simp (le-leb _ _ la, lb, le-leb _ _ l)))
+
+-- no announced count is large
+pub largest-most : (known : List Header) → Known known → largest known ≤ 16777216
+unfolding largest
+largest-most [] g = omega arith
+largest-most (h ∷ known) g = omega (arith, count-most (lengths-of (g .at 0 .rules)), largest-most known (record { at = λ p. g .at (suc p) }))
+
+-- ---- a run that is admitted
+
+module _ {hs : List ℕ} {cs : List Float} {ss known : List ℕ} {mp ms : ℕ} (g : Admitted hs cs ss known mp ms) where
+  pub run-passed : Passed hs ss known
+  run-passed = let j : Judged hs ss known known (checkRefusal hs ss) = record { answer = refl; len = refl; noted = λ z. g .noted } in passed j (g .none)
+
+  -- it needs no more scratch than the largest count asks for
+  pub admitted-exactly : {m : ℕ} → m ≡ 8 * largest (announcedSteps hs ss) → Admitted hs cs ss known mp m
+  admitted-exactly e = record { none = g .none; full = g .full; pool = g .pool; room = omega (arith, e); noted = g .noted; many = g .many }
+
+-- the words of the steps, then what was there
+pub words-end : (k n : ℕ) (known ws words : List ℕ) {new : List ℕ} → take n (drop k known) ≡ ws → k + n ≤ length known → new ≡ over (part k (k + n) known) words → new ≡ ws ++ drop n words
+words-end k n known ws words e l f =
+    let m : k + n - k ≡ n = omega arith in
+    let p : part k (k + n) known ≡ ws = ap (λ (z : ℕ). take z (drop k known)) m ∙ e in
+    let len : length ws ≡ n = ap length (sym e) ∙ length-take-le n (drop k known) (omega (arith, length-drop k known)) in
+    f ∙ rw (p, len)
+
+-- the scratch was used, and then cleared
+pub scratch-end : {m : ℕ} (n : ℕ) (old used : List Float) {front : List Float} {k : ℕ} → m ≡ 8 * n → length used ≡ m → front ≡ zeros k → k ≡ m → front ++ drop m (used ++ drop m old) ≡ cleared n old
+unfolding cleared
+scratch-end {m} n old used e l f j = rw (f, j, drop-at used (drop m old) m l, e)

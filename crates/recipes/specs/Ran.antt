@@ -1,0 +1,70 @@
+-- What a run answers and leaves behind: everything as it was where it is refused, else each step's value and true header, and a clear scratch.
+use Prim.Native.Nat.{ℕ, _+_, _*_, _≤_}
+use mathlib.Core.List.{List, map, _++_}
+use mathlib.Core.Path.{_≡_, sym, ap, _∙_}
+use lib.ListN.{length, drop}
+use lib.Ieee.{Float}
+use borrow.Author.Tests.{eq-eqb, ne-eqb}
+use Rattle.model.specs.declared.Refusal.{Refusal}
+use Rattle.model.specs.declared.RunAnswer.the-variants.{Done, Refused}
+use Rattle.model.specs.Word.{wordOf}
+use Rattle.model.specs.Refusals.{cleared}
+use Rattle.model.specs.Recipe.{announcedSteps, total, largest}
+use Rattle.model.specs.Check.{checkRefusal}
+use Rattle.model.specs.Run.{stepValues, laid, lentRefusal, runRefusal, runBy, runAnswer, runPool, runWords, runScratch}
+use Rattle.gates.specs.Gate.{leaves-no, leaves-yes}
+use Rattle.recipes.specs.Asks.{or-none}
+use Rattle.recipes.specs.Never.{Lent, lent-enough, run-refusal}
+use Rattle.recipes.specs.Running.{Admitted}
+use Rattle.recipes.specs.Admission.{Admits}
+
+module _ (hs : List ℕ) (cs : List Float) (ss : List ℕ) (pool : List Float) (words : List ℕ) (scratch : List Float) {old new : List ℕ} {r : Refusal}
+    (a : Admits hs ss (length cs) (length pool) (length words) (length scratch) old new r) where
+  refusal : r ≡ runRefusal hs cs ss pool words scratch
+  refusal = a .answer ∙ sym (run-refusal hs cs ss pool words scratch)
+
+  module _ (n : r .number ≡ 0 → ⊥) where
+    pub no-answer : Refused r ≡ runAnswer hs cs ss pool words scratch
+    unfolding runAnswer runBy
+    no-answer = rw (← refusal) (simp (ne-eqb (r .number) 0 n))
+
+    pub no-pool : pool ≡ runPool hs cs ss pool words scratch
+    unfolding runPool
+    no-pool = rw (← refusal) (leaves-no r _ pool n)
+
+    pub no-words : words ≡ runWords hs cs ss pool words scratch
+    unfolding runWords
+    no-words = rw (← refusal) (simp (ne-eqb (r .number) 0 n))
+
+    pub no-scratch : scratch ≡ runScratch hs cs ss pool words scratch
+    unfolding runScratch
+    no-scratch = rw (← refusal) (leaves-no r _ scratch n)
+
+  module _ (z : r .number ≡ 0) where
+    both : (checkRefusal hs ss .number ≡ 0) × (lentRefusal hs ss (length cs) (length pool) (length words) (length scratch) .number ≡ 0)
+    both = or-none _ _ (ap (λ (q : Refusal). q .number) (sym (a .answer)) ∙ z)
+
+    lent : Lent hs ss (length cs) (length pool) (length words) (length scratch)
+    lent = lent-enough hs ss (length cs) (length pool) (length words) (length scratch) (both .1)
+
+    pub admitted : 64 ≤ length new → Admitted hs cs ss new (length pool) (length scratch)
+    admitted m = record { none = both .0; full = lent .coeffs; pool = lent .pool; room = lent .scratch; noted = a .noted z; many = m }
+
+    pub enough-words : length ss ≤ length words
+    enough-words = lent .words
+
+    pub yes-answer : Done ≡ runAnswer hs cs ss pool words scratch
+    unfolding runAnswer runBy
+    yes-answer = rw (← refusal) (simp (eq-eqb (r .number) 0 z))
+
+    pub yes-pool : {p : List Float} → p ≡ laid (announcedSteps hs ss) (stepValues hs cs ss) ++ drop (total (announcedSteps hs ss)) pool → p ≡ runPool hs cs ss pool words scratch
+    unfolding runPool
+    yes-pool e = rw (← refusal) (e ∙ leaves-yes r _ pool z)
+
+    pub yes-words : {w : List ℕ} → w ≡ map (λ v. wordOf (v .head)) (stepValues hs cs ss) ++ drop (length ss) words → w ≡ runWords hs cs ss pool words scratch
+    unfolding runWords
+    yes-words e = rw (← refusal) (rw (eq-eqb (r .number) 0 z) e)
+
+    pub yes-scratch : {s : List Float} → s ≡ cleared (largest (announcedSteps hs ss)) scratch → s ≡ runScratch hs cs ss pool words scratch
+    unfolding runScratch
+    yes-scratch e = rw (← refusal) (e ∙ leaves-yes r _ scratch z)

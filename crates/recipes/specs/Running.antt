@@ -1,0 +1,432 @@
+-- A run after i steps: which words, starts and pool stand, and what one step more makes of them.
+use Prim.Native.Nat.{ℕ, zero, suc, _+_, _-_, _*_, _≤_, _<_}
+use mathlib.Core.Bool.{Bool, true, false, _&&_, cond}
+use mathlib.Core.List.{List, [], _∷_, _++_, map, append-assoc, append-nil}
+use mathlib.Core.Path.{_≡_, refl, sym, ap, _∙_}
+use native.Mathlib.Omega.{arith}
+use native.Mathlib.Numerals.{add-one}
+use lib.Dec.{ltb, leb, eqb}
+use lib.ListN.{length, getD, set, take, drop, length-take, length-drop, length-set, length-map, take-append-drop, List·getD-append}
+use lib.Seq.{take-suc, take-add, take-all, take-take, length-take-le, drop-drop, drop-append-le, getD-at, getD-drop, getD-take, getD-set-same, getD-set-other, ext-getD}
+use lib.Ieee.{Float}
+use borrow.Author.Tests.{eqb-true, eqb-false, le-leb, ltb-true, le-ltb, lt-ltb, leb-true, leb-false}
+use Rattle.lists.specs.Test.{decide}
+use Rattle.lists.specs.Chain.{chain, chain-append, chain-cons, chain-none, chain-keeps, length-chain}
+use Rattle.lists.specs.Part.{part, Kept}
+use Rattle.model.specs.declared.Header.{Header}
+use Rattle.model.specs.declared.Step.{Step}
+use Rattle.model.specs.Header.{limit, stored, noHeader}
+use Rattle.model.specs.Word.{headerOf, wordOf}
+use Rattle.model.specs.Refusals.{padded}
+use Rattle.model.specs.Poly.{Poly}
+use Rattle.model.specs.Steps.{stepOf, rows, usesOf}
+use Rattle.model.specs.Recipe.{headAt, announcedStep, inputHeads, announcedPlaces, announcedSteps, total, largest}
+use Rattle.model.specs.Check.{namedBefore, formed, checkRefusal}
+use Rattle.model.specs.Reasons.{no-kind}
+use Rattle.model.specs.Run.{inputValues, noValue, valueAt, stepValue, values, stepValues, laid}
+use Rattle.words.specs.Rules.{Ruled, Regular}
+use Rattle.words.specs.Words.{unpack-pack}
+use Rattle.words.specs.Lengths.{lengths-of, count-pos}
+use Rattle.shape.specs.Keeps.{Keeps}
+use Rattle.shape.specs.Under.{count-under}
+use Rattle.kinds.specs.Known.{head-at, small-variable, step-regular}
+use Rattle.steps.specs.Lent.{Lent}
+use Rattle.steps.specs.Ready.{valueOf, Known, Ready, Placed}
+use Rattle.recipes.specs.Judging.{heads}
+use Rattle.recipes.specs.Judged.{accepts}
+use Rattle.recipes.specs.Formed.{formed-tests, formed-right}
+use Rattle.recipes.specs.Exact.{length-known}
+use Rattle.recipes.specs.EachKind.{by-kind}
+use Rattle.recipes.specs.Follows.{length-inputs, follows-known}
+use Rattle.recipes.specs.Ahead.{Clear, ahead-at, clear-at, ready-at, keeps-at, announced-at, length-announced, step-largest}
+use Rattle.recipes.specs.Passed.{StepReady, inLimit}
+use Rattle.recipes.specs.Standing.{lyingAt, Named, StepIn, constant-value, Begun, total-more, At, at-lying, at-lies, at-later, at-new, input-at}
+
+-- ---- operands of a step that is right
+
+uses-a : (k : ℕ) → k ≤ 10 → (k ≡ 0 → ⊥) → usesOf k .a ≡ true
+unfolding rows
+uses-a =
+    by-kind {P = λ k. k ≤ 10 → (k ≡ 0 → ⊥) → usesOf k .a ≡ true}
+    (record {
+      k0 = λ _ n. absurd (n refl);
+      k1 = λ _ _. refl;
+      k2 = λ _ _. refl;
+      k3 = λ _ _. refl;
+      k4 = λ _ _. refl;
+      k5 = λ _ _. refl;
+      k6 = λ _ _. refl;
+      k7 = λ _ _. refl;
+      k8 = λ _ _. refl;
+      k9 = λ _ _. refl;
+      k10 = λ _ _. refl;
+      past = λ k l _. absurd (omega (arith, l));
+    })
+
+before-yes : (p x : ℕ) {u : Bool} → u ≡ true → namedBefore p u x ≡ true → x < p
+before-yes p x e t = ltb-true _ _ (rw e at t)
+
+before-any : (p x : ℕ) (u : Bool) → 0 < p → namedBefore p u x ≡ true → x < p
+before-any p x true l t = ltb-true _ _ t
+before-any p x false l t = let e : x ≡ 0 = eqb-true _ _ t in omega arith
+
+module _ (w p : ℕ) (f : formed w p ≡ true) where
+  abbrev s : Step
+  s = stepOf w
+
+  pub few-kinds : s .kind ≤ 10
+  few-kinds = decide (leb (s .kind) 10) (leb-true _ _) (λ t. absurd (formed-right w p f (no-kind (leb-false _ _ t))))
+
+  pub operands-early : (s .kind ≡ 0 → ⊥) → (s .a < p) × (s .b < p)
+  operands-early n =
+      let t = formed-tests w p f in
+      let a : s .a < p = before-yes p (s .a) (uses-a (s .kind) few-kinds n) (t .a) in
+      (a, before-any p (s .b) (usesOf (s .kind) .b) (omega arith) (t .b))
+
+-- one of a list that was made from another
+map-at : (f : Poly → ℕ) (l : List Poly) (j : ℕ) → j < length l → getD (map f l) j 0 ≡ f (getD l j noValue)
+map-at f [] j h = absurd (omega arith)
+map-at f (x ∷ l) zero h = refl
+map-at f (x ∷ l) (suc j) h = map-at f l j (omega arith)
+
+-- ---- values end to end
+
+laid-snoc : (xs : List Header) (ys : List Poly) (h : Header) (v : Poly) → length ys ≡ length xs → laid (xs ++ (h ∷ [])) (ys ++ (v ∷ [])) ≡ laid xs ys ++ padded (stored h) (v .coeffs)
+unfolding laid
+laid-snoc [] [] h v e = append-nil (padded (stored h) (v .coeffs))
+laid-snoc [] (y ∷ ys) h v e = absurd (omega (arith, e))
+laid-snoc (x ∷ xs) [] h v e = absurd (omega (arith, e))
+laid-snoc (x ∷ xs) (y ∷ ys) h v e =
+    ap (λ (l : List Float). padded (stored x) (y .coeffs) ++ l) (laid-snoc xs ys h v (omega (arith, e)))
+    ∙ sym (append-assoc (padded (stored x) (y .coeffs)) (laid xs ys) (padded (stored h) (v .coeffs)))
+
+total-front : (known : List Header) (i : ℕ) → total (take i known) ≤ total known
+unfolding total
+total-front known zero = omega arith
+total-front [] (suc i) = omega arith
+total-front (h ∷ known) (suc i) = omega (arith, total-front known i)
+
+input-head : (hs : List ℕ) (cs : List Float) (q : ℕ) → headAt (inputHeads hs) q ≡ valueAt (inputValues hs cs) q .head
+unfolding inputValues
+input-head [] cs q = refl
+input-head (w ∷ ws) cs zero = refl
+input-head (w ∷ ws) cs (suc q) = input-head ws (drop (stored (headerOf w)) cs) q
+
+-- ---- the run
+
+-- the check accepts, the buffers are as long as it says, and the words that the places announce are known
+pub record Admitted (hs : List ℕ) (cs : List Float) (ss : List ℕ) (known : List ℕ) (mp ms : ℕ) : Type 0 where
+  pub none : checkRefusal hs ss .number ≡ 0
+  pub full : total (inputHeads hs) ≤ length cs
+  pub pool : total (announcedSteps hs ss) ≤ mp
+  pub room : 8 * largest (announcedSteps hs ss) ≤ ms
+  pub noted : heads (length hs + length ss) known ≡ announcedPlaces hs ss
+  pub many : 64 ≤ length known
+
+-- old the words and the pool as they came
+pub record Running (hs : List ℕ) (cs : List Float) (ss old-known : List ℕ) (old-pool : List Float) (i at : ℕ) (known starts : List ℕ) (pool : List Float) : Type 0 where
+  pub most : i ≤ length ss
+  pub offset : at ≡ total (take i (announcedSteps hs ss))
+  pub len-known : length known ≡ length old-known
+  pub len-starts : 64 ≤ length starts
+  pub len-pool : length pool ≡ length old-pool
+  pub true-heads : (q : ℕ) → q < length hs + i → headerOf (getD known q 0) ≡ valueAt (values hs cs (take i ss)) q .head
+  pub written : (j : ℕ) → j < i → getD known (length hs + j) 0 ≡ wordOf (valueAt (values hs cs (take i ss)) (length hs + j) .head)
+  pub later : (q : ℕ) → length hs + i ≤ q → getD known q 0 ≡ getD old-known q 0
+  pub stands : (q : ℕ) → q < length hs + i → At (ltb q (length hs)) (getD starts q 0) cs (take at pool) (valueAt (values hs cs (take i ss)) q)
+  pub lies : take at pool ≡ laid (take i (announcedSteps hs ss)) (drop (length hs) (values hs cs (take i ss)))
+  pub rest : drop at pool ≡ drop at old-pool
+
+module _ {hs : List ℕ} {cs : List Float} {ss old-known : List ℕ} {mp ms : ℕ} (g : Admitted hs cs ss old-known mp ms) where
+  abbrev k : ℕ
+  k = length hs
+
+  pub fit : k + length ss ≤ 64
+  fit = accepts hs ss (g .none) .sizes .fit
+
+  count-inputs : length (inputValues hs cs) ≡ k
+  count-inputs = length-inputs hs cs ∙ length-map hs headerOf
+
+  length-values : (i : ℕ) → i ≤ length ss → length (values hs cs (take i ss)) ≡ k + i
+  unfolding values
+  length-values i l = omega (arith, length-chain stepValue (inputValues hs cs) (take i ss), count-inputs, length-take-le i ss l)
+
+  -- what the word of a place that has no value yet announces
+  noted-at : (q : ℕ) → q < k + length ss → headerOf (getD old-known q 0) ≡ headAt (announcedPlaces hs ss) q
+  noted-at q l =
+      ap headerOf (sym (getD-take (k + length ss) old-known q 0 l))
+      ∙ (sym (head-at (take (k + length ss) old-known) q) ∙ ap (λ (x : List Header). headAt x q) (g .noted))
+
+  first-head : (q : ℕ) → q < k → headAt (announcedPlaces hs ss) q ≡ valueAt (inputValues hs cs) q .head
+  unfolding announcedPlaces
+  first-head q l =
+      let e : take k (chain announcedStep (inputHeads hs) ss) ≡ inputHeads hs =
+      chain-keeps announcedStep (inputHeads hs) ss k (omega (arith, length-map hs headerOf)) ∙ take-all k (inputHeads hs) (omega (arith, length-map hs headerOf)) in
+      sym (getD-take k (chain announcedStep (inputHeads hs) ss) q noHeader l) ∙ (ap (λ (x : List Header). headAt x q) e ∙ input-head hs cs q)
+
+  -- ---- at the beginning
+  pub running-none : {starts : List ℕ} (pool : List Float) {old : List ℕ} → Begun hs k old starts → 64 ≤ length old → Running hs cs ss old-known pool 0 0 old-known starts pool
+  unfolding total values chain laid
+  running-none {starts} pool b l =
+      record {
+        most = omega arith;
+        offset = refl;
+        len-known = refl;
+        len-starts = omega (arith, b .len);
+        len-pool = refl;
+        true-heads = λ q h. noted-at q (omega arith) ∙ first-head q (omega arith);
+        written = λ j h. absurd (omega arith);
+        later = λ q h. refl;
+        stands = λ q h. rw (lt-ltb q k (omega arith), b .from q (omega arith)) (input-at hs cs q (omega arith) (g .full));
+        lies = refl;
+        rest = refl;
+      }
+
+  -- ---- one step more
+  module _ {old-pool : List Float} {i at : ℕ} {known starts : List ℕ} {pool : List Float} (r : Running hs cs ss old-known old-pool i at known starts pool) (l : i < length ss) where
+    abbrev w : ℕ
+    w = getD ss i 0
+
+    abbrev before : List Header
+    before = announcedPlaces hs (take i ss)
+
+    abbrev vs : List Poly
+    vs = values hs cs (take i ss)
+
+    abbrev step : Step
+    step = stepOf w
+
+    next : headAt (announcedSteps hs ss) i ≡ announcedStep w before
+    unfolding announcedSteps
+    next = getD-drop k (announcedPlaces hs ss) i noHeader ∙ announced-at hs ss i l
+
+    announced-rules : Regular (announcedStep w before)
+    announced-rules = step-regular w (follows-known (ahead-at hs cs ss (g .none) (g .full) (g .room) i .now))
+
+    head-is : headerOf (getD known (k + i) 0) ≡ announcedStep w before
+    head-is = ap headerOf (r .later (k + i) (omega arith)) ∙ (noted-at (k + i) (omega arith) ∙ announced-at hs ss i l)
+
+    pub room-ruled : Ruled (headerOf (getD known (k + i) 0))
+    room-ruled = rw head-is (announced-rules .rules)
+
+    -- its announced count
+    pub room-is : stored (headerOf (getD known (k + i) 0)) ≡ stored (announcedStep w before)
+    room-is = ap stored head-is
+
+    clear-now : Clear w before
+    clear-now = clear-at hs cs ss (g .none) (g .full) (g .room) i l
+
+    ready-now : StepReady w vs (stored (announcedStep w before)) ms
+    ready-now = ready-at hs cs ss (g .none) (g .full) (g .room) i l
+
+    keeps-now : Keeps (announcedStep w before) (stepValue w vs)
+    keeps-now = keeps-at hs cs ss (g .none) (g .full) (g .room) i l
+
+    formed-at : formed w (k + i) ≡ true
+    unfolding announcedPlaces
+    formed-at = rw (length-known hs ss i l) at (clear-now .formed)
+
+    same-value : valueOf step (valueAt vs (step .a)) (valueAt vs (step .b)) ≡ stepValue w vs
+    unfolding valueOf stepValue
+    same-value = refl
+
+    sum-next : total (take (i + 1) (announcedSteps hs ss)) ≡ at + stored (announcedStep w before)
+    sum-next = rw (add-one i) (total-more (announcedSteps hs ss) i (omega (arith, length-announced hs ss)) ∙ omega (arith, r .offset, ap stored next))
+
+    module _ {room : ℕ} (er : room ≡ stored (announcedStep w before)) where
+      fits : at + room ≤ mp
+      fits = omega (arith, sum-next, total-front (announcedSteps hs ss) (i + 1), g .pool)
+
+      pub step-lent : length pool ≡ mp → Lent room at (length pool) ms
+      unfolding announcedPlaces
+      step-lent e = record { room = omega (arith, fits); spare = omega (arith, step-largest hs ss i l, g .room); small = omega (arith, clear-now .most) }
+
+      length-before : length pool ≡ mp → length (take at pool) ≡ at
+      length-before e = length-take-le at pool (omega (arith, fits))
+
+      -- a place that has its value is where it is said to be
+      pub place-is : (q : ℕ) → q < k + i → lyingAt k known starts cs (take at pool) q ≡ valueAt vs q
+      place-is q h = rw (r .true-heads q h) (at-lying (r .stands q h))
+
+      number-below : 7 ≤ step .kind → step .kind ≤ 9 → step .n < limit (valueAt vs (step .a) .head) (step .variable)
+      number-below h t = ltb-true _ _ (rw (le-leb 7 (step .kind) h, le-leb (step .kind) 9 t) at (ready-now .number))
+
+      named : length pool ≡ mp → (step .kind ≡ 0 → ⊥) → Named step k known starts (length cs) at room
+      named e n =
+          let o = operands-early w (k + i) formed-at n in
+          let ha = r .true-heads (step .a) (o .0) in
+          let hb = r .true-heads (step .b) (o .1) in
+          let kn = r .len-known in
+          let st = r .len-starts in
+          record {
+            a-known = omega (arith, o .0, fit, g .many);
+            a-starts = omega (arith, o .0, fit);
+            b-known = omega (arith, o .1, fit, g .many);
+            b-starts = omega (arith, o .1, fit);
+            ready = rw (ha, hb) (record {
+              left = ready-now .a .good;
+              right = ready-now .b .good;
+              known = record { some = omega arith; most = few-kinds w (k + i) formed-at; var = λ h t. small-variable w; below = number-below };
+              fits = rw er (ready-now .room .fits);
+            });
+            placed = rw (ha, hb) (record { left = at-lies (r .stands (step .a) (o .0)) (length-before e); right = at-lies (r .stands (step .b) (o .1)) (length-before e) });
+          }
+
+      pub step-in : length pool ≡ mp → StepIn step k known starts (length cs) at room
+      step-in e = record { some = rw er (count-pos (lengths-of (announced-rules .rules))); named = named e }
+
+      -- ---- after it
+
+      -- its value is the operation's
+      value-is : valueOf step (lyingAt k known starts cs (take at pool) (step .a)) (lyingAt k known starts cs (take at pool) (step .b)) ≡ stepValue w vs
+      value-is =
+          decide (eqb (step .kind) 0)
+          (λ t. let e = eqb-true (step .kind) 0 t in sym (constant-value step _ _ e) ∙ (constant-value step (valueAt vs (step .a)) (valueAt vs (step .b)) e ∙ same-value))
+          (λ t. let o = operands-early w (k + i) formed-at (eqb-false (step .kind) 0 t) in
+          ap (λ (v : Poly). valueOf step v (lyingAt k known starts cs (take at pool) (step .b))) (place-is (step .a) (o .0))
+          ∙ (ap (valueOf step (valueAt vs (step .a))) (place-is (step .b) (o .1)) ∙ same-value))
+
+      next-values : values hs cs (take (i + 1) ss) ≡ vs ++ (stepValue w vs ∷ [])
+      unfolding values
+      next-values =
+          rw (add-one i) (ap (chain stepValue (inputValues hs cs)) (take-suc ss i 0 l)
+          ∙ (chain-append stepValue (inputValues hs cs) (take i ss) (w ∷ []) ∙ (chain-cons stepValue vs w [] ∙ chain-none stepValue (vs ++ (stepValue w vs ∷ [])))))
+
+      old-value : (q : ℕ) → q < k + i → valueAt (vs ++ (stepValue w vs ∷ [])) q ≡ valueAt vs q
+      old-value q h = List·getD-append vs (stepValue w vs ∷ []) noValue q (omega (arith, length-values i (r .most)))
+
+      new-value : valueAt (vs ++ (stepValue w vs ∷ [])) (k + i) ≡ stepValue w vs
+      new-value = getD-at vs (stepValue w vs) [] noValue (k + i) (length-values i (r .most))
+
+      module _ {word : ℕ} {pool' : List Float} (e : length pool ≡ mp)
+          (ew : word ≡ wordOf (valueOf step (lyingAt k known starts cs (take at pool) (step .a)) (lyingAt k known starts cs (take at pool) (step .b)) .head))
+          (ek : Kept at (at + room) (padded room (valueOf step (lyingAt k known starts cs (take at pool) (step .a)) (lyingAt k known starts cs (take at pool) (step .b)) .coeffs)) pool pool') where
+        abbrev v : Poly
+        v = stepValue w vs
+
+        word-is : word ≡ wordOf (v .head)
+        word-is = ew ∙ ap (λ (p : Poly). wordOf (p .head)) value-is
+
+        kept : Kept at (at + room) (padded room (v .coeffs)) pool pool'
+        kept = rw value-is at ek
+
+        abbrev known' : List ℕ
+        known' = set known (k + i) word
+
+        abbrev starts' : List ℕ
+        starts' = set starts (k + i) at
+
+        abbrev after : List Float
+        after = take (at + room) pool'
+
+        len-pool' : length pool' ≡ length pool
+        len-pool' = kept .below .len
+
+        small : length known ≡ length old-known
+        small = r .len-known
+
+        at-place : (q : ℕ) → q < k + (i + 1) → (q ≡ k + i → ⊥) → q < k + i
+        at-place q h n = omega arith
+
+        head-new : headerOf word ≡ v .head
+        head-new = ap headerOf word-is ∙ unpack-pack (v .head) (keeps-now .regular)
+
+        heads-more : (q : ℕ) → q < k + (i + 1) → headerOf (getD known' q 0) ≡ valueAt (vs ++ (v ∷ [])) q .head
+        heads-more q h =
+            decide (eqb q (k + i))
+            (λ t. let z : q ≡ k + i = eqb-true q (k + i) t in rw z (ap headerOf (getD-set-same known (k + i) word 0 (omega (arith, fit, g .many, small))) ∙ (head-new ∙ ap (λ (p : Poly). p .head) (sym new-value))))
+            (λ t. let n = eqb-false q (k + i) t in let o = at-place q h n in
+            ap headerOf (getD-set-other known (k + i) q word 0 n) ∙ (r .true-heads q o ∙ ap (λ (p : Poly). p .head) (sym (old-value q o))))
+
+        written-more : (j : ℕ) → j < i + 1 → getD known' (k + j) 0 ≡ wordOf (valueAt (vs ++ (v ∷ [])) (k + j) .head)
+        written-more j h =
+            decide (eqb j i)
+            (λ t. let z : j ≡ i = eqb-true j i t in rw z (getD-set-same known (k + i) word 0 (omega (arith, fit, g .many, small)) ∙ (word-is ∙ ap (λ (p : Poly). wordOf (p .head)) (sym new-value))))
+            (λ t. let n : k + j ≡ k + i → ⊥ = λ z. eqb-false j i t (omega (arith, z)) in let o : j < i = omega (arith, eqb-false j i t) in
+            getD-set-other known (k + i) (k + j) word 0 n ∙ (r .written j o ∙ ap (λ (p : Poly). wordOf (p .head)) (sym (old-value (k + j) (omega arith)))))
+
+        later-more : (q : ℕ) → k + (i + 1) ≤ q → getD known' q 0 ≡ getD old-known q 0
+        later-more q h = let n : q ≡ k + i → ⊥ = λ z. omega arith in getD-set-other known (k + i) q word 0 n ∙ r .later q (omega arith)
+
+        longer : at + room ≤ length pool'
+        longer = omega (arith, len-pool', fits)
+
+        front-same : take at after ≡ take at pool
+        front-same = take-take at (at + room) pool' (omega arith) ∙ kept .below .head
+
+        stands-more : (q : ℕ) → q < k + (i + 1) → At (ltb q k) (getD starts' q 0) cs after (valueAt (vs ++ (v ∷ [])) q)
+        stands-more q h =
+            decide (eqb q (k + i))
+            (λ t. let z : q ≡ k + i = eqb-true q (k + i) t in
+            rw (z, le-ltb (k + i) k (omega arith), getD-set-same starts (k + i) at 0 (omega (arith, fit, r .len-starts)), new-value)
+            (at-new cs kept (keeps-now .full) (omega (arith, count-under (keeps-now .under), er)) longer))
+            (λ t. let n = eqb-false q (k + i) t in let o = at-place q h n in
+            rw (getD-set-other starts (k + i) q at 0 n, old-value q o)
+            (at-later (ltb q k) (r .stands q o) (length-before e) front-same (omega (arith, length-take-le (at + room) pool' longer))))
+
+        lies-more : after ≡ laid (take (i + 1) (announcedSteps hs ss)) (drop k (vs ++ (v ∷ [])))
+        lies-more =
+            let len : length (take i (announcedSteps hs ss)) ≡ i = length-take-le i (announcedSteps hs ss) (omega (arith, length-announced hs ss)) in
+            let z : at + room - at ≡ room = omega arith in
+            let d : drop k (vs ++ (stepValue w vs ∷ [])) ≡ drop k vs ++ (stepValue w vs ∷ []) = drop-append-le k vs (stepValue w vs ∷ []) (omega (arith, length-values i (r .most))) in
+            let t : take (i + 1) (announcedSteps hs ss) ≡ take i (announcedSteps hs ss) ++ (announcedStep w before ∷ []) =
+            rw (add-one i) (take-suc (announcedSteps hs ss) i noHeader (omega (arith, length-announced hs ss)) ∙ ap (λ (h : Header). take i (announcedSteps hs ss) ++ (h ∷ [])) next) in
+            take-add at room pool'
+            ∙ (ap (λ (x : List Float). x ++ take room (drop at pool')) (kept .below .head ∙ r .lies)
+            ∙ (ap (λ (x : List Float). laid (take i (announcedSteps hs ss)) (drop k vs) ++ x) (ap (λ (n : ℕ). take n (drop at pool')) (sym z) ∙ (kept .holds ∙ ap (λ (n : ℕ). padded n (stepValue w vs .coeffs)) er))
+            ∙ (sym (laid-snoc (take i (announcedSteps hs ss)) (drop k vs) (announcedStep w before) (stepValue w vs) (omega (arith, len, length-drop k vs, length-values i (r .most))))
+            ∙ rw (t, d))))
+
+        rest-more : drop (at + room) pool' ≡ drop (at + room) old-pool
+        rest-more = kept .above ∙ (sym (drop-drop room at pool) ∙ (ap (drop room) (r .rest) ∙ drop-drop room at old-pool))
+
+        pub running-more : Running hs cs ss old-known old-pool (i + 1) (at + room) (set known (k + i) word) (set starts (k + i) at) pool'
+        running-more =
+            record {
+              most = omega arith;
+              offset = omega (arith, sum-next, er);
+              len-known = length-set known (k + i) word ∙ r .len-known;
+              len-starts = omega (arith, length-set starts (k + i) at, r .len-starts);
+              len-pool = len-pool' ∙ r .len-pool;
+              true-heads = λ q h. rw next-values (heads-more q h);
+              written = λ j h. rw next-values (written-more j h);
+              later = later-more;
+              stands = λ q h. rw next-values (stands-more q h);
+              lies = rw next-values lies-more;
+              rest = rest-more;
+            }
+
+  -- ---- at the end
+  module _ {old-pool : List Float} {i at : ℕ} {known starts : List ℕ} {pool : List Float} (r : Running hs cs ss old-known old-pool i at known starts pool) (l : length ss ≤ i) where
+    all-done : i ≡ length ss
+    all-done = omega (arith, r .most)
+
+    all-steps : take i ss ≡ ss
+    all-steps = take-all i ss l
+
+    pub end-pool : pool ≡ laid (announcedSteps hs ss) (stepValues hs cs ss) ++ drop (total (announcedSteps hs ss)) old-pool
+    unfolding stepValues
+    end-pool =
+        let t : take i (announcedSteps hs ss) ≡ announcedSteps hs ss = take-all i (announcedSteps hs ss) (omega (arith, length-announced hs ss)) in
+        let o : at ≡ total (announcedSteps hs ss) = r .offset ∙ ap total t in
+        let f : take at pool ≡ laid (announcedSteps hs ss) (drop k (values hs cs ss)) = r .lies ∙ rw (t, all-steps) in
+        sym (take-append-drop at pool)
+        ∙ (ap (λ (x : List Float). x ++ drop at pool) f
+        ∙ ap (λ (x : List Float). laid (announcedSteps hs ss) (drop k (values hs cs ss)) ++ x) (r .rest ∙ ap (λ (n : ℕ). drop n old-pool) o))
+
+    pub end-words : take (length ss) (drop k known) ≡ map (λ v. wordOf (v .head)) (stepValues hs cs ss)
+    unfolding stepValues
+    end-words =
+        let word : Poly → ℕ = λ v. wordOf (v .head) in
+        let m : length (values hs cs (take i ss)) ≡ k + length ss = omega (arith, length-values i (r .most), all-done) in
+        let n : length (values hs cs ss) ≡ k + length ss = ap (λ (x : List ℕ). length (values hs cs x)) (sym all-steps) ∙ m in
+        let d : length (drop k (values hs cs ss)) ≡ length ss = omega (arith, length-drop k (values hs cs ss)) in
+        let len : length (take (length ss) (drop k known)) ≡ length ss = length-take-le (length ss) (drop k known) (omega (arith, length-drop k known, r .len-known, g .many, fit)) in
+        ext-getD 0 (take (length ss) (drop k known)) (map word (drop k (values hs cs ss))) (len ∙ sym (length-map (drop k (values hs cs ss)) word ∙ d))
+        (λ j h.
+        let m : j < length ss = omega (arith, len) in
+        getD-take (length ss) (drop k known) j 0 m
+        ∙ (getD-drop k known j 0
+        ∙ (r .written j (omega arith)
+        ∙ (ap (λ (x : List ℕ). word (valueAt (values hs cs x) (k + j))) all-steps
+        ∙ (ap word (sym (getD-drop k (values hs cs ss) j noValue)) ∙ sym (map-at word (drop k (values hs cs ss)) j (omega (arith, d))))))))

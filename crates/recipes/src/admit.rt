@@ -1,0 +1,83 @@
+// Whether a recipe is run, and the run of one that is admitted.
+use crate::judge::judge;
+use crate::judge::largest_of;
+use crate::judge::note_inputs;
+use crate::judge::total_of;
+use crate::running::note_starts;
+use crate::running::run_steps;
+use model::Refusal;
+ghost use mathlib.Core.Path.{_≡_};
+ghost use mathlib.Core.List.{map, _++_};
+ghost use Prim.Native.Nat.{_≤_};
+ghost use lib.ListN.{length, drop};
+ghost use Rattle.model.specs.Word.{wordOf};
+ghost use Rattle.model.specs.Refusals.{cleared};
+ghost use Rattle.model.specs.Recipe.{announcedSteps, total, largest};
+ghost use Rattle.model.specs.Run.{stepValues, laid};
+ghost use Rattle.recipes.specs.Running.{Admitted};
+ghost use Rattle.recipes.specs.Admission.{Admits};
+
+// Why a run is refused: the check, then tests 2, 5, 6 by the lengths of the buffers. Where it is not, the words that all places announce stand in `known`.
+pub fn admit(
+    headers: &[u64],
+    steps: &[u64],
+    coefficients: usize,
+    pool: usize,
+    words: usize,
+    scratch: usize,
+    known: &mut [u64],
+) -> Refusal
+    requires { ⌜ 64 ≤ length (now known) ⌝ }
+    ensures { λ r. ⌜ Admits (now (headers .entry)) (now (steps .entry)) coefficients pool words scratch (now (known .entry)) (now (known .exit)) r ⌝ }
+{
+    let refusal = judge(headers, steps, known);
+    if refusal.number != 0 {
+        return refusal;
+    }
+    if coefficients < total_of(headers) {
+        return Refusal::by(2);
+    }
+    let from = headers.len();
+    let to = from + steps.len();
+    let total = total_of(&known[from..to]);
+    if !((total <= pool) & (steps.len() <= words)) {
+        return Refusal::by(5);
+    }
+    if scratch < 8 * largest_of(&known[from..to]) {
+        return Refusal::by(6);
+    }
+    Refusal::none()
+}
+
+// The run: step values end to end in the pool, true header words one a step, the scratch's first 8 times the largest count at +0.0.
+pub fn run_admitted(
+    headers: &[u64],
+    coefficients: &[f64],
+    steps: &[u64],
+    known: &mut [u64],
+    pool: &mut [f64],
+    words: &mut [u64],
+    scratch: &mut [f64],
+)
+    requires { ⌜ Admitted (now headers) (now coefficients) (now steps) (now known) (length (now pool)) (length (now scratch)) ⌝ ∗ ⌜ length (now steps) ≤ length (now words) ⌝ }
+    ensures values { λ _. ⌜ now (pool .exit) ≡ laid (announcedSteps (now (headers .entry)) (now (steps .entry))) (stepValues (now (headers .entry)) (now (coefficients .entry)) (now (steps .entry))) ++ drop (total (announcedSteps (now (headers .entry)) (now (steps .entry)))) (now (pool .entry)) ⌝ }
+    ensures words { λ _. ⌜ now (words .exit) ≡ map (λ v. wordOf (v .head)) (stepValues (now (headers .entry)) (now (coefficients .entry)) (now (steps .entry))) ++ drop (length (now (steps .entry))) (now (words .entry)) ⌝ }
+    ensures cleared { λ _. ⌜ now (scratch .exit) ≡ cleared (largest (announcedSteps (now (headers .entry)) (now (steps .entry)))) (now (scratch .entry)) ⌝ }
+{
+    let from = headers.len();
+    let to = from + steps.len();
+    let room = 8 * largest_of(&known[from..to]);
+    let mut starts = [0usize; 64];
+    note_starts(headers, &mut starts);
+    run_steps(
+        headers,
+        coefficients,
+        steps,
+        known,
+        &mut starts,
+        pool,
+        &mut scratch[..room],
+    );
+    note_inputs(&known[from..to], words);
+    blocks::clear(&mut scratch[..room]);
+}

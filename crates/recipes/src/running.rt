@@ -1,0 +1,115 @@
+// The steps of a run, one after the other. `known` holds a header word a place: the true one of every place that has its value, the announced one of the others.
+// `starts` says where each value begins, an input's among the coefficients, a step's in the pool.
+use gates::stored_of;
+use kinds::step::step_of;
+use model::Header;
+use model::Step;
+use steps::perform::constant_to;
+use steps::perform::perform;
+use words::word::header_of;
+use words::word::pack;
+ghost use mathlib.Core.Path.{_≡_};
+ghost use mathlib.Core.List.{map, _++_};
+ghost use Prim.Native.Nat.{_+_, _≤_};
+ghost use lib.ListN.{length, take, drop};
+ghost use Rattle.lists.specs.Part.{Kept};
+ghost use Rattle.model.specs.Word.{headerOf, wordOf};
+ghost use Rattle.model.specs.Refusals.{padded};
+ghost use Rattle.model.specs.Recipe.{inputHeads, announcedSteps, total};
+ghost use Rattle.model.specs.Run.{stepValues, laid};
+ghost use Rattle.kinds.specs.Known.{Known};
+ghost use Rattle.steps.specs.Lent.{Lent};
+ghost use Rattle.steps.specs.Ready.{valueOf};
+ghost use Rattle.recipes.specs.Standing.{lyingAt, StepIn, Begun};
+ghost use Rattle.recipes.specs.Running.{Admitted, Running};
+
+// Where each input begins.
+pub fn note_starts(headers: &[u64], starts: &mut [usize])
+    requires { ⌜ Known (inputHeads (now headers)) ⌝ ∗ ⌜ (length (now headers) ≤ length (now starts)) × (length (now headers) ≤ 64) ⌝ }
+    ensures { λ _. ⌜ Begun (now (headers .entry)) (length (now (headers .entry))) (now (starts .entry)) (now (starts .exit)) ⌝ }
+{
+    let mut from = 0;
+    let mut i = 0;
+    while i < headers.len() {
+        starts[i] = from;
+        from += stored_of(header_of(headers[i]));
+        i += 1;
+    }
+}
+
+// The value of a step to the pool from `at` on, with +0.0 up to `room` places; answers its header word.
+fn step_word(
+    s: Step,
+    inputs: usize,
+    known: &[u64],
+    starts: &[usize],
+    coefficients: &[f64],
+    pool: &mut [f64],
+    at: usize,
+    room: usize,
+    scratch: &mut [f64],
+) -> u64
+    requires { ⌜ StepIn s inputs (now known) (now starts) (length (now coefficients)) at room ⌝ ∗ ⌜ Lent room at (length (now pool)) (length (now scratch)) ⌝ }
+    ensures word { λ r. ⌜ r ≡ wordOf (valueOf s (lyingAt inputs (now (known .entry)) (now (starts .entry)) (now (coefficients .entry)) (take at (now (pool .entry))) (s .a)) (lyingAt inputs (now (known .entry)) (now (starts .entry)) (now (coefficients .entry)) (take at (now (pool .entry))) (s .b)) .head) ⌝ }
+    ensures kept { λ r. ⌜ Kept at (at + room) (padded room (valueOf s (lyingAt inputs (now (known .entry)) (now (starts .entry)) (now (coefficients .entry)) (take at (now (pool .entry))) (s .a)) (lyingAt inputs (now (known .entry)) (now (starts .entry)) (now (coefficients .entry)) (take at (now (pool .entry))) (s .b)) .coeffs)) (now (pool .entry)) (now (pool .exit)) ⌝ }
+{
+    if s.kind == 0 {
+        constant_to(s.n, pool, at, room);
+        return pack(Header::none());
+    }
+    let a = s.a;
+    let b = s.b;
+    perform(
+        s,
+        known[a],
+        a < inputs,
+        starts[a],
+        known[b],
+        b < inputs,
+        starts[b],
+        coefficients,
+        pool,
+        at,
+        room,
+        scratch,
+    )
+}
+
+// Every step in order. `known` holds the words that all places announce, `starts` where the inputs begin.
+pub fn run_steps(
+    headers: &[u64],
+    coefficients: &[f64],
+    steps: &[u64],
+    known: &mut [u64],
+    starts: &mut [usize],
+    pool: &mut [f64],
+    scratch: &mut [f64],
+)
+    requires { ⌜ Admitted (now headers) (now coefficients) (now steps) (now known) (length (now pool)) (length (now scratch)) ⌝ ∗ ⌜ Running (now headers) (now coefficients) (now steps) (now known) (now pool) 0 0 (now known) (now starts) (now pool) ⌝ }
+    ensures words { λ _. ⌜ take (length (now (steps .entry))) (drop (length (now (headers .entry))) (now (known .exit))) ≡ map (λ v. wordOf (v .head)) (stepValues (now (headers .entry)) (now (coefficients .entry)) (now (steps .entry))) ⌝ }
+    ensures values { λ _. ⌜ now (pool .exit) ≡ laid (announcedSteps (now (headers .entry)) (now (steps .entry))) (stepValues (now (headers .entry)) (now (coefficients .entry)) (now (steps .entry))) ++ drop (total (announcedSteps (now (headers .entry)) (now (steps .entry)))) (now (pool .entry)) ⌝ }
+{
+    let inputs = headers.len();
+    let mut at = 0;
+    let mut i = 0;
+    while i < steps.len() {
+        let s = step_of(steps[i]);
+        let p = inputs + i;
+        let room = stored_of(header_of(known[p]));
+        let word = step_word(
+            s,
+            inputs,
+            known,
+            starts,
+            coefficients,
+            pool,
+            at,
+            room,
+            scratch,
+        );
+        known[p] = word;
+        starts[p] = at;
+        at += room;
+        i += 1;
+    }
+}

@@ -1,0 +1,6 @@
+pub mod Lent
+pub mod Change
+pub mod Pair
+pub mod Power
+pub mod Substitute
+pub mod Ready
