@@ -8,3 +8,4 @@ pub mod All
 pub mod Four
 pub mod Stack
 pub mod Chain
+pub mod Every

@@ -28,3 +28,6 @@ pub mod Recipe
 pub mod Check
 pub mod Reasons
 pub mod Run
+pub mod Hex
+pub mod Printed
+pub mod Sheet

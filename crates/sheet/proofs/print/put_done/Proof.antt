@@ -1,0 +1,57 @@
+use native.Mathlib.Omega.{arith}
+use mathlib.Core.List.{_++_, append-assoc}
+use Rattle.model.specs.Hex.{hexLine}
+use Rattle.model.specs.Printed.{doneWord, newline, decimal, doneText}
+use Rattle.sheet.specs.Put.{Put, put-len, put-then}
+use Rattle.sheet.specs.Texts.{length-line, decimal-most}
+use borrow.Author.Needs.{needs}
+use Rattle.sheet.proofs.print.put_done.Statement.{statement}
+use Rattle.sheet.proofs.print.put_done.Tie as tie
+
+-- the text up to the step count
+second : (c : tie.After-put-decimal) → Put 0 (doneWord ++ decimal (c .before .before .before .before .before .before .before .before .before .args .steps)) (c .before .before .before .before .before .before .before .before .before .args .to .now) (c .put-decimal .last .1 .1 .0) (c .put-decimal .result)
+second c = put-then (c .before .before .before .before .put-bytes .ensures) (c .put-decimal .ensures)
+
+third : (c : tie.After-put-byte) → Put 0 ((doneWord ++ decimal (c .before .before .before .before .before .before .before .before .before .before .before .before .before .args .steps)) ++ newline) (c .before .before .before .before .before .before .before .before .before .before .before .before .before .args .to .now) (c .put-byte .last .1 .1 .0) (c .put-byte .result)
+third c = put-then (second (c .before .before .before .before)) (c .put-byte .ensures)
+
+fourth : (c : tie.After-put-line) → Put 0 (((doneWord ++ decimal (c .before .before .before .before .before .before .before .before .before .before .before .before .before .before .before .before .before .args .steps)) ++ newline) ++ hexLine (c .before .before .before .before .before .before .before .before .before .before .before .before .before .before .before .before .before .args .header)) (c .before .before .before .before .before .before .before .before .before .before .before .before .before .before .before .before .before .args .to .now) (c .put-line .last .1 .1 .0) (c .put-line .result)
+fourth c = put-then (third (c .before .before .before .before)) (c .put-line .ensures)
+
+slice-aggregate-put-bytes : tie.Need-slice-aggregate-put-bytes
+slice-aggregate-put-bytes c = search needs
+
+put-bytes-requires : tie.Need-put-bytes-requires
+put-bytes-requires c κs = search needs
+
+put-decimal-requires : tie.Need-put-decimal-requires
+put-decimal-requires c κs = search needs
+
+put-byte-requires : tie.Need-put-byte-requires
+put-byte-requires c κs = omega (arith, put-len (second (c .before .before .before)), c .before .before .before .before .before .before .before .put-bytes .ensures .behind, c .before .before .before .put-decimal .ensures .behind, decimal-most (c .before .before .before .before .before .before .before .before .before .before .before .before .args .steps))
+
+put-line-requires : tie.Need-put-line-requires
+put-line-requires c κs = omega (arith, put-len (third (c .before .before .before)), c .before .before .before .before .before .before .before .before .before .before .before .put-bytes .ensures .behind, c .before .before .before .before .before .before .before .put-decimal .ensures .behind, c .before .before .before .put-byte .ensures .behind, decimal-most (c .before .before .before .before .before .before .before .before .before .before .before .before .before .before .before .before .args .steps))
+
+put-floats-requires : tie.Need-put-floats-requires
+put-floats-requires c κs = omega (arith, put-len (fourth (c .before .before .before)), c .before .before .before .before .before .before .before .before .before .before .before .before .before .before .before .put-bytes .ensures .behind, c .before .before .before .before .before .before .before .before .before .before .before .put-decimal .ensures .behind, c .before .before .before .before .before .before .before .put-byte .ensures .behind, c .before .before .before .put-line .ensures .behind, length-line (c .before .before .before .before .before .before .before .before .before .before .before .before .before .before .before .before .before .before .before .before .args .header), decimal-most (c .before .before .before .before .before .before .before .before .before .before .before .before .before .before .before .before .before .before .before .before .args .steps))
+
+same-length : tie.Need-same-length
+same-length c = search needs
+
+returns : tie.Need-returns
+unfolding doneText
+returns c = simp append-assoc at (put-then (fourth (c .before .before .before .before .before .before)) (c .before .before .put-floats .ensures))
+
+pub put-done-spec : {M : Type 1} → statement M
+put-done-spec =
+    tie.close
+    (tie.spec
+    slice-aggregate-put-bytes
+    put-bytes-requires
+    put-decimal-requires
+    put-byte-requires
+    put-line-requires
+    put-floats-requires
+    same-length
+    returns)

@@ -1,0 +1,46 @@
+use native.Mathlib.Omega.{arith}
+use mathlib.Core.List.{append-assoc}
+use Rattle.model.specs.Printed.{refusedText}
+use Rattle.sheet.specs.Put.{put-len, put-then}
+use Rattle.sheet.specs.Texts.{decimal-most}
+use borrow.Author.Needs.{needs}
+use Rattle.sheet.proofs.print.put_refusal.Statement.{statement}
+use Rattle.sheet.proofs.print.put_refusal.Tie as tie
+
+slice-aggregate-put-bytes : tie.Need-slice-aggregate-put-bytes
+slice-aggregate-put-bytes c = search needs
+
+put-bytes-requires : tie.Need-put-bytes-requires
+put-bytes-requires c κs = search needs
+
+put-decimal-requires : tie.Need-put-decimal-requires
+put-decimal-requires c κs = let a = c .before .before .before .put-bytes .ensures in omega (arith, put-len a, a .behind)
+
+put-byte-requires : tie.Need-put-byte-requires
+put-byte-requires c κs = let a = c .before .before .before .before .before .before .before .put-bytes .ensures in let b = c .before .before .before .put-decimal .ensures in omega (arith, put-len a, a .behind, put-len b, b .behind, decimal-most (c .before .before .before .before .before .before .before .before .before .before .before .args .r .number))
+
+put-decimal-requires-2 : tie.Need-put-decimal-requires-2
+put-decimal-requires-2 c κs = let a = c .before .before .before .before .before .before .before .before .before .before .before .put-bytes .ensures in let b = c .before .before .before .before .before .before .before .put-decimal .ensures in let d = c .before .before .before .put-byte .ensures in omega (arith, put-len a, a .behind, put-len b, b .behind, put-len d, d .behind, decimal-most (c .before .before .before .before .before .before .before .before .before .before .before .before .before .before .before .args .r .number))
+
+put-byte-requires-2 : tie.Need-put-byte-requires-2
+put-byte-requires-2 c κs = let a = c .before .before .before .before .before .before .before .before .before .before .before .before .before .before .before .put-bytes .ensures in let b = c .before .before .before .before .before .before .before .before .before .before .before .put-decimal .ensures in let d = c .before .before .before .before .before .before .before .put-byte .ensures in let e = c .before .before .before .put-decimal2 .ensures in omega (arith, put-len a, a .behind, put-len b, b .behind, put-len d, d .behind, put-len e, e .behind, decimal-most (c .before .before .before .before .before .before .before .before .before .before .before .before .before .before .before .before .before .before .before .args .r .number), decimal-most (c .before .before .before .before .before .before .before .before .before .before .before .before .before .before .before .before .before .before .before .args .r .place))
+
+same-length : tie.Need-same-length
+same-length c = search needs
+
+returns : tie.Need-returns
+unfolding refusedText
+returns c = simp append-assoc at (put-then (put-then (put-then (put-then (c .before .before .before .before .before .before .before .before .before .before .before .before .before .before .before .before .before .before .put-bytes .ensures) (c .before .before .before .before .before .before .before .before .before .before .before .before .before .before .put-decimal .ensures)) (c .before .before .before .before .before .before .before .before .before .before .put-byte .ensures)) (c .before .before .before .before .before .before .put-decimal2 .ensures)) (c .before .before .put-byte2 .ensures))
+
+pub put-refusal-spec : {M : Type 1} → statement M
+put-refusal-spec =
+    tie.close
+    (tie.spec
+    slice-aggregate-put-bytes
+    put-bytes-requires
+    put-decimal-requires
+    put-byte-requires
+    put-decimal-requires-2
+    put-byte-requires-2
+    same-length
+    returns)

@@ -1,0 +1,66 @@
+use Rattle.sheet.specs.Running.{room-is, last-known, known-most}
+use native.Mathlib.Omega.{arith}
+use mathlib.Core.Path.{sym}
+use lib.ListN.{length-take, length-drop}
+use lib.Seq.{length-take-le}
+use Rattle.sheet.specs.Limits.{front-known, back-known}
+use borrow.Author.Needs.{needs}
+use Rattle.sheet.proofs.run.room_of.Statement.{statement}
+use Rattle.sheet.proofs.run.room_of.Tie as tie
+
+mul-steps : tie.Need-mul-steps
+mul-steps c = search needs
+
+sub-steps : tie.Need-sub-steps
+sub-steps c = search needs
+
+part-steps-start : tie.Need-part-steps-start
+part-steps-start c = search needs
+
+part-steps-end : tie.Need-part-steps-end
+part-steps-end c = search needs
+
+slice-aggregate-total-of : tie.Need-slice-aggregate-total-of
+slice-aggregate-total-of c = sym (length-take-le _ _ (omega arith))
+
+total-of-requires : tie.Need-total-of-requires
+total-of-requires c κs = (front-known (c .before .before .before .args .known .now) (c .before .before .before .args .inputs) (c .before .before .before .pre .0), simp length-take (omega arith))
+
+sub-total-of : tie.Need-sub-total-of
+sub-total-of c = search needs
+
+slice-aggregate-total-of-2 : tie.Need-slice-aggregate-total-of-2
+slice-aggregate-total-of-2 c = sym (length-take-le _ _ (omega arith))
+
+total-of-requires-2 : tie.Need-total-of-requires-2
+total-of-requires-2 c κs = (last-known (c .before .before .before .before .before .args .known .now) (c .before .before .before .before .before .args .inputs) (c .before .before .before .before .before .pre .0), simp (length-take, length-drop) (omega arith))
+
+total-of-requires-3 : tie.Need-total-of-requires-3
+total-of-requires-3 c κs = (back-known (c .before .before .before .before .before .before .args .known .now) (c .before .before .before .before .before .before .args .inputs) (c .before .before .before .before .before .before .pre .0), simp (length-take, length-drop) (omega arith))
+
+largest-of-requires : tie.Need-largest-of-requires
+largest-of-requires c κs = back-known (c .before .before .before .before .before .before .before .args .known .now) (c .before .before .before .before .before .before .before .args .inputs) (c .before .before .before .before .before .before .before .pre .0)
+
+mul-t16 : tie.Need-mul-t16
+mul-t16 c = omega (arith, c .largest-of .ensures, known-most (back-known (c .before .before .before .before .before .before .before .before .args .known .now) (c .before .before .before .before .before .before .before .before .args .inputs) (c .before .before .before .before .before .before .before .before .pre .0)))
+
+returns : tie.Need-returns
+returns c = room-is (c .before .before .before .before .before .before .before .before .args .known .now) (c .before .before .before .before .before .before .before .before .args .inputs) (c .before .before .before .before .total-of .ensures) (c .before .before .total-of2 .ensures) (c .before .total-of3 .ensures) (c .largest-of .ensures)
+
+pub room-of-spec : {M : Type 1} → statement M
+room-of-spec =
+    tie.close
+    (tie.spec
+    mul-steps
+    sub-steps
+    part-steps-start
+    part-steps-end
+    slice-aggregate-total-of
+    total-of-requires
+    sub-total-of
+    slice-aggregate-total-of-2
+    total-of-requires-2
+    total-of-requires-3
+    largest-of-requires
+    mul-t16
+    returns)

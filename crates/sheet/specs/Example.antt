@@ -1,0 +1,59 @@
+-- Document 01's example of a sheet, by computation from the definitions: what is printed for it.
+use mathlib.Core.Path.{_≡_, refl}
+use mathlib.Core.List.{List, [], _∷_, _++_}
+use Prim.Native.Nat.{ℕ}
+use lib.Ieee.{ofBits, toBits, neg, add, sub, mul, div, eq, ofInt}
+use Rattle.lists.specs.Chain.{chain}
+use Rattle.lists.specs.Every.{every}
+use Rattle.lists.specs.Table.{table}
+use Rattle.lists.specs.Walk.{walk}
+use Rattle.model.specs.Header.{span, goodVar, goodVars, goodHeader}
+use Rattle.model.specs.Word.{headerOf, goodWord, fields, wordOf}
+use Rattle.model.specs.Places.{strides, offset, index, inside}
+use Rattle.model.specs.Announced.{single, paired, announced}
+use Rattle.model.specs.Gates.{inGate}
+use Rattle.model.specs.Shifts.{rowsFrom, rowSum, shiftDownPoly}
+use Rattle.model.specs.Steps.{stepOf, rows}
+use Rattle.model.specs.Recipe.{families, announcedStep, announcedPlaces, announcedSteps, total, largest}
+use Rattle.model.specs.Check.{orElse, rightSizes, formed, stepRefusal, inputsRefusal, stepsRefusal, checkRefusal}
+use Rattle.model.specs.Run.{inputValues, operations, stepValue, values, stepValues, gates, stepGate, nineRefusal, lentRefusal, runRefusal}
+use Rattle.model.specs.Hex.{isDigit, digitOf, digitFor, isLine, wordAt, hexLine, hexLines}
+use Rattle.model.specs.Printed.{decimal, doneText, refusedText}
+use Rattle.model.specs.Sheet.{ownRefusal, recipeRefusal, inputCount, stepCount, spare, sheetHeaders, coefficientCount, sheetCoefficients, sheetSteps, headersRefusal, readRefusal, sheetRefusal, lastValue, sheetOutput}
+
+-- 0101000000000000, 2104000000000000, 4000000000000000, 4008000000000000, 3ff0000000000000, 9000000000004000: [2, 3, 1] shifted down by 1
+unfoldable pub exampleSheet : List ℕ
+exampleSheet =
+    48 ∷ 49 ∷ 48 ∷ 49 ∷ 48 ∷ 48 ∷ 48 ∷ 48 ∷ 48 ∷ 48 ∷ 48 ∷ 48 ∷ 48 ∷ 48 ∷ 48 ∷ 48 ∷ 10
+    ∷ 50 ∷ 49 ∷ 48 ∷ 52 ∷ 48 ∷ 48 ∷ 48 ∷ 48 ∷ 48 ∷ 48 ∷ 48 ∷ 48 ∷ 48 ∷ 48 ∷ 48 ∷ 48 ∷ 10
+    ∷ 52 ∷ 48 ∷ 48 ∷ 48 ∷ 48 ∷ 48 ∷ 48 ∷ 48 ∷ 48 ∷ 48 ∷ 48 ∷ 48 ∷ 48 ∷ 48 ∷ 48 ∷ 48 ∷ 10
+    ∷ 52 ∷ 48 ∷ 48 ∷ 56 ∷ 48 ∷ 48 ∷ 48 ∷ 48 ∷ 48 ∷ 48 ∷ 48 ∷ 48 ∷ 48 ∷ 48 ∷ 48 ∷ 48 ∷ 10
+    ∷ 51 ∷ 102 ∷ 102 ∷ 48 ∷ 48 ∷ 48 ∷ 48 ∷ 48 ∷ 48 ∷ 48 ∷ 48 ∷ 48 ∷ 48 ∷ 48 ∷ 48 ∷ 48 ∷ 10
+    ∷ 57 ∷ 48 ∷ 48 ∷ 48 ∷ 48 ∷ 48 ∷ 48 ∷ 48 ∷ 48 ∷ 48 ∷ 48 ∷ 48 ∷ 52 ∷ 48 ∷ 48 ∷ 48 ∷ 10
+    ∷ []
+
+-- done 1, 2082000000000000, 4014000000000000, 3ff0000000000000
+unfoldable pub exampleOutput : List ℕ
+exampleOutput =
+    100 ∷ 111 ∷ 110 ∷ 101 ∷ 32 ∷ 49 ∷ 10
+    ∷ 50 ∷ 48 ∷ 56 ∷ 50 ∷ 48 ∷ 48 ∷ 48 ∷ 48 ∷ 48 ∷ 48 ∷ 48 ∷ 48 ∷ 48 ∷ 48 ∷ 48 ∷ 48 ∷ 10
+    ∷ 52 ∷ 48 ∷ 49 ∷ 52 ∷ 48 ∷ 48 ∷ 48 ∷ 48 ∷ 48 ∷ 48 ∷ 48 ∷ 48 ∷ 48 ∷ 48 ∷ 48 ∷ 48 ∷ 10
+    ∷ 51 ∷ 102 ∷ 102 ∷ 48 ∷ 48 ∷ 48 ∷ 48 ∷ 48 ∷ 48 ∷ 48 ∷ 48 ∷ 48 ∷ 48 ∷ 48 ∷ 48 ∷ 48 ∷ 10
+    ∷ []
+
+-- refused 8 64
+unfoldable pub refusedOutput : List ℕ
+refusedOutput = 114 ∷ 101 ∷ 102 ∷ 117 ∷ 115 ∷ 101 ∷ 100 ∷ 32 ∷ 56 ∷ 32 ∷ 54 ∷ 52 ∷ 10 ∷ []
+
+pub example-holds : sheetOutput exampleSheet ≡ exampleOutput
+unfolding exampleSheet exampleOutput sheetOutput lastValue sheetRefusal readRefusal headersRefusal sheetSteps sheetCoefficients coefficientCount sheetHeaders spare stepCount inputCount recipeRefusal ownRefusal refusedText doneText decimal hexLines hexLine wordAt isLine digitFor digitOf isDigit runRefusal lentRefusal nineRefusal stepGate gates stepValues values stepValue operations inputValues checkRefusal stepsRefusal inputsRefusal stepRefusal formed rightSizes orElse largest total announcedSteps announcedPlaces announcedStep families rows stepOf shiftDownPoly rowSum rowsFrom inGate announced paired single inside index offset strides wordOf fields goodWord headerOf goodHeader goodVars goodVar span walk table every chain ofBits toBits neg add sub mul div eq ofInt
+example-holds = refl
+
+-- one byte more, or none at all
+pub byte-behind : sheetOutput (exampleSheet ++ (10 ∷ [])) ≡ refusedOutput
+unfolding exampleSheet refusedOutput sheetOutput lastValue sheetRefusal readRefusal headersRefusal sheetSteps sheetCoefficients coefficientCount sheetHeaders spare stepCount inputCount recipeRefusal ownRefusal refusedText doneText decimal hexLines hexLine wordAt isLine digitFor digitOf isDigit runRefusal lentRefusal nineRefusal stepGate gates stepValues values stepValue operations inputValues checkRefusal stepsRefusal inputsRefusal stepRefusal formed rightSizes orElse largest total announcedSteps announcedPlaces announcedStep families rows stepOf shiftDownPoly rowSum rowsFrom inGate announced paired single inside index offset strides wordOf fields goodWord headerOf goodHeader goodVars goodVar span walk table every chain ofBits toBits neg add sub mul div eq ofInt
+byte-behind = refl
+
+pub nothing-there : sheetOutput [] ≡ refusedOutput
+unfolding refusedOutput sheetOutput lastValue sheetRefusal readRefusal headersRefusal sheetSteps sheetCoefficients coefficientCount sheetHeaders spare stepCount inputCount recipeRefusal ownRefusal refusedText doneText decimal hexLines hexLine wordAt isLine digitFor digitOf isDigit runRefusal lentRefusal nineRefusal stepGate gates stepValues values stepValue operations inputValues checkRefusal stepsRefusal inputsRefusal stepRefusal formed rightSizes orElse largest total announcedSteps announcedPlaces announcedStep families rows stepOf shiftDownPoly rowSum rowsFrom inGate announced paired single inside index offset strides wordOf fields goodWord headerOf goodHeader goodVars goodVar span walk table every chain ofBits toBits neg add sub mul div eq ofInt
+nothing-there = refl

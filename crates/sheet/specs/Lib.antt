@@ -1,0 +1,12 @@
+pub mod Put
+pub mod Lines
+pub mod Texts
+pub mod Headers
+pub mod Reading
+pub mod Example
+pub mod Limits
+pub mod Opened
+pub mod Front
+pub mod Running
+pub mod Ended
+pub mod Ran
