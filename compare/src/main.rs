@@ -2,6 +2,7 @@
 //!
 //!     compare SEED COUNT [OPERATION]    every short case and COUNT random ones of each operation, or of one
 //!     replay FILE                       the cases of a file, a line each: those that a difference printed, or a stored sample's
+//!     sheets SEED COUNT PROGRAM         COUNT sheets through the program `recipe`, what it prints byte by byte
 //!
 //! The last line says how many cases were compared and how many differ. The exit status is 1 where one differs or none was compared.
 
@@ -10,6 +11,7 @@ mod check;
 #[cfg(far)]
 mod far;
 mod ours;
+mod programs;
 /// The library's wrappers, as its users have them.
 #[path = "../../face/taylor.rs"]
 #[allow(dead_code)]
@@ -25,13 +27,7 @@ fn main() -> ExitCode {
     std::panic::set_hook(Box::new(|_| ()));
     let arguments: Vec<String> = std::env::args().skip(1).collect();
     let words: Vec<&str> = arguments.iter().map(String::as_str).collect();
-    let told = match words[..] {
-        ["compare", seed, count] => compare(seed, count, None),
-        ["compare", seed, count, name] => compare(seed, count, Some(name)),
-        ["replay", file] => replay(file),
-        _ => Err("compare SEED COUNT [OPERATION], or replay FILE".to_string()),
-    };
-    match told {
+    match act(&words) {
         Ok(all_equal) => ExitCode::from(u8::from(!all_equal)),
         Err(cause) => {
             eprintln!("{cause}");
@@ -40,8 +36,22 @@ fn main() -> ExitCode {
     }
 }
 
+/// Whether all is equal.
+fn act(words: &[&str]) -> Result<bool, String> {
+    match words[..] {
+        ["compare", seed, count] => compare(seed, count, None),
+        ["compare", seed, count, name] => compare(seed, count, Some(name)),
+        ["replay", file] => replay(file),
+        ["sheets", seed, count, program] => programs::sheets(number(seed)?, number(count)?, program),
+        _ => Err("compare SEED COUNT [OPERATION], replay FILE, or sheets SEED COUNT PROGRAM".to_string()),
+    }
+}
+
+fn number(text: &str) -> Result<u64, String> {
+    text.parse().map_err(|_| format!("{text} is no number"))
+}
+
 fn compare(seed: &str, count: &str, name: Option<&str>) -> Result<bool, String> {
-    let number = |text: &str| text.parse::<u64>().map_err(|_| format!("{text} is no number"));
     let (seed, count) = (number(seed)?, number(count)?);
     let mut tallies = vec![];
     for op in OPERATIONS.iter().filter(|op| name.is_none_or(|name| name == op.name)) {

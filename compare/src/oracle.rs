@@ -113,7 +113,8 @@ fn cut(a: &Header, coefficients: &[f64], b: &Header) -> Poly {
     let limit = |h: &Header, v: usize| if v < h.vars { h.limits[v] } else { usize::MAX };
     let limits: Vec<usize> = (0..vars).map(|v| limit(a, v).min(limit(b, v))).collect();
     let lengths: Vec<usize> = (0..vars).map(|v| a.lengths[v].min(limits[v])).collect();
-    let array = ArrayD::from_shape_vec(a.lengths[..vars].to_vec(), coefficients[..a.count()].iter().map(|x| F64::from(*x)).collect());
+    let array =
+        ArrayD::from_shape_vec(a.lengths[..vars].to_vec(), coefficients[..a.count()].iter().map(|x| F64::from(*x)).collect());
     let array = array.expect("as many as the lengths say");
     TaylorPoly::new(array.slice_each_axis(|ax| Slice::from(0..lengths[ax.axis.index()])).to_owned(), limits)
 }

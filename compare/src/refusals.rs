@@ -30,7 +30,7 @@ fn operand(case: &Case) -> Gate {
 }
 
 /// Tests 3 and 4: a variable of the polynomial, and a number below its limit.
-fn below_limit(a: &Header, v: u64, n: u64) -> Result<usize, Refusal> {
+pub fn below_limit(a: &Header, v: u64, n: u64) -> Result<usize, Refusal> {
     demand(v < a.vars as u64, 3)?;
     demand(n < a.limits[v as usize] as u64, 4)?;
     Ok(v as usize)
@@ -43,16 +43,21 @@ fn lent(case: &Case, announced: Header) -> Gate {
     Ok(announced)
 }
 
-/// Tests 1, 2, 5 and 6 of two operands; `length` gives a length from the limit and the two cut lengths.
-fn pair(case: &Case, length: fn(usize, usize, usize) -> usize) -> Gate {
+/// Tests 1, 2, 5 and 6 of two operands; `announce` gives what is announced.
+fn pair(case: &Case, announce: impl FnOnce(&Header, &Header) -> Header) -> Gate {
     let (a, b) = (good(case.ah)?, good(case.bh)?);
     demand(case.a.len() >= a.count() && case.b.len() >= b.count(), 2)?;
-    let announced = lent(case, joined(&a, &b, length))?;
+    worked(case, announce(&a, &b))
+}
+
+/// Tests 5 and 6.
+fn worked(case: &Case, announced: Header) -> Gate {
+    let announced = lent(case, announced)?;
     demand(case.scratch >= 8 * announced.count(), 6)?;
     Ok(announced)
 }
 
-/// The smaller limits (a variable that one lacks takes the other's), and lengths by `length` after cutting.
+/// The smaller limits (a variable that one lacks takes the other's), and lengths by `length` from the limit and the two cut lengths.
 fn joined(a: &Header, b: &Header, length: fn(usize, usize, usize) -> usize) -> Header {
     let vars = a.vars.max(b.vars);
     let limits: Vec<usize> = (0..vars)
@@ -67,16 +72,28 @@ fn joined(a: &Header, b: &Header, length: fn(usize, usize, usize) -> usize) -> H
     Header::new(&limits, &lengths)
 }
 
+pub fn announced_sum(a: &Header, b: &Header) -> Header {
+    joined(a, b, |_, a, b| a.max(b))
+}
+
+pub fn announced_product(a: &Header, b: &Header) -> Header {
+    joined(a, b, |limit, a, b| limit.min(a + b - 1))
+}
+
+pub fn announced_quotient(a: &Header, b: &Header) -> Header {
+    joined(a, b, |limit, a, b| if b == 1 { a } else { limit })
+}
+
 pub fn sum(case: &Case) -> Gate {
-    pair(case, |_, a, b| a.max(b))
+    pair(case, announced_sum)
 }
 
 pub fn product(case: &Case) -> Gate {
-    pair(case, |limit, a, b| limit.min(a + b - 1))
+    pair(case, announced_product)
 }
 
 pub fn quotient(case: &Case) -> Gate {
-    pair(case, |limit, a, b| if b == 1 { a } else { limit })
+    pair(case, announced_quotient)
 }
 
 /// Tests 1, 2, 5 and 6 of one operand.
@@ -85,40 +102,51 @@ pub fn series(case: &Case) -> Gate {
     for v in 0..a.vars {
         a.lengths[v] = if a.lengths[v] == 1 { 1 } else { a.limits[v] };
     }
-    let announced = lent(case, a)?;
-    demand(case.scratch >= 8 * announced.count(), 6)?;
-    Ok(announced)
+    worked(case, a)
 }
 
-/// Number e. Tests 1, 2, 5 and 6; 0 announces one with no variables.
-pub fn pow(case: &Case) -> Gate {
-    let mut a = operand(case)?;
-    let e = case.numbers[0] as usize;
-    for v in 0..a.vars {
-        a.lengths[v] = a.limits[v].min(e * (a.lengths[v] - 1) + 1);
+/// 0 announces one with no variables.
+pub fn announced_power(a: &Header, e: usize) -> Header {
+    let mut all = if e == 0 { Header::new(&[], &[]) } else { *a };
+    for v in 0..all.vars {
+        all.lengths[v] = a.limits[v].min(e * (a.lengths[v] - 1) + 1);
     }
-    let announced = lent(case, if e == 0 { Header::new(&[], &[]) } else { a })?;
-    demand(case.scratch >= 8 * announced.count(), 6)?;
-    Ok(announced)
+    all
 }
 
-/// Numbers v and n: the limit less n, the length less n and at least 1.
+/// Number e.
+pub fn pow(case: &Case) -> Gate {
+    let a = operand(case)?;
+    worked(case, announced_power(&a, case.numbers[0] as usize))
+}
+
+/// The limit less n, the length less n and at least 1.
+pub fn announced_shift(a: &Header, v: usize, n: usize) -> Header {
+    let mut all = *a;
+    all.limits[v] -= n;
+    all.lengths[v] = a.lengths[v].saturating_sub(n).max(1);
+    all
+}
+
+/// Numbers v and n.
 pub fn shift(case: &Case) -> Gate {
-    let mut a = operand(case)?;
+    let a = operand(case)?;
     let v = below_limit(&a, case.numbers[0], case.numbers[1])?;
-    let n = case.numbers[1] as usize;
-    a.limits[v] -= n;
-    a.lengths[v] = a.lengths[v].saturating_sub(n).max(1);
-    lent(case, a)
+    lent(case, announced_shift(&a, v, case.numbers[1] as usize))
 }
 
-/// Number v. Tests 1, 2, 5 and 6; a variable that the first operand lacks leaves it as it is.
+/// Number v.
 pub fn subst_var(case: &Case) -> Gate {
-    let (a, b) = (good(case.ah)?, good(case.bh)?);
-    demand(case.a.len() >= a.count() && case.b.len() >= b.count(), 2)?;
-    let announced = lent(case, if case.numbers[0] < a.vars as u64 { replaced(&a, &b, case.numbers[0] as usize) } else { a })?;
-    demand(case.scratch >= 8 * announced.count(), 6)?;
-    Ok(announced)
+    pair(case, |a, b| announced_substitution(a, b, case.numbers[0]))
+}
+
+/// A variable that the first operand lacks leaves it as it is.
+pub fn announced_substitution(a: &Header, b: &Header, v: u64) -> Header {
+    if v < a.vars as u64 {
+        replaced(a, b, v as usize)
+    } else {
+        *a
+    }
 }
 
 /// The smaller limits; with p the uncut length of v, lengths of p - 1 times b's and, except in v, a's own.
