@@ -3,6 +3,7 @@ use model::Family;
 use model::Header;
 use model::Refusal;
 use shape::announce::announced_of;
+use shape::announce::product_header;
 use words::places::count_of;
 use words::places::is_inside;
 use words::word::header_of;
@@ -11,9 +12,11 @@ ghost use mathlib.Core.Path.{_≡_};
 ghost use Prim.Native.Nat.{_*_};
 ghost use lib.Dec.{leb};
 ghost use Rattle.model.specs.Header.{stored};
-ghost use Rattle.model.specs.Gates.{readGate, noMissing, indexGate, tailGate, oneGate, workGate, inGate, pairGate, goodLimit, goodLimits, withGate, varWithGate, varGate};
+ghost use Rattle.model.specs.Gates.{readGate, noMissing, indexGate, tailGate, oneGate, workGate, inGate, goodLimit, goodLimits, withGate, varWithGate, varGate};
 ghost use Rattle.model.specs.Refusals.{ask, noRefusal, fits, roomy};
+ghost use Rattle.model.specs.declared.Family.the-variants.{Product};
 ghost use Rattle.words.specs.Rules.{Ruled};
+ghost use Rattle.gates.specs.Open.{shut, Roomed, Opens};
 
 // The stored count of a header.
 pub fn stored_of(h: Header) -> usize
@@ -167,8 +170,58 @@ pub fn in_gate(f: Family, v: usize, d: usize, word: u64, given: usize, lent: usi
     fits_gate(announced_of(f, h, Header::none()), lent)
 }
 
+// Two operands as an entry opens them: why the call is refused; where it is not, their headers, the announced header and the stored counts.
+pub struct Opened {
+    pub refusal: Refusal,
+    pub a: Header,
+    pub b: Header,
+    pub told: Header,
+    pub na: usize,
+    pub nb: usize,
+    pub n: usize,
+}
+
+impl Opened {
+    // Refused: nothing is told.
+    fn refused(refusal: Refusal) -> Opened
+        ensures { λ r. ⌜ r ≡ shut refusal ⌝ }
+    {
+        Opened {
+            refusal,
+            a: Header::none(),
+            b: Header::none(),
+            told: Header::none(),
+            na: 0,
+            nb: 0,
+            n: 0,
+        }
+    }
+}
+
+// Tests 5 and 6 of two operands that passed the others.
+fn open_room(a: Header, b: Header, told: Header, lent: usize, scratch: usize) -> Opened
+    requires { ⌜ Ruled a ⌝ ∗ ⌜ Ruled b ⌝ ∗ ⌜ Ruled told ⌝ }
+    ensures { λ r. ⌜ Roomed a b told lent scratch r ⌝ }
+{
+    if !is_fitting(told, lent) {
+        return Opened::refused(Refusal::by(5));
+    }
+    if !is_roomy(told, scratch) {
+        return Opened::refused(Refusal::by(6));
+    }
+    Opened {
+        refusal: Refusal::none(),
+        a,
+        b,
+        told,
+        na: stored_of(a),
+        nb: stored_of(b),
+        n: stored_of(told),
+    }
+}
+
 // Two operands, ah and bh their words, am and bm the coefficients given: refusals 1, 2, 5, 6.
-pub fn pair_gate(
+pub fn open_pair(
     f: Family,
     ah: u64,
     am: usize,
@@ -176,25 +229,33 @@ pub fn pair_gate(
     bm: usize,
     lent: usize,
     scratch: usize,
-) -> Refusal
-    ensures { λ r. ⌜ r ≡ pairGate f ah am bh bm lent scratch ⌝ }
+) -> Opened
+    ensures { λ r. ⌜ Opens f ah am bh bm lent scratch r ⌝ }
 {
     if !(is_good(ah) & is_good(bh)) {
-        return Refusal::by(1);
+        return Opened::refused(Refusal::by(1));
     }
     let a = header_of(ah);
     let b = header_of(bh);
     if !(is_full(a, am) & is_full(b, bm)) {
-        return Refusal::by(2);
+        return Opened::refused(Refusal::by(2));
     }
-    let h = announced_of(f, a, b);
-    if !is_fitting(h, lent) {
-        return Refusal::by(5);
+    open_room(a, b, announced_of(f, a, b), lent, scratch)
+}
+
+// The same for a product, whose header is made directly. It has one caller: the compiler takes it in there, and what is told stays in registers.
+pub fn open_product(ah: u64, am: usize, bh: u64, bm: usize, lent: usize, scratch: usize) -> Opened
+    ensures { λ r. ⌜ Opens Product ah am bh bm lent scratch r ⌝ }
+{
+    if !(is_good(ah) & is_good(bh)) {
+        return Opened::refused(Refusal::by(1));
     }
-    if !is_roomy(h, scratch) {
-        return Refusal::by(6);
+    let a = header_of(ah);
+    let b = header_of(bh);
+    if !(is_full(a, am) & is_full(b, bm)) {
+        return Opened::refused(Refusal::by(2));
     }
-    Refusal::none()
+    open_room(a, b, product_header(a, b), lent, scratch)
 }
 
 // A limit is 1 to 64.

@@ -4,3 +4,4 @@ pub mod Raise
 pub mod Line
 pub mod Times
 pub mod Zero
+pub mod Lined

@@ -1,29 +1,29 @@
 -- A block shifted up by one in a variable, in contiguous rows: all the places that share the numbers of the variables before v.
 use Prim.Native.Nat.{ℕ, zero, suc, _+_, _-_, _*_, _/_, _%_, _≤_, _<_}
 use mathlib.Core.List.{List, [], _∷_, _++_}
-use mathlib.Core.Bool.{true}
+use mathlib.Core.Bool.{true, false}
 use mathlib.Core.Path.{_≡_, refl, sym, ap, _∙_}
 use native.Mathlib.Omega.{arith}
 use native.Mathlib.Nat.{div-add-mod', mod-lt, div-lt-iff-lt-mul, mul-le-mul-right, add-mul, mul-one, one-mul, mul-assoc}
 use lib.Arith.{digits-lt, digits-div, digits-mod}
-use lib.Dec.{ltb, lit<}
-use lib.ListN.{length, getD, take, drop, set}
+use lib.Dec.{ltb, eqb, lit<}
+use lib.ListN.{length, getD, take, drop, set, length-take, length-drop}
 use lib.Seq.{getD-take, getD-drop, drop-at, drop-drop}
 use borrow.Rule.Slice.PartMut.{putMid}
 use Rattle.blocks.specs.Fill.{filled-row}
-use lib.Ieee.{Float, nan, mul, binary64}
-use borrow.Author.Tests.{ltb-true, ltb-false, lt-ltb, le-ltb, eq-eqb, ne-eqb}
+use lib.Ieee.{Float, nan, add, mul, binary64}
+use borrow.Author.Tests.{ltb-true, ltb-false, eqb-true, eqb-false, lt-ltb, le-ltb, eq-eqb, ne-eqb}
 use Rattle.lists.specs.Test.{decide}
 use Rattle.lists.specs.Four.{at, long, at-same, at-other}
 use Rattle.lists.specs.Table.{table, Filled, table-same, length-table}
 use Rattle.model.specs.Header.{count, span}
-use Rattle.model.specs.Places.{strides, place, index}
+use Rattle.model.specs.Places.{strides, place, index, inside}
 use Rattle.model.specs.Refusals.{zeroF, zeros}
 use Rattle.model.specs.Poly.{block, readAt}
 use Rattle.model.specs.Product.{raisedAt}
-use Rattle.words.specs.Lengths.{Inside, count-is, count-pos, count-most, lengths-pos, inside-at}
+use Rattle.words.specs.Lengths.{Inside, count-is, count-pos, count-most, lengths-pos, inside-at, inside-four, inside-is, is-inside}
 use Rattle.words.specs.Places.{horner, place-index, index-inside}
-use Rattle.product.specs.Room.{raisedRow, raisedFlat, Rows, Raising}
+use Rattle.product.specs.Room.{raisedRow, raisedFlat, linedRow, linedFlat, linedAt, Rows, Raising}
 
 -- ---- one row
 
@@ -36,6 +36,15 @@ row-start m s a d {z} {k} e f h =
 
 pub row-more : (m : Float) (s : ℕ) (a : List Float) (k : ℕ) → s ≤ k → mul binary64 (getD a (k - s) nan) m ≡ raisedRow m s a k
 row-more m s a k h = simp (le-ltb _ _ h)
+
+-- a row under a linear factor, by what is read of it
+pub lined-same : (c m : Float) (s width : ℕ) (x y : List Float) (j : ℕ) → (s ≤ j → getD x (j - s) nan ≡ getD y (j - s) nan) → (j < width → getD x j nan ≡ getD y j nan)
+    → linedRow c m s width x j ≡ linedRow c m s width y j
+lined-same c m s width x y j f g =
+    let up : raisedRow m s x j ≡ raisedRow m s y j = decide (ltb j s) (λ e. rw e) (λ e. rw e (ap (λ (z : Float). mul binary64 z m) (f (ltb-false j s e)))) in
+    decide (ltb j width)
+    (λ e. rw e (ap (λ (z : Float). add binary64 (add binary64 zeroF z) (mul binary64 c (getD x j nan))) up ∙ ap (λ (z : Float). add binary64 (add binary64 zeroF (raisedRow m s y j)) (mul binary64 c z)) (g (ltb-true j width e))))
+    (λ e. rw e (ap (λ (z : Float). add binary64 zeroF z) up))
 
 -- ---- a place in three parts: the variables before v, v, those after it
 
@@ -174,6 +183,23 @@ module _ {s width step ma mt : ℕ} (q : Rows s width step ma mt) {from at' : �
       let y : getD row (j - s) nan ≡ getD (drop from xs) (j - s) nan = ap (λ (l : List Float). getD l (j - s) nan) er ∙ getD-take z (drop from xs) (j - s) nan b in
       rw (r, e) (ap (λ (x : Float). mul binary64 x m) (y ∙ ap (λ (x : ℕ). getD (drop x xs) (j - s) nan) f)))))
 
+  -- the same under a linear factor
+  pub lined-row-is : (c m : Float) (xs : List Float) → from + width ≤ length xs → {row o : List Float} {z k : ℕ} → row ≡ take z (drop from xs) → z ≡ width → o ≡ table k (linedRow c m s (length row) row) → k ≡ step
+      → o ≡ table step (λ j. linedFlat c m s width step xs (at' + j))
+  lined-row-is c m xs hf {row} {o} {z} er ez eo ek =
+      let lr : length row ≡ width = ap length er ∙ simp (length-take, length-drop) (omega arith) in
+      eo ∙ (ap (λ (x : ℕ). table x (linedRow c m s (length row) row)) ek ∙ table-same (linedRow c m s (length row) row) (λ j. linedFlat c m s width step xs (at' + j)) step (λ j g.
+      let d : (at' + j) / step ≡ a .turns = ap (λ (x : ℕ). (x + j) / step) (a .is-at) ∙ digits-div (a .turns) g in
+      let r : (at' + j) % step ≡ j = ap (λ (x : ℕ). (x + j) % step) (a .is-at) ∙ digits-mod (a .turns) g in
+      let f : (at' + j) / step * width ≡ from = ap (λ (x : ℕ). x * width) d ∙ sym (a .is-from) in
+      let seen : (i : ℕ) → i < z → getD row i nan ≡ getD (drop from xs) i nan = λ i h. ap (λ (l : List Float). getD l i nan) er ∙ getD-take z (drop from xs) i nan h in
+      let back : linedFlat c m s width step xs (at' + j) ≡ linedRow c m s width (drop from xs) j = rw (r, f) in
+      ap (λ (x : ℕ). linedRow c m s x row j) lr
+      ∙ (lined-same c m s width row (drop from xs) j
+      (λ h. seen (j - s) (omega (arith, h, q .most, ez, g)))
+      (λ h. seen j (omega (arith, h, ez)))
+      ∙ sym back)))
+
 -- one row more
 pub rows-more : (w q : ℕ) {at' : ℕ} {f : ℕ → Float} {d out row : List Float} → Filled at' f d out → row ≡ table w (λ k. f (at' + k)) → at' + w ≤ length d → q ≡ w → Filled (at' + w) f d (putMid at' q out row)
 rows-more w q {at'} {f} {d} {out} {row} e r h eq =
@@ -288,6 +314,52 @@ module _ {n : List ℕ} {v : ℕ} {r : List ℕ} {ma mt : ℕ} (t : Raising n v 
         let y : getD (drop (p / step * width) xs) (k - s) nan ≡ readAt (block n xs) (set i v (at i v - 1)) =
         getD-drop (p / step * width) xs (k - s) nan ∙ ap (λ (q : ℕ). getD xs q nan) (sym (taken sk)) in
         rw (e, ne-eqb _ _ f) (ap (λ (q : Float). mul binary64 q m) y))
+
+    -- where the row itself reaches
+    reached : k < width → Inside n i
+    reached kw =
+        let q : k / s < at n v = div-lt-iff-lt-mul stride-pos .1 (rw (← ew) kw) in
+        let y : at i v < at n v = omega (arith, parts .1) in
+        inside-four (λ w g. decide (eqb w v) (λ e. rw (eqb-true w v e) y) (λ e. rw (← t .other w g (eqb-false w v e)) (inside-at low w g)))
+
+    kept : place n i ≡ p / step * width + k
+    kept =
+        let o : Others v i i = λ w p f. refl in
+        let eo : outer n i v ≡ p / step = outer-same n r i i v (t .var) (t .other) o ∙ parts .0 in
+        let ei : inner n i v ≡ k % s = inner-same n r i i v (t .var) (t .other) o ∙ parts .2 in
+        let d : k / s * s + k % s ≡ k = div-add-mod' k s in
+        let c : p / step * width ≡ p / step * at n v * s = ap (λ (y : ℕ). p / step * y) ew ∙ omega arith in
+        let f : place n i ≡ (p / step * at n v + k / s) * s + k % s = split n i v (t .var) ∙ (rw (← es, eo, ei, parts .1)) in
+        f ∙ omega (arith, d, c)
+
+    past : width ≤ k → inside n i ≡ false
+    past wk =
+        decide (inside n i)
+        (λ e.
+        let b : at i v < at n v = inside-at (inside-is n i e) v (t .var) in
+        let g : k / s < at n v = omega (arith, parts .1) in
+        let q : k < at n v * s = div-lt-iff-lt-mul stride-pos .0 g in
+        absurd (omega (arith, q, ew, wk)))
+        (λ e. e)
+
+    lined-place : (c m : Float) (xs : List Float) → linedFlat c m s width step xs p ≡ linedAt v c m (block n xs) i
+    lined-place c m xs =
+        let u = raise-place m xs in
+        let y : getD (drop (p / step * width) xs) k nan ≡ readAt (block n xs) i = getD-drop (p / step * width) xs k nan ∙ ap (λ (q : ℕ). getD xs q nan) (sym kept) in
+        decide (ltb k width)
+        (λ e. rw (e, is-inside (reached (ltb-true k width e)))
+        (ap (λ (z : Float). add binary64 (add binary64 zeroF z) (mul binary64 c (getD (drop (p / step * width) xs) k nan))) u ∙ ap (λ (z : Float). add binary64 (add binary64 zeroF (raisedAt v m (block n xs) i)) (mul binary64 c z)) y))
+        (λ e. rw (e, past (ltb-false k width e)) (ap (λ (z : Float). add binary64 zeroF z) u))
+
+  -- the result reaches as far as the block
+  pub lined-rows : at n v ≤ at r v → (s ≤ width) × (width ≤ step)
+  lined-rows h =
+      let a : 1 * s ≤ at n v * s = mul-le-mul-right s (lengths-pos (t .from) v (t .var)) in
+      let b : at n v * s ≤ at r v * s = mul-le-mul-right s h in
+      (omega (arith, a, ew), omega (arith, b, ew, ep))
+
+  pub lined-is : (c m : Float) (xs : List Float) {o : List Float} → o ≡ table mt (linedFlat c m s width step xs) → o ≡ table (count r) (λ k. linedAt v c m (block n xs) (index r k))
+  lined-is c m xs e = e ∙ (ap (λ (x : ℕ). table x (linedFlat c m s width step xs)) (t .full) ∙ table-same _ _ (count r) (λ p h. lined-place p h c m xs))
 
   pub raise-is : (m : Float) (xs : List Float) {o : List Float} → o ≡ table mt (raisedFlat m s width step xs) → o ≡ table (count r) (λ k. raisedAt v m (block n xs) (index r k))
   raise-is m xs e = e ∙ (ap (λ (x : ℕ). table x (raisedFlat m s width step xs)) (t .full) ∙ table-same _ _ (count r) (λ p h. raise-place p h m xs))

@@ -5,16 +5,17 @@ use mathlib.Core.Bool.{cond}
 use mathlib.Core.Path.{_≡_}
 use lib.Dec.{ltb}
 use lib.ListN.{length, getD, take, drop}
-use lib.Ieee.{Float, nan, mul, binary64}
+use lib.Ieee.{Float, nan, add, mul, binary64}
 use Rattle.lists.specs.Part.{Below}
 use Rattle.lists.specs.Four.{at, four}
 use Rattle.model.specs.declared.Way.{Way}
 use Rattle.model.specs.Header.{count}
 use Rattle.model.specs.Limits.{cutTo, sumShape, maxShape}
 use Rattle.model.specs.Refusals.{zeroF}
-use Rattle.model.specs.Poly.{Block}
+use Rattle.model.specs.Places.{inside}
+use Rattle.model.specs.Poly.{Block, readAt}
 use Rattle.model.specs.Linear.{noLinear, linear}
-use Rattle.model.specs.Product.{way, grown}
+use Rattle.model.specs.Product.{way, grown, raisedAt}
 use Rattle.words.specs.Lengths.{Lengths}
 
 -- which way, where neither is a constant and a line is looked for
@@ -28,6 +29,35 @@ raisedRow m s a k = cond (ltb k s) zeroF (mul binary64 (getD a (k - s) nan) m)
 -- rows of `width` places that become rows of `step` places, by place
 abbrev pub raisedFlat : Float → ℕ → ℕ → ℕ → List Float → ℕ → Float
 raisedFlat m s width step a p = raisedRow m s (drop (p / step * width) a) (p % step)
+
+-- under a linear factor, c and m: what is shifted there added to +0.0, then c times the row, as far as its `width` places reach. First the three parts
+-- of such a row: up to s, where +0.0 is shifted to; up to the width, where a is shifted and b stays; past it
+abbrev pub linedFirst : Float → List Float → ℕ → Float
+linedFirst c a k = add binary64 (add binary64 zeroF zeroF) (mul binary64 c (getD a k nan))
+
+abbrev pub linedMiddle : Float → List Float → Float → List Float → ℕ → Float
+linedMiddle m a c b k = add binary64 (add binary64 zeroF (mul binary64 (getD a k nan) m)) (mul binary64 c (getD b k nan))
+
+abbrev pub linedLast : Float → List Float → ℕ → Float
+linedLast m a k = add binary64 zeroF (mul binary64 (getD a k nan) m)
+
+abbrev pub linedRow : Float → Float → ℕ → ℕ → List Float → ℕ → Float
+linedRow c m s width a k =
+    cond (ltb k width) (add binary64 (add binary64 zeroF (raisedRow m s a k)) (mul binary64 c (getD a k nan))) (add binary64 zeroF (raisedRow m s a k))
+
+abbrev pub linedFlat : Float → Float → ℕ → ℕ → ℕ → List Float → ℕ → Float
+linedFlat c m s width step a p = linedRow c m s width (drop (p / step * width) a) (p % step)
+
+-- and at an index of the result
+abbrev pub linedAt : ℕ → Float → Float → Block → List ℕ → Float
+linedAt v c m b i =
+    cond (inside (b .lengths) i) (add binary64 (add binary64 zeroF (raisedAt v m b i)) (mul binary64 c (readAt b i))) (add binary64 zeroF (raisedAt v m b i))
+
+-- a row of w places that becomes one of n
+pub record LinedRow (s w n : ℕ) : Type 0 where
+  pub small : s ≤ w
+  pub reach : w ≤ n
+  pub most : n ≤ w + s
 
 -- as many such rows as there are in both buffers
 pub record Rows (s width step ma mt : ℕ) : Type 0 where

@@ -7,6 +7,7 @@ ghost use mathlib.Core.Bool.{false};
 ghost use Prim.Native.Nat.{_+_, _-_, _*_, _≤_, _<_};
 ghost use lib.ListN.{length, take};
 ghost use Rattle.lists.specs.Table.{table};
+ghost use Rattle.lists.specs.Four.{at};
 ghost use Rattle.lists.specs.Part.{part, Kept};
 ghost use Rattle.model.specs.Header.{count};
 ghost use Rattle.model.specs.Places.{index};
@@ -15,7 +16,7 @@ ghost use Rattle.model.specs.Poly.{block};
 ghost use Rattle.model.specs.Add.{joinedBlock};
 ghost use Rattle.model.specs.Product.{isZero, justC, constantBlock, scaledAt, scaled, grown, raisedAt, raised, chosen, plainProduct, linearProduct, productOf, multiplied};
 ghost use Rattle.words.specs.Lengths.{Lengths};
-ghost use Rattle.product.specs.Room.{lineWay, Raising, RaisesTo, raisedRow, raisedFlat, Rows, Plain, Joins, Room, LineRoom, Whole, LineWhole, Times, Put, Stands, Made};
+ghost use Rattle.product.specs.Room.{lineWay, Raising, RaisesTo, raisedRow, raisedFlat, linedFirst, linedMiddle, linedLast, linedRow, linedFlat, linedAt, LinedRow, Rows, Plain, Joins, Room, LineRoom, Whole, LineWhole, Times, Put, Stands, Made};
 
 // A constant alone.
 fn just(c: f64) -> Linear
@@ -343,6 +344,100 @@ pub fn times(
     product(work, pa, ea, la, pb, eb, lb, spare, limits, 1, out)
 }
 
+// The front of a row under a linear factor, where nothing is shifted to: c times it, added to +0.0 twice.
+fn line_first(c: f64, a: &[f64], to: &mut [f64])
+    requires { ⌜ length (now to) ≤ length (now a) ⌝ }
+    ensures { λ _. ⌜ now (to .exit) ≡ table (length (now (to .entry))) (linedFirst c (now (a .entry))) ⌝ }
+{
+    let n = to.len();
+    let mut k = 0;
+    while k < n {
+        to[k] = (0.0 + 0.0) + c * a[k];
+        k += 1;
+    }
+}
+
+// Its middle: m times `a`, which is shifted here, and c times `b`, which stays.
+fn line_middle(m: f64, a: &[f64], c: f64, b: &[f64], to: &mut [f64])
+    requires { ⌜ (length (now to) ≤ length (now a)) × (length (now to) ≤ length (now b)) ⌝ }
+    ensures { λ _. ⌜ now (to .exit) ≡ table (length (now (to .entry))) (linedMiddle m (now (a .entry)) c (now (b .entry))) ⌝ }
+{
+    let n = to.len();
+    let mut k = 0;
+    while k < n {
+        to[k] = (0.0 + a[k] * m) + c * b[k];
+        k += 1;
+    }
+}
+
+// Its end, which the row itself does not reach: m times what is shifted there.
+fn line_last(m: f64, a: &[f64], to: &mut [f64])
+    requires { ⌜ length (now to) ≤ length (now a) ⌝ }
+    ensures { λ _. ⌜ now (to .exit) ≡ table (length (now (to .entry))) (linedLast m (now (a .entry))) ⌝ }
+{
+    let n = to.len();
+    let mut k = 0;
+    while k < n {
+        to[k] = 0.0 + a[k] * m;
+        k += 1;
+    }
+}
+
+// One row times c, and m times it, shifted up by s, in one pass.
+fn line_row(a: &[f64], c: f64, m: f64, s: usize, to: &mut [f64])
+    requires { ⌜ LinedRow s (length (now a)) (length (now to)) ⌝ }
+    ensures { λ _. ⌜ now (to .exit) ≡ table (length (now (to .entry))) (linedRow c m s (length (now (a .entry))) (now (a .entry))) ⌝ }
+{
+    let w = a.len();
+    let n = to.len();
+    let z = 0;
+    line_first(c, a, &mut to[z..s]);
+    line_middle(m, a, c, &a[s..w], &mut to[s..w]);
+    line_last(m, &a[w - s..w], &mut to[w..n]);
+}
+
+// Row by row, each of `width` places in `a` and of `step` in `to`.
+fn line_rows(a: &[f64], c: f64, m: f64, s: usize, width: usize, step: usize, to: &mut [f64])
+    requires { ⌜ Rows s width step (length (now a)) (length (now to)) ⌝ ∗ ⌜ (s ≤ width) × (width ≤ step) ⌝ }
+    ensures { λ _. ⌜ now (to .exit) ≡ table (length (now (to .entry))) (linedFlat c m s width step (now (a .entry))) ⌝ }
+{
+    let mut from = 0;
+    let mut at = 0;
+    while at < to.len() {
+        line_row(&a[from..from + width], c, m, s, &mut to[at..at + step]);
+        from += width;
+        at += step;
+    }
+}
+
+// The block with the lengths n times c, and m times it, shifted up by one in v; r are the lengths of the result, no less than n.
+fn line_up(a: &[f64], n: [usize; 4], v: usize, c: f64, m: f64, r: [usize; 4], to: &mut [f64])
+    requires { ⌜ Raising n v r (length (now a)) (length (now to)) ⌝ ∗ ⌜ at n v ≤ at r v ⌝ }
+    ensures { λ _. ⌜ now (to .exit) ≡ table (count r) (λ k. linedAt v c m (block n (now (a .entry))) (index r k)) ⌝ }
+{
+    let strides = words::places::strides_of(n);
+    let s = strides[v];
+    line_rows(a, c, m, s, n[v] * s, r[v] * s, to);
+}
+
+// A block with more than one place times a linear factor whose constant is neither zero nor one.
+fn line_to(
+    a: &[f64],
+    n: [usize; 4],
+    line: Linear,
+    limits: [usize; 4],
+    out: &mut [f64],
+) -> [usize; 4]
+    requires { ⌜ RaisesTo n (line .variable) limits (length (now a)) (length (now out)) ⌝ ∗ ⌜ 1 < count n ⌝ }
+    ensures { λ r. ⌜ Put (joinedBlock false (raised limits (line .variable) (line .m) (block n (now (a .entry)))) (scaled (line .c) (block n (now (a .entry))))) (now (out .entry)) (now (out .exit)) r ⌝ }
+{
+    let v = line.variable;
+    let r = grown_to(limits, v, n);
+    let z = words::places::count_of(r);
+    line_up(a, n, v, line.c, line.m, r, &mut out[..z]);
+    r
+}
+
 // A block that no limit cuts times a linear factor.
 fn line_whole(
     a: &[f64],
@@ -356,8 +451,15 @@ fn line_whole(
     ensures { λ r. ⌜ Stands (linearProduct (λ x. productOf 0 limits x (constantBlock (line .c))) limits line (block n (now (a .entry)))) (now (out .exit)) r ⌝ }
 {
     let e = a.len();
-    keep(a, e, work, 0);
-    linear_product(work, 0, e, n, line, e, limits, 1, out)
+    let c = line.c;
+    if c == 0.0 {
+        return raise_to(a, n, line, limits, out);
+    }
+    if (e == 1) | (c == 1.0) {
+        keep(a, e, work, 0);
+        return linear_product(work, 0, e, n, line, e, limits, 1, out);
+    }
+    line_to(a, n, line, limits, out)
 }
 
 // The product of two operands that no limit cuts: they are read where they lie.

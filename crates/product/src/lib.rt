@@ -2,10 +2,7 @@
 pub mod kernel;
 
 use model::Answer;
-use model::Family;
 use model::Header;
-use shape::announce::announced_of;
-use words::word::header_of;
 use words::word::pack;
 ghost use mathlib.Core.Path.{_≡_};
 ghost use Rattle.model.specs.Product.{productAnswer, productOut, productScratch};
@@ -23,27 +20,20 @@ pub fn multiply(
     ensures written { λ r. ⌜ now (out .exit) ≡ productOut ah (now (a .entry)) bh (now (b .entry)) (now (out .entry)) (now (scratch .entry)) ⌝ }
     ensures cleared { λ r. ⌜ now (scratch .exit) ≡ productScratch ah (now (a .entry)) bh (now (b .entry)) (now (out .entry)) (now (scratch .entry)) ⌝ }
 {
-    let refusal = gates::pair_gate(
-        Family::Product,
-        ah,
-        a.len(),
-        bh,
-        b.len(),
-        out.len(),
-        scratch.len(),
-    );
+    let o = gates::open_product(ah, a.len(), bh, b.len(), out.len(), scratch.len());
+    let refusal = o.refusal;
     if refusal.number != 0 {
         return Answer::Refused(refusal);
     }
-    let x = header_of(ah);
-    let y = header_of(bh);
-    let h = announced_of(Family::Product, x, y);
+    let x = o.a;
+    let y = o.b;
+    let h = o.told;
     let la = x.lengths;
     let lb = y.lengths;
     let l = h.limits;
-    let na = gates::stored_of(x);
-    let nb = gates::stored_of(y);
-    let n = gates::stored_of(h);
+    let na = o.na;
+    let nb = o.nb;
+    let n = o.n;
     let room = 8 * n;
     let r = kernel::multiply_into(
         &a[..na],

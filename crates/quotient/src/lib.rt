@@ -3,8 +3,6 @@ pub mod kernel;
 
 use model::Answer;
 use model::Family;
-use shape::announce::announced_of;
-use words::word::header_of;
 use words::word::pack;
 ghost use mathlib.Core.Path.{_≡_};
 ghost use Rattle.model.specs.Quotient.{quotientAnswer, quotientOut, quotientScratch};
@@ -22,7 +20,7 @@ pub fn divide(
     ensures written { λ r. ⌜ now (out .exit) ≡ quotientOut ah (now (a .entry)) bh (now (b .entry)) (now (out .entry)) (now (scratch .entry)) ⌝ }
     ensures cleared { λ r. ⌜ now (scratch .exit) ≡ quotientScratch ah (now (a .entry)) bh (now (b .entry)) (now (out .entry)) (now (scratch .entry)) ⌝ }
 {
-    let refusal = gates::pair_gate(
+    let o = gates::open_pair(
         Family::Quotient,
         ah,
         a.len(),
@@ -31,19 +29,20 @@ pub fn divide(
         out.len(),
         scratch.len(),
     );
+    let refusal = o.refusal;
     if refusal.number != 0 {
         return Answer::Refused(refusal);
     }
-    let x = header_of(ah);
-    let y = header_of(bh);
-    let h = announced_of(Family::Quotient, x, y);
+    let x = o.a;
+    let y = o.b;
+    let h = o.told;
     let la = x.lengths;
     let lb = y.lengths;
     let l = h.limits;
     let r = h.lengths;
-    let na = gates::stored_of(x);
-    let nb = gates::stored_of(y);
-    let n = gates::stored_of(h);
+    let na = o.na;
+    let nb = o.nb;
+    let n = o.n;
     let room = 8 * n;
     kernel::divide_into(
         &a[..na],

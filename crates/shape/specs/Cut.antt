@@ -17,12 +17,23 @@ use Rattle.model.specs.Refusals.{zeroF}
 use Rattle.model.specs.Poly.{Block, readAt, coefficientAt, cut}
 use Rattle.words.specs.Rules.{GoodVar, Ruled, Regular, regular-four, ruled-at}
 use Rattle.shape.specs.Limits.{Range}
-use Rattle.words.specs.Lengths.{Inside, inside-is, is-inside, inside-four, inside-at}
+use lib.Dec.{lit<}
+use Rattle.words.specs.Lengths.{Lengths, Inside, inside-is, is-inside, inside-four, inside-at}
 use Rattle.words.specs.Places.{place-lt, index-place}
 
 cut-at : (l n : List ℕ) (k : ℕ) → k < 4 → at (cutTo l n) k ≡ min (at l k) (at n k)
 unfolding cutTo
 cut-at l n = at-four (λ k. min (at l k) (at n k))
+
+-- lengths of 1 to 64, cut
+pub cut-lengths : (l : List ℕ) {n : List ℕ} → Lengths n → ((k : ℕ) → k < 4 → 1 ≤ at l k) → Lengths (cutTo l n)
+unfolding cutTo
+cut-lengths l g p =
+    let p0 = p 0 (lit< tt) in
+    let p1 = p 1 (lit< tt) in
+    let p2 = p 2 (lit< tt) in
+    let p3 = p 3 (lit< tt) in
+    record { p0 = omega (arith, g .p0); p1 = omega (arith, g .p1); p2 = omega (arith, g .p2); p3 = omega (arith, g .p3); m0 = omega (arith, g .m0); m1 = omega (arith, g .m1); m2 = omega (arith, g .m2); m3 = omega (arith, g .m3) }
 
 -- what lies inside the cut lengths lies inside the lengths and the limits, and the other way round
 pub cut-inside : (l n : List ℕ) {i : List ℕ} → Inside (cutTo l n) i → Inside n i

@@ -1,14 +1,16 @@
 // The header that each family of operations announces, from its operands' headers alone (document 01, 'Announced limits and lengths').
+use crate::limits::cut_to;
 use crate::limits::least;
 use crate::limits::min_degrees_p1;
 use crate::limits::most;
+use crate::limits::sum_shape;
 use model::Family;
 use model::Header;
 ghost use mathlib.Core.Path.{_≡_};
 ghost use mathlib.Core.Bool.{cond};
 ghost use Prim.Native.Nat.{ℕ, _+_, _-_, _*_, _≤_, min};
 ghost use lib.Dec.{eqb};
-ghost use Rattle.model.specs.declared.Family.the-variants.{Power, Substitution};
+ghost use Rattle.model.specs.declared.Family.the-variants.{Power, Product, Substitution};
 ghost use Rattle.model.specs.Announced.{lessIn, limitAfter, lengthAfter, single, paired, announced};
 ghost use Rattle.words.specs.Rules.{Ruled};
 ghost use Rattle.words.specs.Lengths.{Small};
@@ -167,6 +169,21 @@ fn paired_header(f: Family, p: usize, a: Header, b: Header) -> Header
             paired_length(f, 2, l[2], p, n[2], m[2]),
             paired_length(f, 3, l[3], p, n[3], m[3]),
         ],
+    }
+}
+
+// A product's, with no choice by family: what `multiply` asks for at every call.
+pub fn product_header(a: Header, b: Header) -> Header
+    requires { ⌜ Ruled a ⌝ ∗ ⌜ Ruled b ⌝ }
+    ensures { λ r. ⌜ r ≡ announced Product a b ⌝ }
+{
+    let l = min_degrees_p1(a, b);
+    let n = a.lengths;
+    let m = b.lengths;
+    Header {
+        vars: most(a.vars, b.vars),
+        limits: l,
+        lengths: sum_shape(l, cut_to(l, n), cut_to(l, m)),
     }
 }
 

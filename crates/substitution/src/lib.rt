@@ -4,8 +4,6 @@ pub mod kernel;
 use model::Answer;
 use model::Family;
 use model::Header;
-use shape::announce::announced_of;
-use words::word::header_of;
 use words::word::pack;
 ghost use mathlib.Core.Path.{_≡_};
 ghost use Rattle.model.specs.Substitute.{substituteAnswer, substituteOut, substituteScratch};
@@ -24,7 +22,7 @@ pub fn subst_var(
     ensures written { λ r. ⌜ now (out .exit) ≡ substituteOut v ah (now (a .entry)) bh (now (b .entry)) (now (out .entry)) (now (scratch .entry)) ⌝ }
     ensures cleared { λ r. ⌜ now (scratch .exit) ≡ substituteScratch v ah (now (a .entry)) bh (now (b .entry)) (now (out .entry)) (now (scratch .entry)) ⌝ }
 {
-    let refusal = gates::pair_gate(
+    let o = gates::open_pair(
         Family::Substitution(v),
         ah,
         a.len(),
@@ -33,16 +31,17 @@ pub fn subst_var(
         out.len(),
         scratch.len(),
     );
+    let refusal = o.refusal;
     if refusal.number != 0 {
         return Answer::Refused(refusal);
     }
-    let x = header_of(ah);
-    let y = header_of(bh);
-    let h = announced_of(Family::Substitution(v), x, y);
+    let x = o.a;
+    let y = o.b;
+    let h = o.told;
     let l = h.limits;
-    let na = gates::stored_of(x);
-    let nb = gates::stored_of(y);
-    let n = gates::stored_of(h);
+    let na = o.na;
+    let nb = o.nb;
+    let n = o.n;
     let room = 8 * n;
     let r = kernel::substitute_into(
         &a[..na],

@@ -5,7 +5,6 @@ use mathlib.Core.Bool.{Bool, true, false}
 use mathlib.Core.Path.{_≡_, refl, sym, ap, _∙_}
 use native.Mathlib.Omega.{arith}
 use native.Mathlib.Nat.{mul-le-mul, le-refl}
-use lib.Dec.{lit<}
 use lib.ListN.{length, take, drop}
 use lib.Seq.{length-take-le}
 use lib.Ieee.{Float}
@@ -23,6 +22,7 @@ use Rattle.gates.specs.Gate.{PairReady}
 use Rattle.words.specs.Rules.{Ruled, Regular, Good, ruled-at}
 use Rattle.words.specs.Lengths.{Lengths, lengths-of, count-is}
 use Rattle.shape.specs.Limits.{min-degrees-range}
+use Rattle.shape.specs.Cut.{cut-lengths}
 use Rattle.blocks.specs.Rows.{Inner}
 use Rattle.blocks.specs.Two.{Two, Holds, cutPlaces, cut-is}
 use Rattle.blocks.specs.Combine.{Combining}
@@ -39,15 +39,6 @@ pub record Summing (la lb l r : List ℕ) (n ma mb mo mw : ℕ) : Type 0 where
   pub full-b : mb ≡ count lb
   pub out : mo ≡ n
   pub work : 8 * n ≤ mw
-
-cut-lengths : (l : List ℕ) {n : List ℕ} → Lengths n → ((k : ℕ) → k < 4 → 1 ≤ at l k) → Lengths (cutTo l n)
-unfolding cutTo
-cut-lengths l g p =
-    let p0 = p 0 (lit< tt) in
-    let p1 = p 1 (lit< tt) in
-    let p2 = p 2 (lit< tt) in
-    let p3 = p 3 (lit< tt) in
-    record { p0 = omega arith; p1 = omega arith; p2 = omega arith; p3 = omega arith; m0 = omega arith; m1 = omega arith; m2 = omega arith; m3 = omega arith }
 
 cut-inner : (l n : List ℕ) → Inner n (cutTo l n)
 unfolding cutTo

@@ -1,8 +1,6 @@
 // What the entries call.
 use model::Answer;
 use model::Family;
-use shape::announce::announced_of;
-use words::word::header_of;
 use words::word::pack;
 ghost use mathlib.Core.Path.{_≡_};
 ghost use Prim.Native.Nat.{_≤_};
@@ -63,7 +61,7 @@ pub fn sum(
     ensures written { λ r. ⌜ now (out .exit) ≡ sumOut minus ah (now (a .entry)) bh (now (b .entry)) (now (out .entry)) (now (scratch .entry)) ⌝ }
     ensures cleared { λ r. ⌜ now (scratch .exit) ≡ sumScratch minus ah (now (a .entry)) bh (now (b .entry)) (now (out .entry)) (now (scratch .entry)) ⌝ }
 {
-    let refusal = gates::pair_gate(
+    let o = gates::open_pair(
         Family::Sum,
         ah,
         a.len(),
@@ -72,19 +70,20 @@ pub fn sum(
         out.len(),
         scratch.len(),
     );
+    let refusal = o.refusal;
     if refusal.number != 0 {
         return Answer::Refused(refusal);
     }
-    let x = header_of(ah);
-    let y = header_of(bh);
-    let h = announced_of(Family::Sum, x, y);
+    let x = o.a;
+    let y = o.b;
+    let h = o.told;
     let la = x.lengths;
     let lb = y.lengths;
     let l = h.limits;
     let r = h.lengths;
-    let na = gates::stored_of(x);
-    let nb = gates::stored_of(y);
-    let n = gates::stored_of(h);
+    let na = o.na;
+    let nb = o.nb;
+    let n = o.n;
     let room = 8 * n;
     sum_into(
         minus,

@@ -1,31 +1,78 @@
-use mathlib.Core.Path.{refl}
+use native.Mathlib.Omega.{arith}
+use mathlib.Core.Bool.{false}
+use mathlib.Core.Path.{_≡_, refl}
+use Prim.Native.Nat.{_<_}
+use lib.Dec.{eqb}
+use lib.ListN.{length}
+use lib.Ieee.{eq}
+use borrow.Author.Tests.{eqb-false}
+use Rattle.model.specs.Header.{count}
+use Rattle.model.specs.Readings.{oneF}
+use Rattle.model.specs.Poly.{block}
 use Rattle.model.specs.Product.{constantBlock, productOf, linearProduct}
+use Rattle.words.specs.Lengths.{count-pos}
+use Rattle.product.specs.Ways.{raises-lens}
 use Rattle.product.specs.Line.{whole-room, whole-line}
+use Rattle.product.specs.Lined.{neither, line-raised, line-scaled}
 use borrow.Author.Needs.{needs}
 use Rattle.product.proofs.kernel.line_whole.Statement.{statement}
 use Rattle.product.proofs.kernel.line_whole.Tie as tie
-use Rattle.product.proofs.kernel.line_whole.Reads as reads
-use Rattle.product.proofs.kernel.line_whole.Lts as lts
-use Rattle.product.proofs.kernel.keep.Reads as keep-reads
-use Rattle.product.proofs.kernel.linear_product.Reads as linear-product-reads
+
+tests : (c : tie.Else2) → (eqb (length (c .before .before .before .before .before .args .a .now)) 1 ≡ false) × (eq (c .before .before .before .before .before .args .line .c) oneF ≡ false)
+tests c = neither (eqb (length (c .before .before .before .before .before .args .a .now)) 1) (eq (c .before .before .before .before .before .args .line .c) oneF) (c .if2 .left)
+
+big : (c : tie.Else2) → 1 < count (c .before .before .before .before .before .args .n)
+big c =
+    let t = (c .before .before .before .before .before) .pre .raises in
+    let one = eqb-false (length (c .before .before .before .before .before .args .a .now)) 1 (tests c .0) in
+    let full : length (c .before .before .before .before .before .args .a .now) ≡ count (c .before .before .before .before .before .args .n) = t .full in
+    omega (arith, count-pos (raises-lens t))
+
+raise-to-requires : tie.Need-raise-to-requires
+raise-to-requires c κs = (c .before .before .before .before .before) .pre .raises
+
+same-length : tie.Need-same-length
+same-length c = search needs
+
+returns : tie.Need-returns
+returns c = line-raised (c .before .before .before .before .before .before .before .before .args .limits) (c .before .before .before .before .before .before .before .before .args .line) (block (c .before .before .before .before .before .before .before .before .args .n) (c .before .before .before .before .before .before .before .before .args .a .now)) (c .before .before .before .before .if1 .taken) (c .before .before .raise-to .ensures)
 
 keep-requires : tie.Need-keep-requires
 keep-requires c κs = search needs
 
 linear-product-requires : tie.Need-linear-product-requires
-linear-product-requires c κs = whole-room ((c .before .before .before .before .before .before .before .before .before) .args .a .now) ((c .before .before .before .before .before .before .before .before .before) .pre) refl (c .before .before .before .before .keep .ensures)
-
-same-length : tie.Need-same-length
-same-length c = search needs
+linear-product-requires c κs = whole-room (c .before .before .before .before .before .before .before .before .before .before .before .args .a .now) ((c .before .before .before .before .before .before .before .before .before .before .before) .pre) refl (c .before .before .before .before .keep .ensures)
 
 same-length-2 : tie.Need-same-length-2
 same-length-2 c = search needs
 
-returns : tie.Need-returns
-returns c =
-    let a = (c .before .before .before .before .before .before .before .before .before .before .before .before .before .before) .args in
-    whole-line (a .a .now) ((c .before .before .before .before .before .before .before .before .before .before .before .before .before .before) .pre) refl (c .before .before .before .before .before .before .before .before .before .keep .ensures) (λ y. linearProduct (λ x. productOf 0 (a .limits) x (constantBlock (a .line .c))) (a .limits) (a .line) y) (c .before .before .before .before .linear-product .ensures)
+same-length-3 : tie.Need-same-length-3
+same-length-3 c = search needs
+
+returns-2 : tie.Need-returns-2
+returns-2 c = whole-line (c .before .before .before .before .before .before .before .before .before .before .before .before .before .before .before .before .args .a .now) ((c .before .before .before .before .before .before .before .before .before .before .before .before .before .before .before .before) .pre) refl (c .before .before .before .before .before .before .before .before .before .keep .ensures) (λ y. linearProduct (λ x. productOf 0 (c .before .before .before .before .before .before .before .before .before .before .before .before .before .before .before .before .args .limits) x (constantBlock (c .before .before .before .before .before .before .before .before .before .before .before .before .before .before .before .before .args .line .c))) (c .before .before .before .before .before .before .before .before .before .before .before .before .before .before .before .before .args .limits) (c .before .before .before .before .before .before .before .before .before .before .before .before .before .before .before .before .args .line) y) (c .before .before .before .before .linear-product .ensures)
+
+line-to-requires : tie.Need-line-to-requires
+line-to-requires c κs = ((c .before .before .before .before .before .before) .pre .raises, big (c .before))
+
+same-length-4 : tie.Need-same-length-4
+same-length-4 c = search needs
+
+returns-3 : tie.Need-returns-3
+returns-3 c = line-scaled (c .before .before .before .before .before .before .before .before .before .args .limits) (c .before .before .before .before .before .before .before .before .before .args .line) (block (c .before .before .before .before .before .before .before .before .before .args .n) (c .before .before .before .before .before .before .before .before .before .args .a .now)) (c .before .before .before .before .before .if1 .left) (tests (c .before .before .before .before) .1) (big (c .before .before .before .before)) (c .before .before .line-to .ensures)
 
 pub line-whole-spec : {M : Type 1} → statement M
 line-whole-spec =
-    tie.close (tie.spec keep-requires linear-product-requires same-length same-length-2 returns)
+    tie.close
+    (tie.spec
+    raise-to-requires
+    same-length
+    returns
+    keep-requires
+    linear-product-requires
+    same-length-2
+    same-length-3
+    returns-2
+    line-to-requires
+    same-length-4
+    returns-3)

@@ -1,0 +1,97 @@
+use mathlib.Core.Path.{_≡_}
+use mathlib.Core.Bool.{true, _&&_}
+use borrow.Author.Tests.{not-true, not-false}
+use Rattle.lists.specs.Test.{and-left, and-right}
+use Rattle.model.specs.Word.{headerOf, goodWord}
+use Rattle.model.specs.Gates.{full, announcedPair}
+use Rattle.model.specs.declared.Family.the-variants.{Product}
+use Rattle.words.specs.Words.{good-word}
+use Rattle.words.specs.Rules.{Ruled}
+use Rattle.gates.specs.Gate.{pair-announced}
+use Rattle.gates.specs.Open.{bad-word, not-full, passed-on}
+use borrow.Author.Needs.{needs}
+use Rattle.gates.proofs.open_product.Statement.{statement}
+use Rattle.gates.proofs.open_product.Tie as tie
+
+words : (c : tie.Else1) → (goodWord (c .before .before .before .args .ah) && goodWord (c .before .before .before .args .bh)) ≡ true
+words c = not-false _ (rw (c .before .before .is-good .ensures, c .before .is-good2 .ensures) at (c .if1 .left))
+
+word-a : (c : tie.Else1) → goodWord (c .before .before .before .args .ah) ≡ true
+word-a c = and-left (goodWord (c .before .before .before .args .ah)) (goodWord (c .before .before .before .args .bh)) (words c)
+
+word-b : (c : tie.Else1) → goodWord (c .before .before .before .args .bh) ≡ true
+word-b c = and-right (goodWord (c .before .before .before .args .ah)) (goodWord (c .before .before .before .args .bh)) (words c)
+
+ruled-a : (c : tie.Else1) → Ruled (headerOf (c .before .before .before .args .ah))
+ruled-a c = good-word _ (word-a c) .regular .rules
+
+ruled-b : (c : tie.Else1) → Ruled (headerOf (c .before .before .before .args .bh))
+ruled-b c = good-word _ (word-b c) .regular .rules
+
+is-announced : (c : tie.After-product-header) → c .product-header .result ≡ announcedPair Product (c .before .before .before .before .before .before .before .before .before .args .ah) (c .before .before .before .before .before .before .before .before .before .args .bh)
+is-announced c = simp (c .before .before .before .before .before .header-of .ensures, c .before .before .before .before .header-of2 .ensures) at (c .product-header .ensures)
+
+is-good-requires : tie.Need-is-good-requires
+is-good-requires c κs = search needs
+
+is-good-requires-2 : tie.Need-is-good-requires-2
+is-good-requires-2 c κs = search needs
+
+by-requires : tie.Need-by-requires
+by-requires c κs = search needs
+
+refused-requires : tie.Need-refused-requires
+refused-requires c κs = search needs
+
+returns : tie.Need-returns
+returns c = bad-word _ _ _ _ _ _ _ (not-true (goodWord (c .before .before .before .before .before .args .ah) && goodWord (c .before .before .before .before .before .args .bh)) (rw (c .before .before .before .before .is-good .ensures, c .before .before .before .is-good2 .ensures) at (c .before .before .if1 .taken))) (c .before .by .ensures) (c .refused .ensures)
+
+header-of-requires : tie.Need-header-of-requires
+header-of-requires c κs = search needs
+
+header-of-requires-2 : tie.Need-header-of-requires-2
+header-of-requires-2 c κs = search needs
+
+is-full-requires : tie.Need-is-full-requires
+is-full-requires c κs = rw (c .before .header-of .ensures) (ruled-a (c .before .before))
+
+is-full-requires-2 : tie.Need-is-full-requires-2
+is-full-requires-2 c κs = rw (c .before .header-of2 .ensures) (ruled-b (c .before .before .before))
+
+by-requires-2 : tie.Need-by-requires-2
+by-requires-2 c κs = search needs
+
+refused-requires-2 : tie.Need-refused-requires-2
+refused-requires-2 c κs = search needs
+
+returns-2 : tie.Need-returns-2
+returns-2 c = not-full _ _ _ _ _ _ _ (words (c .before .before .before .before .before .before .before)) (not-true (full (c .before .before .before .before .before .before .before .before .before .before .args .ah) (c .before .before .before .before .before .before .before .before .before .before .args .am) && full (c .before .before .before .before .before .before .before .before .before .before .args .bh) (c .before .before .before .before .before .before .before .before .before .before .args .bm)) (rw (c .before .before .before .before .is-full .ensures, c .before .before .before .is-full2 .ensures, c .before .before .before .before .before .before .header-of .ensures, c .before .before .before .before .before .header-of2 .ensures) at (c .before .before .if2 .taken))) (c .before .by2 .ensures) (c .refused2 .ensures)
+
+product-header-requires : tie.Need-product-header-requires
+product-header-requires c κs = (rw (c .before .before .before .before .header-of .ensures) (ruled-a (c .before .before .before .before .before)), rw (c .before .before .before .header-of2 .ensures) (ruled-b (c .before .before .before .before .before)))
+
+open-room-requires : tie.Need-open-room-requires
+open-room-requires c κs = (rw (c .before .before .before .before .before .header-of .ensures) (ruled-a (c .before .before .before .before .before .before)), (rw (c .before .before .before .before .header-of2 .ensures) (ruled-b (c .before .before .before .before .before .before)), rw (is-announced (c)) (pair-announced _ _ _ (word-a (c .before .before .before .before .before .before)) (word-b (c .before .before .before .before .before .before)) .rules)))
+
+returns-3 : tie.Need-returns-3
+returns-3 c = passed-on _ _ _ _ _ _ _ (words (c .before .before .before .before .before .before .before)) (not-false (full (c .before .before .before .before .before .before .before .before .before .before .args .ah) (c .before .before .before .before .before .before .before .before .before .before .args .am) && full (c .before .before .before .before .before .before .before .before .before .before .args .bh) (c .before .before .before .before .before .before .before .before .before .before .args .bm)) (rw (c .before .before .before .before .is-full .ensures, c .before .before .before .is-full2 .ensures, c .before .before .before .before .before .before .header-of .ensures, c .before .before .before .before .before .header-of2 .ensures) at (c .before .before .if2 .left))) (c .before .before .before .before .before .before .header-of .ensures) (c .before .before .before .before .before .header-of2 .ensures) (is-announced (c .before)) (c .open-room .ensures)
+
+pub open-product-spec : {M : Type 1} → statement M
+open-product-spec =
+    tie.close
+    (tie.spec
+    is-good-requires
+    is-good-requires-2
+    by-requires
+    refused-requires
+    returns
+    header-of-requires
+    header-of-requires-2
+    is-full-requires
+    is-full-requires-2
+    by-requires-2
+    refused-requires-2
+    returns-2
+    product-header-requires
+    open-room-requires
+    returns-3)

@@ -1,0 +1,42 @@
+use mathlib.Core.Path.{refl, sym, _∙_}
+use lib.Seq.{length-take-le}
+use Rattle.product.specs.Ways.{put-front, raises-lens, raises-whole, raises-fits, raises-raise}
+use Rattle.product.specs.Lined.{lined-in, lined-block}
+use borrow.Author.Needs.{needs}
+use Rattle.product.proofs.kernel.line_to.Statement.{statement}
+use Rattle.product.proofs.kernel.line_to.Tie as tie
+
+grown-to-requires : tie.Need-grown-to-requires
+grown-to-requires c κs = ((c .before .before) .pre .0 .var, raises-lens ((c .before .before) .pre .0))
+
+count-of-requires : tie.Need-count-of-requires
+count-of-requires c κs = raises-whole ((c .before .before .before) .pre .0) (c .grown-to .ensures)
+
+slice-relend-prefix-line-up : tie.Need-slice-relend-prefix-line-up
+slice-relend-prefix-line-up c = (raises-fits ((c .before .before .before .before) .pre .0) (c .before .grown-to .ensures) (c .count-of .ensures))
+
+slice-aggregate-line-up : tie.Need-slice-aggregate-line-up
+slice-aggregate-line-up c = sym (length-take-le _ (c .before .before .before .before .before .args .out .now) (raises-fits ((c .before .before .before .before .before) .pre .0) (c .before .before .grown-to .ensures) (c .before .count-of .ensures)))
+
+line-up-requires : tie.Need-line-up-requires
+line-up-requires c κs = (raises-raise ((c .before .before .before .before .before) .pre .0) (c .before .before .grown-to .ensures) (length-take-le _ (c .before .before .before .before .before .args .out .now) (raises-fits ((c .before .before .before .before .before) .pre .0) (c .before .before .grown-to .ensures) (c .before .count-of .ensures)) ∙ c .before .count-of .ensures), lined-in ((c .before .before .before .before .before) .pre .0) (c .before .before .grown-to .ensures) (c .before .before .before .before .before .args .line .variable) ((c .before .before .before .before .before) .pre .0 .var))
+
+same-length : tie.Need-same-length
+same-length c = search needs
+
+returns : tie.Need-returns
+returns c =
+    let j = lined-block ((c .before .before .before .before .before .before .before .before) .pre .0) (c .before .before .before .before .before .grown-to .ensures) (c .before .before .before .before .before .before .before .before .args .line .c) (c .before .before .before .before .before .before .before .before .args .line .m) (c .before .before .before .before .before .before .before .before .args .a .now) ((c .before .before .before .before .before .before .before .before) .pre .1) (c .before .before .line-up .ensures) in
+    put-front (c .before .before .before .before .count-of .result) (j .0) (j .1) (c .before .before .line-up .kept .1 .1 .1 .1 .1 .1 .0 ∙ length-take-le _ (c .before .before .before .before .before .before .before .before .args .out .now) (raises-fits ((c .before .before .before .before .before .before .before .before) .pre .0) (c .before .before .before .before .before .grown-to .ensures) (c .before .before .before .before .count-of .ensures))) refl
+
+pub line-to-spec : {M : Type 1} → statement M
+line-to-spec =
+    tie.close
+    (tie.spec
+    grown-to-requires
+    count-of-requires
+    slice-relend-prefix-line-up
+    slice-aggregate-line-up
+    line-up-requires
+    same-length
+    returns)
