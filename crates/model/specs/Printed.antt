@@ -1,6 +1,6 @@
 -- Document 01, the program `recipe`: what it prints. `done` and the step count, then the last header, then its coefficients; or one line of `refused`, number,
 -- place, single spaces between. NaN prints as 7ff8000000000000.
-use Prim.Native.Nat.{ℕ, _+_, _/_, _%_}
+use Prim.Native.Nat.{ℕ, zero, suc, _+_, _/_, _%_}
 use mathlib.Core.List.{List, [], _∷_, _++_, map}
 use mathlib.Core.Bool.{cond}
 use lib.Dec.{ltb}
@@ -26,12 +26,14 @@ newline = 10 ∷ []
 abbrev pub lastDigit : ℕ → ℕ
 lastDigit n = 48 + n % 10
 
--- a number below 1,000
+-- the digits of a number below 10 ^ k
+unfoldable pub digits : ℕ → ℕ → List ℕ
+digits zero n = []
+digits (suc k) n = cond (ltb n 10) (lastDigit n ∷ []) (digits k (n / 10) ++ (lastDigit n ∷ []))
+
+-- a number below 10 ^ 20, no zeros before it
 unfoldable pub decimal : ℕ → List ℕ
-decimal n =
-    cond (ltb n 10) (lastDigit n ∷ [])
-    (cond (ltb n 100) (lastDigit (n / 10) ∷ lastDigit n ∷ [])
-    (lastDigit (n / 100) ∷ lastDigit (n / 10) ∷ lastDigit n ∷ []))
+decimal n = digits 20 n
 
 -- n steps, of which the last has the header word w and the coefficients xs
 unfoldable pub doneText : ℕ → ℕ → List Float → List ℕ

@@ -1,4 +1,4 @@
--- What is printed, by how the judging and the run of a sheet end.
+-- By what a sheet is refused, where it is read, judged or run, and what is printed for it.
 use Prim.Native.Nat.{ℕ, _+_, _-_, _*_, _≤_}
 use mathlib.Core.List.{List, _++_, map}
 use mathlib.Core.Path.{_≡_, refl, sym, ap, _∙_}
@@ -6,7 +6,7 @@ use native.Mathlib.Omega.{arith}
 use lib.Dec.{eqb}
 use lib.Ieee.{Float}
 use lib.ListN.{length, take, drop, length-append, length-drop}
-use lib.Seq.{length-take-le, take-at}
+use lib.Seq.{length-take-le, take-at, take-all}
 use borrow.Author.Tests.{eqb-true, eqb-false, eq-eqb, ne-eqb}
 use Rattle.lists.specs.Table.{table, length-table}
 use Rattle.lists.specs.Test.{decide}
@@ -21,9 +21,11 @@ use Rattle.model.specs.Sheet.{wordOn, inputCount, stepCount, sheetHeaders, coef
 use Rattle.kinds.specs.Known.{Known}
 use Rattle.recipes.specs.Asks.{or-first, or-next}
 use Rattle.sheet.specs.Headers.{good-known}
-use Rattle.sheet.specs.Opened.{Opened, opened, opened-good, opened-few, headers-many}
+use Rattle.sheet.specs.Opened.{Opened, opened, opened-good, opened-few, headers-many, steps-many}
 use Rattle.sheet.specs.Limits.{OwnJudged}
-use Rattle.sheet.specs.Running.{Opening, Running}
+use Rattle.sheet.specs.declared.Solved.{Solved}
+use Rattle.sheet.specs.Running.{Opening, Running, running-passed, running-known}
+use Rattle.sheet.specs.Solves.{Ends, Ended, Solution}
 
 module _ (t : List ℕ) where
   pub output-refused : {q : Refusal} → sheetRefusal t ≡ q → (q .number ≡ 0 → ⊥) → sheetOutput t ≡ refusedText q
@@ -35,9 +37,12 @@ module _ (t : List ℕ) where
   output-done e = rw (eq-eqb (sheetRefusal t .number) 0 e)
 
   -- refused as it is read
-  pub output-read : {r : Refusal} → r ≡ readRefusal t → (r .number ≡ 0 → ⊥) → sheetOutput t ≡ refusedText r
+  pub read-refused : {r : Refusal} → r ≡ readRefusal t → (r .number ≡ 0 → ⊥) → r ≡ sheetRefusal t
   unfolding sheetRefusal
-  output-read {r} e z = output-refused (ap (λ (x : Refusal). orElse x (recipeRefusal (sheetHeaders t) (sheetCoefficients t) (sheetSteps t))) (sym e) ∙ or-first _ z) z
+  read-refused {r} e z = sym (ap (λ (x : Refusal). orElse x (recipeRefusal (sheetHeaders t) (sheetCoefficients t) (sheetSteps t))) (sym e) ∙ or-first _ z)
+
+  pub output-read : {r : Refusal} → r ≡ readRefusal t → (r .number ≡ 0 → ⊥) → sheetOutput t ≡ refusedText r
+  output-read e z = output-refused (sym (read-refused e z)) z
 
 or-assoc : (a b c : Refusal) → orElse a (orElse b c) ≡ orElse (orElse a b) c
 or-assoc a b c =
@@ -72,8 +77,8 @@ module _ {t hs : List ℕ} (o : Opening t hs) where
   pub opening-small : total (map headerOf hs) ≤ 65536
   opening-small = omega (arith, opening-count, opened-few open-t, open-t .sizes .few)
 
-  -- the steps were read into the first n of 64 places, which hold `part` now
-  module _ {n x : ℕ} (old : List ℕ) {part : List ℕ} (en : n ≡ stepCount t) (ex : x ≡ total (map headerOf hs)) (m : length old ≡ 64)
+  -- the steps were read into the first n places of old, which hold `part` now
+  module _ {n x : ℕ} (old : List ℕ) {part : List ℕ} (en : n ≡ stepCount t) (ex : x ≡ total (map headerOf hs)) (m : 64 ≤ length old)
       (ep : part ≡ table (length (take n old)) (λ j. wordOn t (1 + length hs + x + j))) where
     pub steps-places : n ≤ length old
     steps-places = omega (arith, opening-fit)
@@ -84,7 +89,7 @@ module _ {t hs : List ℕ} (o : Opening t hs) where
     part-len : length part ≡ n
     part-len = ap length ep ∙ (length-table (λ j. wordOn t (1 + length hs + x + j)) (length (take n old)) ∙ steps-taken)
 
-    pub steps-room : length (part ++ drop n old) ≡ 64
+    pub steps-room : length (part ++ drop n old) ≡ length old
     steps-room = omega (arith, length-append part (drop n old), length-drop n old, part-len, steps-places)
 
     pub steps-read : take n (part ++ drop n old) ≡ sheetSteps t
@@ -102,9 +107,9 @@ module _ {t hs : List ℕ} (o : Opening t hs) where
       (or-assoc (checkRefusal hs ss) (ownRefusal hs ss) (ranRefusal hs (sheetCoefficients t) ss)))
 
   -- judged, and refused
-  pub output-judged : {ss old new : List ℕ} {r : Refusal} → ss ≡ sheetSteps t → OwnJudged hs ss old new r → (r .number ≡ 0 → ⊥) → sheetOutput t ≡ refusedText r
-  output-judged {ss} {old} {new} {r} es j z =
-      output-refused t (opening-refusal es ∙ (ap (λ (x : Refusal). orElse x (ranRefusal hs (sheetCoefficients t) ss)) (sym (j .answer)) ∙ or-first _ z)) z
+  pub judged-refused : {ss old new : List ℕ} {r : Refusal} → ss ≡ sheetSteps t → OwnJudged hs ss old new r → (r .number ≡ 0 → ⊥) → r ≡ sheetRefusal t
+  judged-refused {ss} {old} {new} {r} es j z =
+      sym (opening-refusal es ∙ (ap (λ (x : Refusal). orElse x (ranRefusal hs (sheetCoefficients t) ss)) (sym (j .answer)) ∙ or-first _ z))
 
   pub running : {ss old new : List ℕ} {r : Refusal} {end : ℕ} → ss ≡ sheetSteps t → OwnJudged hs ss old new r → r .number ≡ 0 → end ≡ length hs + length ss → Running t hs ss (take end new)
   running {ss} {old} {new} {r} {end} es j z ee =
@@ -114,3 +119,40 @@ module _ {t hs : List ℕ} (o : Opening t hs) where
         judged = ap (λ (x : Refusal). x .number) (sym (j .answer)) ∙ z;
         places = rw ee (j .noted z);
       }
+
+-- the run has ended: its n steps stand at the front of `steps`, the words of its k places at the front of `known`
+module _ {t hs : List ℕ} (steps known : List ℕ) {pool : List Float} {n k : ℕ} {s : Solved} (r : Running t hs (take n steps) (take k known))
+    (en : n ≡ stepCount t) (ek : k ≡ length hs + n) (e : Ends t hs (take n steps) pool s) where
+  ended-steps : length (take n steps) ≡ n
+  ended-steps = ap length (r .steps) ∙ (steps-many t ∙ sym en)
+
+  pub ended-done : Ended t hs steps known pool s
+  ended-done =
+      record {
+        refusal = e .refusal;
+        done = λ z.
+            let d = e .done z in
+            let i : s .inputs ≡ length hs = d .inputs in
+            let m : s .steps ≡ n = d .steps ∙ ended-steps in
+            let both : s .inputs + s .steps ≡ k = omega (arith, i, m, ek) in
+            let some = running-passed r .accepts .sizes .some in
+            record {
+              inputs = i ∙ (ap length (r .opened .headers) ∙ headers-many t);
+              few = omega (arith, i, opening-few (r .opened));
+              steps = m ∙ en;
+              some = omega (arith, d .steps, some);
+              fit = omega (arith, i, m, en, opening-fit (r .opened));
+              header-words = take-all (s .inputs) hs (omega (arith, i)) ∙ r .opened .headers;
+              step-words = ap (λ (x : ℕ). take x steps) m ∙ r .steps;
+              places = rw (both, r .places, r .opened .headers, r .steps) refl;
+              known = rw both (running-known r);
+              last = d .last;
+            };
+      }
+
+-- what is printed for a sheet that is not refused, with the coefficients as `&pool[from..from + count]` reads them
+pub output-solved : {t headers steps known : List ℕ} {pool : List Float} {s : Solved} → Solution t headers steps known pool s → sheetRefusal t .number ≡ 0
+    → sheetOutput t ≡ doneText (s .steps) (s .header) (take (s .from + s .count - s .from) (drop (s .from) pool))
+output-solved {t} {headers} {steps} {known} {pool} {s} d z =
+    let e : s .from + s .count - s .from ≡ s .count = omega arith in
+    output-done t z ∙ rw (e, d .steps, d .last .header, d .last .coefficients) refl

@@ -1,6 +1,3 @@
-pub mod Put
-pub mod Lines
-pub mod Texts
 pub mod Headers
 pub mod Reading
 pub mod Example
@@ -8,5 +5,6 @@ pub mod Limits
 pub mod Opened
 pub mod Front
 pub mod Running
+pub mod Solves
 pub mod Ended
 pub mod Ran

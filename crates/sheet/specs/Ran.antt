@@ -1,10 +1,10 @@
--- A run of a sheet's recipe, refused or done, and what is printed for it.
+-- A run of a sheet's recipe, refused or done, and where its last value lies.
 use Prim.Native.Nat.{ℕ, zero, suc, _+_, _-_, _*_, _≤_, _<_}
 use mathlib.Core.List.{List, [], _∷_}
 use mathlib.Core.Path.{_≡_, refl, sym, ap, _∙_}
 use native.Mathlib.Omega.{arith}
 use lib.Ieee.{Float, ofBits, binary64}
-use lib.ListN.{length, getD, take, drop, length-drop, length-take}
+use lib.ListN.{length, getD, take, drop}
 use lib.Seq.{take-take, take-at, getD-drop}
 use borrow.Author.Tests.{eq-eqb, ne-eqb}
 use Rattle.lists.specs.Table.{table, length-table}
@@ -13,23 +13,26 @@ use Rattle.model.specs.declared.Refusal.{Refusal}
 use Rattle.model.specs.declared.RunAnswer.the-variants.{Done, Refused}
 use Rattle.model.specs.Header.{noHeader, stored}
 use Rattle.model.specs.Word.{headerOf, wordOf}
-use Rattle.model.specs.Refusals.{zeroF, zeros, padded}
+use Rattle.model.specs.Refusals.{noRefusal, zeroF, zeros, padded}
 use Rattle.model.specs.Poly.{Poly}
 use Rattle.model.specs.Recipe.{headAt, inputHeads, announcedPlaces, announcedSteps, total, largest}
 use Rattle.model.specs.Run.{noValue, valueAt, values, stepValues, runBy, runRefusal, runAnswer, runPool, runWords}
-use Rattle.model.specs.Printed.{doneText, refusedText}
-use Rattle.model.specs.Sheet.{wordOn, inputCount, stepCount, coefficientCount, sheetCoefficients, sheetRefusal, lastValue, sheetOutput}
+use Rattle.model.specs.Sheet.{wordOn, inputCount, stepCount, coefficientCount, sheetCoefficients, sheetRefusal, lastValue}
+use Rattle.words.specs.Rules.{Ruled}
 use Rattle.words.specs.Words.{unpack-pack}
 use Rattle.shape.specs.Keeps.{Keeps}
 use Rattle.shape.specs.Under.{count-under}
 use Rattle.recipes.specs.Asks.{or-next, by-refusal}
 use Rattle.recipes.specs.Follows.{Follows}
+use Rattle.recipes.specs.Never.{run-none}
 use Rattle.recipes.specs.Ahead.{announced-at, length-announced, step-largest}
 use Rattle.recipes.specs.Values.{follows-all}
 use Rattle.recipes.specs.Buffers.{word-kept, coeffs-kept}
 use Rattle.sheet.specs.Opened.{headers-many, steps-many}
-use Rattle.sheet.specs.Running.{RunningIn, Ran, passed, steps-largest}
-use Rattle.sheet.specs.Ended.{ranRefusal, output-refused, output-done, opening-few, opening-count, opening-refusal}
+use Rattle.sheet.specs.declared.Solved.{Solved}
+use Rattle.sheet.specs.Running.{RunningIn, passed, steps-largest}
+use Rattle.sheet.specs.Solves.{solvedBy, LastAt, Ends}
+use Rattle.sheet.specs.Ended.{ranRefusal, opening-few, opening-count, opening-refusal}
 
 -- what a run's answer says of its refusal
 by-refused : {r q : Refusal} → Refused q ≡ runBy r → (r ≡ q) × (q .number ≡ 0 → ⊥)
@@ -88,9 +91,9 @@ module _ {t hs ss : List ℕ} {f c : ℕ} (pool : List Float) (words : List ℕ)
     run-refusal : sheetRefusal t ≡ runRefusal hs cs ss pool words scratch
     run-refusal = opening-refusal (r .opened) (r .steps) ∙ (or-next _ _ (r .judged) ∙ rw (← e) (sym same-lengths))
 
-    pub ran-refused : {q : Refusal} → Refused q ≡ runAnswer hs cs ss pool words scratch → sheetOutput t ≡ refusedText q
+    pub ran-refused : {q : Refusal} → Refused q ≡ runAnswer hs cs ss pool words scratch → (q ≡ sheetRefusal t) × (q .number ≡ 0 → ⊥)
     unfolding runAnswer
-    ran-refused a = let b = by-refused a in output-refused t (run-refusal ∙ b .0) (b .1)
+    ran-refused a = let b = by-refused a in (sym (run-refusal ∙ b .0), b .1)
 
     given-len : total (inputHeads hs) ≤ length cs
     unfolding sheetCoefficients
@@ -144,29 +147,37 @@ module _ {t hs ss : List ℕ} {f c : ℕ} (pool : List Float) (words : List ℕ)
           ap stored (getD-drop (length hs) (announcedPlaces hs ss) (length ss - 1) noHeader) in
           omega (arith, lp, r .pool, r .from, total-take (announcedSteps hs ss) (length ss - 1) (omega (arith, length-announced hs ss, in-some)), s)
 
-      pub pool-within : f ≤ length ps
-      pool-within = omega (arith, places-fit)
+      pub ran-ruled : Ruled (headerOf (getD ws (length ss - 1) 0))
+      ran-ruled = rw head-is (keep .regular .rules)
 
-      pub ran-room : {m : ℕ} → 4378 ≤ m → Ran (length ss) (getD ws (length ss - 1) 0) (length (take (length ps - f) (drop f ps))) m
-      ran-room h =
-          record {
-            few = omega (arith, passed hs ss (r .judged) .accepts .sizes .fit);
-            ruled = rw head-is (keep .regular .rules);
-            held = simp (length-take, length-drop) (omega (arith, count-is, value-fits, places-fit));
-            small =
-                let l : most ≤ largest (announcedSteps hs ss) = rw (announced-at hs ss (length ss - 1) last-in) (step-largest hs ss (length ss - 1) last-in) in
-                omega (arith, count-is, value-fits, l, steps-largest (passed hs ss (r .judged)));
-            room = h;
-          }
-
-      coefficients-are : take (stored (headerOf (getD ws (length ss - 1) 0))) (take (length ps - f) (drop f ps)) ≡ lastValue t .coeffs
+      coefficients-are : take (stored (headerOf (getD ws (length ss - 1) 0))) (drop f ps) ≡ lastValue t .coeffs
       coefficients-are =
           let xs : List Float = lastValue t .coeffs in
           let kept : take most (drop f ps) ≡ padded most xs =
           rw (ep, r .from) (coeffs-kept hs cs ss follow pool words scratch none (length ss - 1) last-in ∙ ap (λ (v : Poly). padded most (v .coeffs)) value-last) in
-          ap (λ (i : ℕ). take i (take (length ps - f) (drop f ps))) count-is
-          ∙ (take-take (length xs) (length ps - f) (drop f ps) (omega (arith, value-fits, places-fit))
-          ∙ (sym (take-take (length xs) most (drop f ps) value-fits) ∙ (ap (take (length xs)) kept ∙ take-at xs (zeros (most - length xs)) (length xs) refl)))
+          ap (λ (i : ℕ). take i (drop f ps)) count-is
+          ∙ (sym (take-take (length xs) most (drop f ps) value-fits) ∙ (ap (take (length xs)) kept ∙ take-at xs (zeros (most - length xs)) (length xs) refl))
 
-      pub ran-done : sheetOutput t ≡ doneText (length ss) (getD ws (length ss - 1) 0) (take (stored (headerOf (getD ws (length ss - 1) 0))) (take (length ps - f) (drop f ps)))
-      ran-done = output-done t (rw run-refusal none) ∙ rw (coefficients-are, word-is, in-steps)
+      ran-last : LastAt t ps (getD ws (length ss - 1) 0) f (stored (headerOf (getD ws (length ss - 1) 0)))
+      ran-last =
+          let p = passed hs ss (r .judged) in
+          let l : most ≤ largest (announcedSteps hs ss) = rw (announced-at hs ss (length ss - 1) last-in) (step-largest hs ss (length ss - 1) last-in) in
+          record {
+            header = word-is;
+            count = count-is;
+            full = refl;
+            few = omega (arith, count-is, value-fits, l, steps-largest p);
+            within = omega (arith, count-is, value-fits, places-fit, lp, r .pool, p .pool);
+            held = omega (arith, count-is, value-fits, places-fit);
+            coefficients = coefficients-are;
+          }
+
+      -- nothing else refuses
+      ran-none : noRefusal ≡ sheetRefusal t
+      ran-none =
+          sym (run-refusal
+          ∙ run-none hs cs ss pool words scratch (passed hs ss (r .judged) .check)
+          (record { coeffs = given-len; pool = omega (arith, r .pool); words = omega (arith, r .words); scratch = omega (arith, r .scratch) }))
+
+      pub ran-done : {s : Solved} → s ≡ solvedBy (length hs) (length ss) (getD ws (length ss - 1) 0) f → Ends t hs ss ps s
+      ran-done e = rw e (record { refusal = ran-none; done = λ z. record { inputs = refl; steps = refl; last = ran-last } })

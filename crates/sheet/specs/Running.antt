@@ -17,7 +17,6 @@ use Rattle.model.specs.Recipe.{announcedStep, inputHeads, announcedPlaces, anno
 use Rattle.model.specs.Check.{orElse, checkRefusal}
 use Rattle.model.specs.Sheet.{sheetHeaders, sheetSteps, ownRefusal, readRefusal}
 use Rattle.words.specs.Lengths.{lengths-of, count-most}
-use Rattle.words.specs.Rules.{Ruled}
 use Rattle.kinds.specs.Known.{Known}
 use Rattle.recipes.specs.Asks.{or-none, ask-none}
 use Rattle.recipes.specs.Judged.{Accepts, accepts, places-known}
@@ -48,14 +47,6 @@ pub record RunningIn (t hs ss : List ℕ) (f c p w s : ℕ) : Type 0 where
   pub pool : p ≡ total (announcedSteps hs ss)
   pub words : w ≡ length ss
   pub scratch : s ≡ 8 * largest (announcedSteps hs ss)
-
--- a last header word and coefficients that can be printed: n steps, x places, m bytes
-pub record Ran (n w x m : ℕ) : Type 0 where
-  pub few : n ≤ 64
-  pub ruled : Ruled (headerOf w)
-  pub held : stored (headerOf w) ≤ x
-  pub small : stored (headerOf w) ≤ 256
-  pub room : 4378 ≤ m
 
 -- places, of which the first k are inputs
 abbrev pub roomOf : ℕ → List Header → Room
@@ -144,7 +135,7 @@ module _ {t hs ss known : List ℕ} (r : Running t hs ss known) where
   running-many =
       sym (length-map known headerOf) ∙ (ap length (r .places) ∙ (length-chain announcedStep (inputHeads hs) ss ∙ ap (λ (n : ℕ). n + length ss) (length-map hs headerOf)))
 
-  -- what the run takes, out of buffers a, b and d of 2,048 floats and w of 64 words
+  -- what the run takes, out of buffers of 2,048 floats and one of 64 words
   module _ {m : Room} (e : m ≡ roomOf (length hs) (map headerOf known)) where
     room-steps : drop (length hs) (map headerOf known) ≡ announcedSteps hs ss
     unfolding announcedSteps

@@ -1,8 +1,8 @@
 // Reading a sheet in order, as far as its words are well formed.
-use crate::line::is_line;
-use crate::line::word_at;
 use model::Refusal;
 use recipes::judge::total_of;
+use text::line::is_line;
+use text::line::word_at;
 use words::word::is_good;
 ghost use mathlib.Core.Path.{_≡_};
 ghost use Prim.Native.Nat.{_+_, _≤_};

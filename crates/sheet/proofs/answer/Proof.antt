@@ -1,56 +1,86 @@
-use mathlib.Core.Path.{_≡_, sym, ap, _∙_}
-use Rattle.model.specs.declared.Refusal.{Refusal}
-use Rattle.model.specs.Sheet.{readRefusal}
 use native.Mathlib.Omega.{arith}
-use mathlib.Core.Path.{sym, _∙_}
-use lib.Seq.{length-take-le}
-use Rattle.sheet.specs.Put.{put-front}
-use Rattle.sheet.specs.Opened.{opened}
-use Rattle.sheet.specs.Ended.{output-read}
+use mathlib.Core.Path.{sym, ap, _∙_}
+use lib.ListN.{length-take}
+use Rattle.model.specs.declared.Refusal.{Refusal}
+use Rattle.text.specs.Put.{put-front}
+use Rattle.sheet.specs.Ended.{output-refused, output-solved}
 use borrow.Author.Needs.{needs}
 use Rattle.sheet.proofs.answer.Statement.{statement}
 use Rattle.sheet.proofs.answer.Tie as tie
 
-none : (c : tie.Else1) → readRefusal (c .before .before .before .before .before .before .args .text .now) .number ≡ 0
-none c = ap (λ (r : Refusal). r .number) (sym (c .before .before .before .read .ensures .answer)) ∙ c .if1 .left
+places-requires : tie.Need-places-requires
+places-requires c κs = search needs
 
-slice-aggregate-read : tie.Need-slice-aggregate-read
-slice-aggregate-read c = search needs
+places-requires-2 : tie.Need-places-requires-2
+places-requires-2 c κs = search needs
 
-read-requires : tie.Need-read-requires
-read-requires c κs = search needs
+floats-requires : tie.Need-floats-requires
+floats-requires c κs = search needs
+
+slice-aggregate-solve : tie.Need-slice-aggregate-solve
+slice-aggregate-solve c = search needs
+
+slice-aggregate-solve-2 : tie.Need-slice-aggregate-solve-2
+slice-aggregate-solve-2 c = search needs
+
+slice-aggregate-solve-3 : tie.Need-slice-aggregate-solve-3
+slice-aggregate-solve-3 c = search needs
+
+slice-aggregate-solve-4 : tie.Need-slice-aggregate-solve-4
+slice-aggregate-solve-4 c = search needs
+
+solve-requires : tie.Need-solve-requires
+solve-requires c κs = search needs
 
 put-refusal-requires : tie.Need-put-refusal-requires
 put-refusal-requires c κs = search needs
 
 returns : tie.Need-returns
-returns c = let p = put-front (c .put-refusal .ensures) in rw (output-read _ (c .before .before .before .before .before .read .ensures .answer) (c .before .before .if1 .taken)) (p .0, (omega (arith, c .put-refusal .ensures .fits), p .1))
+returns c = let p = put-front (c .put-refusal .ensures) in rw (output-refused _ (sym (c .before .before .before .before .before .before .before .before .before .solve .ensures .refusal)) (c .before .before .if1 .taken)) (p .0, (omega (arith, c .put-refusal .ensures .fits), p .1))
 
-input-count-requires : tie.Need-input-count-requires
-input-count-requires c κs = search needs
+add-end : tie.Need-add-end
+add-end c = omega (arith, (c .before .before .before .before .before .before .before .before .solve .ensures .done (c .before .if1 .left)) .last .within)
 
-array-share-prefix-headers : tie.Need-array-share-prefix-headers
-array-share-prefix-headers c = omega (arith, c .before .before .before .before .read .ensures .len, c .input-count .ensures, (opened (c .before .before .before .before .before .before .before .args .text .now) (none (c .before))) .sizes .few)
+cast-put-done : tie.Need-cast-put-done
+cast-put-done c = omega (arith, (c .before .before .before .before .before .before .before .before .before .solve .ensures .done (c .before .before .if1 .left)) .fit)
 
-slice-aggregate-run-read : tie.Need-slice-aggregate-run-read
-slice-aggregate-run-read c = sym (length-take-le _ _ (array-share-prefix-headers (c .before)))
+mul-put-done : tie.Need-mul-put-done
+mul-put-done c = omega (arith, (c .before .before .before .before .before .before .before .before .before .solve .ensures .done (c .before .before .if1 .left)) .last .within)
 
-run-read-requires : tie.Need-run-read-requires
-run-read-requires c κs = (record { read = none (c .before .before .before); headers = rw (c .before .before .input-count .ensures) (c .before .before .before .before .before .before .read .ensures .headers (c .before .before .before .if1 .left)) }, omega arith)
+sub-put-done : tie.Need-sub-put-done
+sub-put-done c = search needs
+
+part-put-done-start : tie.Need-part-put-done-start
+part-put-done-start c = search needs
+
+part-put-done-end : tie.Need-part-put-done-end
+part-put-done-end c = omega (arith, (c .before .before .before .before .before .before .before .before .before .before .solve .ensures .done (c .before .before .before .if1 .left)) .last .held)
+
+put-done-requires : tie.Need-put-done-requires
+put-done-requires c κs = simp length-take (omega (arith, (c .before .before .before .before .before .before .before .before .before .before .before .before .solve .ensures .done (c .before .before .before .before .before .if1 .left)) .last .few))
 
 returns-2 : tie.Need-returns-2
-returns-2 c = let p = put-front (c .run-read .ensures) in (p .0, (omega (arith, c .run-read .ensures .fits), p .1))
+returns-2 c = let p = put-front (c .put-done .ensures) in rw (output-solved (c .before .before .before .before .before .before .before .before .before .before .before .before .before .solve .ensures .done (c .before .before .before .before .before .before .if1 .left)) (ap (λ (r : Refusal). r .number) (sym (c .before .before .before .before .before .before .before .before .before .before .before .before .before .solve .ensures .refusal)) ∙ c .before .before .before .before .before .before .if1 .left)) (p .0, (omega (arith, c .put-done .ensures .fits), p .1))
 
 pub answer-spec : {M : Type 1} → statement M
 answer-spec =
     tie.close
     (tie.spec
-    slice-aggregate-read
-    read-requires
+    places-requires
+    places-requires-2
+    floats-requires
+    slice-aggregate-solve
+    slice-aggregate-solve-2
+    slice-aggregate-solve-3
+    slice-aggregate-solve-4
+    solve-requires
     put-refusal-requires
     returns
-    input-count-requires
-    array-share-prefix-headers
-    slice-aggregate-run-read
-    run-read-requires
+    add-end
+    cast-put-done
+    mul-put-done
+    sub-put-done
+    part-put-done-start
+    part-put-done-end
+    put-done-requires
     returns-2)

@@ -2,8 +2,9 @@ use native.Mathlib.Omega.{arith}
 use mathlib.Core.List.{_++_, append-assoc}
 use Rattle.model.specs.Hex.{hexLine}
 use Rattle.model.specs.Printed.{doneWord, newline, decimal, doneText}
-use Rattle.sheet.specs.Put.{Put, put-len, put-then}
-use Rattle.sheet.specs.Texts.{length-line, decimal-most}
+use Rattle.text.specs.Put.{Put, put-len, put-then}
+use Rattle.text.specs.Texts.{length-line}
+use Rattle.text.specs.Decimal.{decimal-most}
 use borrow.Author.Needs.{needs}
 use Rattle.sheet.proofs.print.put_done.Statement.{statement}
 use Rattle.sheet.proofs.print.put_done.Tie as tie
@@ -25,16 +26,16 @@ put-bytes-requires : tie.Need-put-bytes-requires
 put-bytes-requires c κs = search needs
 
 put-decimal-requires : tie.Need-put-decimal-requires
-put-decimal-requires c κs = search needs
+put-decimal-requires c κs = omega (arith, put-len (c .before .before .before .put-bytes .ensures), c .before .before .before .put-bytes .ensures .behind, decimal-most 3 (c .before .before .before .before .before .before .before .before .args .steps) (omega arith) (omega arith) (omega arith))
 
 put-byte-requires : tie.Need-put-byte-requires
-put-byte-requires c κs = omega (arith, put-len (second (c .before .before .before)), c .before .before .before .before .before .before .before .put-bytes .ensures .behind, c .before .before .before .put-decimal .ensures .behind, decimal-most (c .before .before .before .before .before .before .before .before .before .before .before .before .args .steps))
+put-byte-requires c κs = omega (arith, put-len (second (c .before .before .before)), c .before .before .before .before .before .before .before .put-bytes .ensures .behind, c .before .before .before .put-decimal .ensures .behind, decimal-most 3 (c .before .before .before .before .before .before .before .before .before .before .before .before .args .steps) (omega arith) (omega arith) (omega arith))
 
 put-line-requires : tie.Need-put-line-requires
-put-line-requires c κs = omega (arith, put-len (third (c .before .before .before)), c .before .before .before .before .before .before .before .before .before .before .before .put-bytes .ensures .behind, c .before .before .before .before .before .before .before .put-decimal .ensures .behind, c .before .before .before .put-byte .ensures .behind, decimal-most (c .before .before .before .before .before .before .before .before .before .before .before .before .before .before .before .before .args .steps))
+put-line-requires c κs = omega (arith, put-len (third (c .before .before .before)), c .before .before .before .before .before .before .before .before .before .before .before .put-bytes .ensures .behind, c .before .before .before .before .before .before .before .put-decimal .ensures .behind, c .before .before .before .put-byte .ensures .behind, decimal-most 3 (c .before .before .before .before .before .before .before .before .before .before .before .before .before .before .before .before .args .steps) (omega arith) (omega arith) (omega arith))
 
 put-floats-requires : tie.Need-put-floats-requires
-put-floats-requires c κs = omega (arith, put-len (fourth (c .before .before .before)), c .before .before .before .before .before .before .before .before .before .before .before .before .before .before .before .put-bytes .ensures .behind, c .before .before .before .before .before .before .before .before .before .before .before .put-decimal .ensures .behind, c .before .before .before .before .before .before .before .put-byte .ensures .behind, c .before .before .before .put-line .ensures .behind, length-line (c .before .before .before .before .before .before .before .before .before .before .before .before .before .before .before .before .before .before .before .before .args .header), decimal-most (c .before .before .before .before .before .before .before .before .before .before .before .before .before .before .before .before .before .before .before .before .args .steps))
+put-floats-requires c κs = omega (arith, put-len (fourth (c .before .before .before)), c .before .before .before .before .before .before .before .before .before .before .before .before .before .before .before .put-bytes .ensures .behind, c .before .before .before .before .before .before .before .before .before .before .before .put-decimal .ensures .behind, c .before .before .before .before .before .before .before .put-byte .ensures .behind, c .before .before .before .put-line .ensures .behind, length-line (c .before .before .before .before .before .before .before .before .before .before .before .before .before .before .before .before .before .before .before .before .args .header), decimal-most 3 (c .before .before .before .before .before .before .before .before .before .before .before .before .before .before .before .before .before .before .before .before .args .steps) (omega arith) (omega arith) (omega arith))
 
 same-length : tie.Need-same-length
 same-length c = search needs

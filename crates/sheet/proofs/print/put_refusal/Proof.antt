@@ -1,8 +1,8 @@
 use native.Mathlib.Omega.{arith}
 use mathlib.Core.List.{append-assoc}
 use Rattle.model.specs.Printed.{refusedText}
-use Rattle.sheet.specs.Put.{put-len, put-then}
-use Rattle.sheet.specs.Texts.{decimal-most}
+use Rattle.text.specs.Put.{put-len, put-then}
+use Rattle.text.specs.Decimal.{decimal-most}
 use borrow.Author.Needs.{needs}
 use Rattle.sheet.proofs.print.put_refusal.Statement.{statement}
 use Rattle.sheet.proofs.print.put_refusal.Tie as tie
@@ -13,24 +13,30 @@ slice-aggregate-put-bytes c = search needs
 put-bytes-requires : tie.Need-put-bytes-requires
 put-bytes-requires c κs = search needs
 
+cast-put-decimal : tie.Need-cast-put-decimal
+cast-put-decimal c = search needs
+
 put-decimal-requires : tie.Need-put-decimal-requires
-put-decimal-requires c κs = let a = c .before .before .before .put-bytes .ensures in omega (arith, put-len a, a .behind)
+put-decimal-requires c κs = let a = c .before .before .before .before .put-bytes .ensures in omega (arith, put-len a, a .behind, decimal-most 3 (c .before .before .before .before .before .before .before .before .args .r .number) (omega arith) (omega arith) (omega arith))
 
 put-byte-requires : tie.Need-put-byte-requires
-put-byte-requires c κs = let a = c .before .before .before .before .before .before .before .put-bytes .ensures in let b = c .before .before .before .put-decimal .ensures in omega (arith, put-len a, a .behind, put-len b, b .behind, decimal-most (c .before .before .before .before .before .before .before .before .before .before .before .args .r .number))
+put-byte-requires c κs = let a = c .before .before .before .before .before .before .before .before .put-bytes .ensures in let b = c .before .before .before .put-decimal .ensures in omega (arith, put-len a, a .behind, put-len b, b .behind, decimal-most 3 (c .before .before .before .before .before .before .before .before .before .before .before .before .args .r .number) (omega arith) (omega arith) (omega arith))
+
+cast-put-decimal-2 : tie.Need-cast-put-decimal-2
+cast-put-decimal-2 c = search needs
 
 put-decimal-requires-2 : tie.Need-put-decimal-requires-2
-put-decimal-requires-2 c κs = let a = c .before .before .before .before .before .before .before .before .before .before .before .put-bytes .ensures in let b = c .before .before .before .before .before .before .before .put-decimal .ensures in let d = c .before .before .before .put-byte .ensures in omega (arith, put-len a, a .behind, put-len b, b .behind, put-len d, d .behind, decimal-most (c .before .before .before .before .before .before .before .before .before .before .before .before .before .before .before .args .r .number))
+put-decimal-requires-2 c κs = let a = c .before .before .before .before .before .before .before .before .before .before .before .before .before .put-bytes .ensures in let b = c .before .before .before .before .before .before .before .before .put-decimal .ensures in let d = c .before .before .before .before .put-byte .ensures in omega (arith, put-len a, a .behind, put-len b, b .behind, put-len d, d .behind, decimal-most 3 (c .before .before .before .before .before .before .before .before .before .before .before .before .before .before .before .before .before .args .r .number) (omega arith) (omega arith) (omega arith), decimal-most 3 (c .before .before .before .before .before .before .before .before .before .before .before .before .before .before .before .before .before .args .r .place) (omega arith) (omega arith) (omega arith))
 
 put-byte-requires-2 : tie.Need-put-byte-requires-2
-put-byte-requires-2 c κs = let a = c .before .before .before .before .before .before .before .before .before .before .before .before .before .before .before .put-bytes .ensures in let b = c .before .before .before .before .before .before .before .before .before .before .before .put-decimal .ensures in let d = c .before .before .before .before .before .before .before .put-byte .ensures in let e = c .before .before .before .put-decimal2 .ensures in omega (arith, put-len a, a .behind, put-len b, b .behind, put-len d, d .behind, put-len e, e .behind, decimal-most (c .before .before .before .before .before .before .before .before .before .before .before .before .before .before .before .before .before .before .before .args .r .number), decimal-most (c .before .before .before .before .before .before .before .before .before .before .before .before .before .before .before .before .before .before .before .args .r .place))
+put-byte-requires-2 c κs = let a = c .before .before .before .before .before .before .before .before .before .before .before .before .before .before .before .before .before .put-bytes .ensures in let b = c .before .before .before .before .before .before .before .before .before .before .before .before .put-decimal .ensures in let d = c .before .before .before .before .before .before .before .before .put-byte .ensures in let e = c .before .before .before .put-decimal2 .ensures in omega (arith, put-len a, a .behind, put-len b, b .behind, put-len d, d .behind, put-len e, e .behind, decimal-most 3 (c .before .before .before .before .before .before .before .before .before .before .before .before .before .before .before .before .before .before .before .before .before .args .r .number) (omega arith) (omega arith) (omega arith), decimal-most 3 (c .before .before .before .before .before .before .before .before .before .before .before .before .before .before .before .before .before .before .before .before .before .args .r .place) (omega arith) (omega arith) (omega arith))
 
 same-length : tie.Need-same-length
 same-length c = search needs
 
 returns : tie.Need-returns
 unfolding refusedText
-returns c = simp append-assoc at (put-then (put-then (put-then (put-then (c .before .before .before .before .before .before .before .before .before .before .before .before .before .before .before .before .before .before .put-bytes .ensures) (c .before .before .before .before .before .before .before .before .before .before .before .before .before .before .put-decimal .ensures)) (c .before .before .before .before .before .before .before .before .before .before .put-byte .ensures)) (c .before .before .before .before .before .before .put-decimal2 .ensures)) (c .before .before .put-byte2 .ensures))
+returns c = let a = c .before .before .before .before .before .before .before .before .before .before .before .before .before .before .before .before .before .before .before .before .put-bytes .ensures in let b = c .before .before .before .before .before .before .before .before .before .before .before .before .before .before .before .put-decimal .ensures in let d = c .before .before .before .before .before .before .before .before .before .before .before .put-byte .ensures in let e = c .before .before .before .before .before .before .put-decimal2 .ensures in simp append-assoc at (put-then (put-then (put-then (put-then a b) d) e) (c .before .before .put-byte2 .ensures))
 
 pub put-refusal-spec : {M : Type 1} → statement M
 put-refusal-spec =
@@ -38,8 +44,10 @@ put-refusal-spec =
     (tie.spec
     slice-aggregate-put-bytes
     put-bytes-requires
+    cast-put-decimal
     put-decimal-requires
     put-byte-requires
+    cast-put-decimal-2
     put-decimal-requires-2
     put-byte-requires-2
     same-length

@@ -2,6 +2,7 @@ use native.Mathlib.Omega.{arith}
 use mathlib.Core.Path.{sym}
 use lib.Seq.{length-take-le}
 use Rattle.sheet.specs.Running.{running-passed, running-known, running-many, room-small, running-in}
+use Rattle.sheet.specs.Solves.{ends-more}
 use borrow.Author.Needs.{needs}
 use Rattle.sheet.proofs.run.run_judged.Statement.{statement}
 use Rattle.sheet.proofs.run.run_judged.Tie as tie
@@ -9,63 +10,59 @@ use Rattle.sheet.proofs.run.run_judged.Tie as tie
 floats-requires : tie.Need-floats-requires
 floats-requires c κs = search needs
 
-floats-requires-2 : tie.Need-floats-requires-2
-floats-requires-2 c κs = search needs
-
 places-requires : tie.Need-places-requires
 places-requires c κs = search needs
 
-floats-requires-3 : tie.Need-floats-requires-3
-floats-requires-3 c κs = search needs
+floats-requires-2 : tie.Need-floats-requires-2
+floats-requires-2 c κs = search needs
 
 room-of-requires : tie.Need-room-of-requires
-room-of-requires c κs = (running-known (c .before .before .before .before .before .before .before .before .before .pre .0), (omega (arith, running-many (c .before .before .before .before .before .before .before .before .before .pre .0), running-passed (c .before .before .before .before .before .before .before .before .before .pre .0) .accepts .sizes .some), omega (arith, running-many (c .before .before .before .before .before .before .before .before .before .pre .0), running-passed (c .before .before .before .before .before .before .before .before .before .pre .0) .accepts .sizes .fit)))
+room-of-requires c κs = (running-known (c .before .before .before .before .before .before .before .before .pre .0), (omega (arith, running-many (c .before .before .before .before .before .before .before .before .pre .0), running-passed (c .before .before .before .before .before .before .before .before .pre .0) .accepts .sizes .some), omega (arith, running-many (c .before .before .before .before .before .before .before .before .pre .0), running-passed (c .before .before .before .before .before .before .before .before .pre .0) .accepts .sizes .fit)))
 
 array-borrow-prefix-coefficients : tie.Need-array-borrow-prefix-coefficients
-array-borrow-prefix-coefficients c = omega (arith, room-small (c .before .before .before .before .before .before .before .before .before .before .pre .0) (c .room-of .ensures) .0, c .before .before .before .before .floats .ensures)
+array-borrow-prefix-coefficients c = omega (arith, room-small (c .before .before .before .before .before .before .before .before .before .pre .0) (c .room-of .ensures) .0, c .before .before .before .floats .ensures)
 
 slice-aggregate-run-in : tie.Need-slice-aggregate-run-in
 slice-aggregate-run-in c = sym (length-take-le _ _ (array-borrow-prefix-coefficients (c .before)))
 
-array-borrow-prefix-pool : tie.Need-array-borrow-prefix-pool
-array-borrow-prefix-pool c = omega (arith, room-small (c .before .before .before .before .before .before .before .before .before .before .before .pre .0) (c .before .room-of .ensures) .1 .0, c .before .before .before .before .floats2 .ensures)
+slice-relend-prefix-run-in : tie.Need-slice-relend-prefix-run-in
+slice-relend-prefix-run-in c = omega (arith, room-small (c .before .before .before .before .before .before .before .before .before .before .pre .0) (c .before .room-of .ensures) .1 .0, c .before .before .before .before .before .before .before .before .before .before .pre .1)
 
 slice-aggregate-run-in-2 : tie.Need-slice-aggregate-run-in-2
-slice-aggregate-run-in-2 c = sym (length-take-le _ _ (array-borrow-prefix-pool (c .before)))
+slice-aggregate-run-in-2 c = sym (length-take-le _ _ (slice-relend-prefix-run-in (c .before)))
 
 array-borrow-prefix-words : tie.Need-array-borrow-prefix-words
-array-borrow-prefix-words c = omega (arith, running-passed (c .before .before .before .before .before .before .before .before .before .before .before .before .pre .0) .accepts .sizes .fit, c .before .before .before .before .places .ensures)
+array-borrow-prefix-words c = omega (arith, running-passed (c .before .before .before .before .before .before .before .before .before .before .before .pre .0) .accepts .sizes .fit, c .before .before .before .before .places .ensures)
 
 slice-aggregate-run-in-3 : tie.Need-slice-aggregate-run-in-3
 slice-aggregate-run-in-3 c = sym (length-take-le _ _ (array-borrow-prefix-words (c .before)))
 
 array-borrow-prefix-scratch : tie.Need-array-borrow-prefix-scratch
-array-borrow-prefix-scratch c = omega (arith, room-small (c .before .before .before .before .before .before .before .before .before .before .before .before .before .pre .0) (c .before .before .before .room-of .ensures) .1 .1, c .before .before .before .before .floats3 .ensures)
+array-borrow-prefix-scratch c = omega (arith, room-small (c .before .before .before .before .before .before .before .before .before .before .before .before .pre .0) (c .before .before .before .room-of .ensures) .1 .1, c .before .before .before .before .floats2 .ensures)
 
 slice-aggregate-run-in-4 : tie.Need-slice-aggregate-run-in-4
 slice-aggregate-run-in-4 c = sym (length-take-le _ _ (array-borrow-prefix-scratch (c .before)))
 
 run-in-requires : tie.Need-run-in-requires
-run-in-requires c κs = (running-in (c .before .before .before .before .before .before .before .before .before .before .before .before .before .before .before .pre .0) (c .before .before .before .before .before .room-of .ensures) (sym (slice-aggregate-run-in (c .before .before .before .before))) (sym (slice-aggregate-run-in-2 (c .before .before .before))) (sym (slice-aggregate-run-in-3 (c .before .before))) (sym (slice-aggregate-run-in-4 (c .before))), c .before .before .before .before .before .before .before .before .before .before .before .before .before .before .before .pre .1)
+run-in-requires c κs = running-in (c .before .before .before .before .before .before .before .before .before .before .before .before .before .pre .0) (c .before .before .before .before .room-of .ensures) (sym (slice-aggregate-run-in (c .before .before .before))) (sym (slice-aggregate-run-in-2 (c .before .before))) (sym (slice-aggregate-run-in-3 (c .before))) (sym (slice-aggregate-run-in-4 c))
 
 same-length : tie.Need-same-length
 same-length c = search needs
 
 returns : tie.Need-returns
-returns c = search needs
+returns c = ends-more _ (c .before .before .before .before .before .run-in .ensures)
 
 pub run-judged-spec : {M : Type 1} → statement M
 run-judged-spec =
     tie.close
     (tie.spec
     floats-requires
-    floats-requires-2
     places-requires
-    floats-requires-3
+    floats-requires-2
     room-of-requires
     array-borrow-prefix-coefficients
     slice-aggregate-run-in
-    array-borrow-prefix-pool
+    slice-relend-prefix-run-in
     slice-aggregate-run-in-2
     array-borrow-prefix-words
     slice-aggregate-run-in-3

@@ -1,0 +1,115 @@
+-- How a sheet ends, and where its last value lies: what `solve` ensures, and the functions below it.
+use Prim.Native.Nat.{ℕ, _+_, _≤_}
+use mathlib.Core.List.{List, _++_, map}
+use mathlib.Core.Path.{_≡_, ap, _∙_}
+use native.Mathlib.Omega.{arith}
+use lib.Ieee.{Float}
+use lib.ListN.{length, take, drop, length-append, length-drop}
+use lib.Seq.{take-append-le, drop-append-le}
+use Rattle.model.specs.Header.{stored}
+use Rattle.model.specs.Word.{headerOf, wordOf}
+use Rattle.model.specs.Refusals.{noRefusal}
+use Rattle.model.specs.Recipe.{announcedPlaces}
+use Rattle.model.specs.Sheet.{inputCount, stepCount, sheetHeaders, sheetSteps, sheetRefusal, lastValue}
+use Rattle.kinds.specs.Known.{Known}
+use Rattle.sheet.specs.declared.Solved.{Solved}
+
+-- i inputs, n steps, the last value's header word w, its coefficients from the place f on
+abbrev pub solvedBy : ℕ → ℕ → ℕ → ℕ → Solved
+solvedBy i n w f = record { refusal = noRefusal; inputs = i; steps = n; header = w; from = f; count = stored (headerOf w) }
+
+-- the last value of the sheet t: its header word w, and c coefficients in the pool from the place f on
+pub record LastAt (t : List ℕ) (pool : List Float) (w f c : ℕ) : Type 0 where
+  pub header : w ≡ wordOf (lastValue t .head)
+  pub count : c ≡ length (lastValue t .coeffs)
+  pub full : c ≡ stored (headerOf w)
+  pub few : c ≤ 256
+  pub within : f + c ≤ 2048
+  pub held : f + c ≤ length pool
+  pub coefficients : take c (drop f pool) ≡ lastValue t .coeffs
+
+-- it lies in the front of a longer pool
+pub last-more : {t : List ℕ} {pool : List Float} {w f c : ℕ} (more : List Float) → LastAt t pool w f c → LastAt t (pool ++ more) w f c
+last-more {t} {pool} {w} {f} {c} more l =
+    record {
+      header = l .header;
+      count = l .count;
+      full = l .full;
+      few = l .few;
+      within = l .within;
+      held = omega (arith, l .held, length-append pool more);
+      coefficients =
+          ap (take c) (drop-append-le f pool more (omega (arith, l .held)))
+          ∙ (take-append-le c (drop f pool) more (omega (arith, l .held, length-drop f pool)) ∙ l .coefficients);
+    }
+
+-- a run of the headers hs and the steps ss of the sheet t has ended
+pub record Ending (t hs ss : List ℕ) (pool : List Float) (s : Solved) : Type 0 where
+  pub inputs : s .inputs ≡ length hs
+  pub steps : s .steps ≡ length ss
+  pub last : LastAt t pool (s .header) (s .from) (s .count)
+
+pub record Ends (t hs ss : List ℕ) (pool : List Float) (s : Solved) : Type 0 where
+  pub refusal : s .refusal ≡ sheetRefusal t
+  pub done : s .refusal .number ≡ 0 → Ending t hs ss pool s
+
+pub ends-more : {t hs ss : List ℕ} {pool : List Float} {s : Solved} (more : List Float) → Ends t hs ss pool s → Ends t hs ss (pool ++ more) s
+ends-more more e =
+    record {
+      refusal = e .refusal;
+      done = λ z. record { inputs = e .done z .inputs; steps = e .done z .steps; last = last-more more (e .done z .last) };
+    }
+
+-- the sheet t is not refused; hs, ss, ks, ps: the buffers for headers, steps, places and the pool, as they are left
+pub record Solution (t hs ss ks : List ℕ) (ps : List Float) (s : Solved) : Type 0 where
+  pub inputs : s .inputs ≡ inputCount t
+  pub few : s .inputs ≤ 16
+  pub steps : s .steps ≡ stepCount t
+  pub some : 1 ≤ s .steps
+  pub fit : s .inputs + s .steps ≤ 64
+  pub header-words : take (s .inputs) hs ≡ sheetHeaders t
+  pub step-words : take (s .steps) ss ≡ sheetSteps t
+  pub places : map headerOf (take (s .inputs + s .steps) ks) ≡ announcedPlaces (sheetHeaders t) (sheetSteps t)
+  pub known : Known (map headerOf (take (s .inputs + s .steps) ks))
+  pub last : LastAt t ps (s .header) (s .from) (s .count)
+
+-- the headers stand at the front of the buffer hs' too
+pub solution-front : {t hs ss ks : List ℕ} {ps : List Float} {s : Solved} (hs' : List ℕ) → Solution t hs ss ks ps s → take (inputCount t) hs' ≡ sheetHeaders t → Solution t hs' ss ks ps s
+solution-front hs' d h =
+    record {
+      inputs = d .inputs;
+      few = d .few;
+      steps = d .steps;
+      some = d .some;
+      fit = d .fit;
+      header-words = rw (d .inputs) h;
+      step-words = d .step-words;
+      places = d .places;
+      known = d .known;
+      last = d .last;
+    }
+
+pub record Ended (t hs ss ks : List ℕ) (ps : List Float) (s : Solved) : Type 0 where
+  pub refusal : s .refusal ≡ sheetRefusal t
+  pub done : s .refusal .number ≡ 0 → Solution t hs ss ks ps s
+
+-- as long as any sheet takes: buffers of m steps, k places and p places of a pool; of n headers besides
+pub record Lent (m k p : ℕ) : Type 0 where
+  pub steps : 64 ≤ m
+  pub known : 64 ≤ k
+  pub pool : 2048 ≤ p
+
+pub record Buffers (n m k p : ℕ) : Type 0 where
+  pub headers : 16 ≤ n
+  pub steps : 64 ≤ m
+  pub known : 64 ≤ k
+  pub pool : 2048 ≤ p
+
+-- hs, ss, ks, ps: the buffers as they came; hs', ss', ks', ps': as they are left
+pub record Solves (t hs ss ks : List ℕ) (ps : List Float) (hs' ss' ks' : List ℕ) (ps' : List Float) (s : Solved) : Type 0 where
+  pub refusal : s .refusal ≡ sheetRefusal t
+  pub headers-len : length hs' ≡ length hs
+  pub steps-len : length ss' ≡ length ss
+  pub known-len : length ks' ≡ length ks
+  pub pool-len : length ps' ≡ length ps
+  pub done : s .refusal .number ≡ 0 → Solution t hs' ss' ks' ps' s
