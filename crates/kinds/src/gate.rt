@@ -18,7 +18,7 @@ ghost use Rattle.model.specs.Check.{lowers, stepRefusal};
 ghost use Rattle.kinds.specs.Known.{Known};
 
 // The header that the place p announces; past the places known no variables.
-fn head_at(known: &[u64], p: usize) -> Header
+pub fn head_at(known: &[u64], p: usize) -> Header
     ensures { λ r. ⌜ r ≡ headAt (map headerOf (now (known .entry))) p ⌝ }
 {
     if p < known.len() {

@@ -105,7 +105,7 @@ const ROWS: [Uses; 16] = [
 ];
 
 // Which fields a kind uses.
-fn uses_of(kind: usize) -> Uses
+pub fn uses_of(kind: usize) -> Uses
     requires { ⌜ kind < 16 ⌝ }
     ensures { λ r. ⌜ r ≡ usesOf kind ⌝ }
 {

@@ -1,3 +1,4 @@
+pub mod Bytes
 pub mod Test
 pub mod Table
 pub mod Grow

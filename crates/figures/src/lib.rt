@@ -1,0 +1,3 @@
+// The figures of a report: index and coefficient of each stored place, and for one variable the running sum and the tail.
+pub mod line;
+pub mod number;

@@ -1,0 +1,9 @@
+-- The bytes of a text, as a program's `b".."` has them: for characters below 128, which take one byte each.
+use Prim.Native.Nat.{ℕ}
+use Prim.Native.Char.{code}
+use Prim.Native.String.{String, [], _∷_}
+use mathlib.Core.List.{List, [] as []ᴸ, _∷_ as _∷ᴸ_}
+
+unfoldable pub bytes : String → List ℕ
+bytes [] = []ᴸ
+bytes (c ∷ s) = code c ∷ᴸ bytes s

@@ -1,0 +1,21 @@
+-- What the program `limits` prints for a sheet: where it is refused what `recipe` prints and a sentence; else all that is said of limits, and then the figures
+-- of the last value.
+use Prim.Native.Nat.{ℕ, _+_}
+use mathlib.Core.Bool.{cond}
+use mathlib.Core.List.{List, _++_}
+use Rattle.model.specs.Word.{headerOf, wordOf}
+use Rattle.model.specs.Refusals.{isNone}
+use Rattle.model.specs.Recipe.{announcedPlaces}
+use Rattle.model.specs.Report.{limitsText}
+use Rattle.model.specs.Sentence.{refusalReport}
+use Rattle.model.specs.Sheet.{inputCount, stepCount, sheetHeaders, sheetSteps, sheetRefusal, lastValue}
+use Rattle.model.specs.Figures.{figuresText}
+
+-- t: the bytes of the sheet
+unfoldable pub limitsFirst : List ℕ → List ℕ
+limitsFirst t = limitsText (announcedPlaces (sheetHeaders t) (sheetSteps t)) (sheetSteps t) (inputCount t) (inputCount t + stepCount t)
+
+unfoldable pub toldText : List ℕ → List ℕ
+toldText t =
+    cond (isNone (sheetRefusal t)) (limitsFirst t ++ figuresText (headerOf (wordOf (lastValue t .head))) (lastValue t .coeffs))
+    (refusalReport (sheetRefusal t))
