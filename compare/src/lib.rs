@@ -4,13 +4,16 @@ pub mod case;
 #[cfg(test)]
 mod differences;
 pub mod generate;
+pub mod lending;
 pub mod operations;
 pub mod oracle;
 pub mod outcome;
+pub mod recipe_edges;
 pub mod recipes;
 pub mod refusals;
 pub mod rng;
 pub mod shapes;
+pub mod sheet_edges;
 pub mod sheets;
 pub mod values;
 pub mod words;

@@ -2,7 +2,6 @@
 //!
 //!     compare SEED COUNT [OPERATION]    every short case and COUNT random ones of each operation, or of one
 //!     replay FILE                       the cases of a file, a line each: those that a difference printed, or a stored sample's
-//!     sheets SEED COUNT PROGRAM         COUNT sheets through the program `recipe`, what it prints byte by byte
 //!
 //! The last line says how many cases were compared and how many differ. The exit status is 1 where one differs or none was compared.
 
@@ -11,7 +10,6 @@ mod check;
 #[cfg(far)]
 mod far;
 mod ours;
-mod programs;
 /// The library's wrappers, as its users have them.
 #[path = "../../face/taylor.rs"]
 #[allow(dead_code)]
@@ -42,8 +40,7 @@ fn act(words: &[&str]) -> Result<bool, String> {
         ["compare", seed, count] => compare(seed, count, None),
         ["compare", seed, count, name] => compare(seed, count, Some(name)),
         ["replay", file] => replay(file),
-        ["sheets", seed, count, program] => programs::sheets(number(seed)?, number(count)?, program),
-        _ => Err("compare SEED COUNT [OPERATION], replay FILE, or sheets SEED COUNT PROGRAM".to_string()),
+        _ => Err("compare SEED COUNT [OPERATION], or replay FILE".to_string()),
     }
 }
 

@@ -6,6 +6,7 @@ use crate::oracle::{taken, Given};
 use crate::refusals::{self, below_limit, PLACE};
 use crate::words::{Header, COUNT};
 
+#[derive(Clone)]
 pub struct Recipe {
     pub headers: Vec<u64>,
     /// the inputs' coefficients, end to end

@@ -76,16 +76,13 @@ fn text(words: impl IntoIterator<Item = u64>) -> Vec<u8> {
     words.into_iter().flat_map(|word| format!("{word:016x}\n").into_bytes()).collect()
 }
 
-/// A sheet: mostly one that is accepted, small values; then one word or one byte may be spoilt.
-pub fn random(rng: &mut Rng) -> Vec<u8> {
+/// A recipe: mostly one that is accepted, small values; now and then one header is spoilt.
+pub fn recipe(rng: &mut Rng) -> Recipe {
     let many = rng.between(5, 16);
     let inputs = rng.pick(&[0, 1, 1, 2, 2, 3, 4, many]);
     let most = rng.pick(&[8, 16, 16, 32, 64, 256]);
     let heads: Vec<Header> = (0..inputs).map(|_| shapes::random(rng, most)).collect();
-    let mut coefficients: Vec<u64> = vec![];
-    for h in &heads {
-        coefficients.extend(floats::coefficients(rng, h).iter().map(|x| x.to_bits()));
-    }
+    let coefficients = heads.iter().flat_map(|h| floats::coefficients(rng, h)).collect();
     let mut headers: Vec<u64> = heads.iter().map(Header::word).collect();
     let long = rng.between(9, 64 - inputs);
     let count = rng.pick(&[1, 1, 2, 3, 4, 5, 8, long]);
@@ -94,11 +91,29 @@ pub fn random(rng: &mut Rng) -> Vec<u8> {
         let i = rng.below(inputs);
         headers[i] = shapes::bad(rng, &heads[i]);
     }
-    let mut first = (inputs as u64) << 56 | (count as u64) << 48;
+    Recipe { headers, coefficients, steps }
+}
+
+/// The sheet of a recipe.
+pub fn sheet(recipe: &Recipe) -> Vec<u8> {
+    let first = (recipe.headers.len() as u64) << 56 | (recipe.steps.len() as u64) << 48;
+    sheet_with(first, recipe)
+}
+
+/// The same with another word one.
+pub fn sheet_with(first: u64, recipe: &Recipe) -> Vec<u8> {
+    let floats = recipe.coefficients.iter().map(|x| x.to_bits());
+    let headers = recipe.headers.iter().copied();
+    text([first].into_iter().chain(headers).chain(floats).chain(recipe.steps.iter().copied()))
+}
+
+/// A sheet of a recipe, of which one word or one byte may be spoilt.
+pub fn random(rng: &mut Rng) -> Vec<u8> {
+    let mut sheet = sheet(&recipe(rng));
     if rng.chance(15) {
-        first ^= 1 << rng.below(64);
+        let at = rng.below(16);
+        sheet[at] = rng.pick(b"0123456789abcdef");
     }
-    let mut sheet = text([first].into_iter().chain(headers).chain(coefficients).chain(steps));
     spoil(rng, &mut sheet);
     sheet
 }

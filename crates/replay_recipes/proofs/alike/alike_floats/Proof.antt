@@ -1,0 +1,74 @@
+use native.Mathlib.Omega.{arith}
+use borrow.Author.Needs.{needs}
+use borrow.Author.Count.{below-more}
+use lib.ListN.{length}
+use mathlib.Core.Path.{_≡_, sym, _∙_}
+use Prim.Native.Nat.{_≤_, _<_, _-_}
+use Rattle.replay_recipes.specs.Alike.{AlikeTo, alike-one, bitsIn}
+use Rattle.replay_recipes.proofs.alike.alike_floats.Statement.{statement}
+use Rattle.replay_recipes.proofs.alike.alike_floats.Tie as tie
+
+abbrev Inv-loop : tie.InvT-loop
+Inv-loop xs at first k₀ k = (at < k) × ((k ≤ length xs) × (AlikeTo (bitsIn xs) at k × (first ≡ bitsIn xs at)))
+
+abbrev μ-loop : tie.MeasureT-loop
+μ-loop xs at first k₀ k = length xs - k
+
+mul-word-of : tie.Need-mul-word-of Inv-loop μ-loop
+mul-word-of c = search needs
+
+shared-slice-read-word-of : tie.Need-shared-slice-read-word-of Inv-loop μ-loop
+shared-slice-read-word-of c = search needs
+
+word-of-requires : tie.Need-word-of-requires Inv-loop μ-loop
+word-of-requires c κs = search needs
+
+add-k : tie.Need-add-k Inv-loop μ-loop
+add-k c = search needs
+
+loop-holds : tie.Need-loop-holds Inv-loop μ-loop
+loop-holds c = (omega arith, (omega arith, (alike-one _ _, c .word-of .ensures)))
+
+mul-word-of-2 : tie.Need-mul-word-of-2 Inv-loop μ-loop
+mul-word-of-2 c = search needs
+
+shared-slice-read-word-of-2 : tie.Need-shared-slice-read-word-of-2 Inv-loop μ-loop
+shared-slice-read-word-of-2 c = search needs
+
+word-of-requires-2 : tie.Need-word-of-requires-2 Inv-loop μ-loop
+word-of-requires-2 c κs = search needs
+
+returns : tie.Need-returns Inv-loop μ-loop
+returns c = record { after = omega arith; within = omega arith; each = c .before .before .before .before .loop .inv .1 .1 .0; stop = λ l e. c .if1 .taken (c .before .word-of2 .ensures ∙ e ∙ sym (c .before .before .before .before .loop .inv .1 .1 .1)) }
+
+add-k-2 : tie.Need-add-k-2 Inv-loop μ-loop
+add-k-2 c = search needs
+
+loop-less : tie.Need-loop-less Inv-loop μ-loop
+loop-less c = search needs
+
+loop-again : tie.Need-loop-again Inv-loop μ-loop
+loop-again c = (omega arith, (omega arith, (below-more _ _ (c .before .before .before .before .loop .inv .1 .1 .0) (λ m. sym (c .before .word-of2 .ensures) ∙ c .if1 .left ∙ c .before .before .before .before .loop .inv .1 .1 .1), c .before .before .before .before .loop .inv .1 .1 .1)))
+
+returns-2 : tie.Need-returns-2 Inv-loop μ-loop
+returns-2 c = record { after = omega arith; within = omega arith; each = c .before .loop .inv .1 .1 .0; stop = λ l e. absurd (omega arith) }
+
+pub alike-floats-spec : {M : Type 1} → statement M
+alike-floats-spec =
+    tie.close
+    (tie.spec
+    Inv-loop
+    μ-loop
+    mul-word-of
+    shared-slice-read-word-of
+    word-of-requires
+    add-k
+    loop-holds
+    mul-word-of-2
+    shared-slice-read-word-of-2
+    word-of-requires-2
+    returns
+    add-k-2
+    loop-less
+    loop-again
+    returns-2)
