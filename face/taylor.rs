@@ -61,6 +61,13 @@ mod face {
             ah: u64, a: *const f64, a_len: usize, bh: u64, b: *const f64, b_len: usize, v: u64,
             out: *mut f64, out_len: usize, scratch: *mut f64, scratch_len: usize,
         ) -> u64;
+        pub fn taylor_check(
+            headers: *const u64, headers_len: usize, steps: *const u64, steps_len: usize, pool: *mut u64, largest: *mut u64, inputs: *mut u64,
+        ) -> u64;
+        pub fn taylor_run(
+            headers: *const u64, headers_len: usize, coefficients: *const f64, coefficients_len: usize, steps: *const u64, steps_len: usize,
+            pool: *mut f64, pool_len: usize, words: *mut u64, words_len: usize, scratch: *mut f64, scratch_len: usize,
+        ) -> u64;
     }
 }
 
@@ -255,4 +262,36 @@ pub fn subst_var(ah: u64, a: &[f64], bh: u64, b: &[f64], v: u64, out: &mut [f64]
             out.as_mut_ptr(), out.len(), scratch.as_mut_ptr(), scratch.len(),
         )
     })
+}
+
+/// What a recipe takes: the pool total, the largest announced step count, the input coefficient total.
+#[derive(Clone, Copy, Debug, PartialEq, Eq)]
+pub struct Totals {
+    pub pool: u64,
+    pub largest: u64,
+    pub inputs: u64,
+}
+
+/// Whether a recipe can be run, from words alone.
+pub fn check(headers: &[u64], steps: &[u64]) -> Result<Totals, Refusal> {
+    let mut totals = Totals { pool: 0, largest: 0, inputs: 0 };
+    let word = unsafe {
+        face::taylor_check(
+            headers.as_ptr(), headers.len(), steps.as_ptr(), steps.len(), &mut totals.pool, &mut totals.largest, &mut totals.inputs,
+        )
+    };
+    if word == 0 { Ok(totals) } else { Err(refusal(word)) }
+}
+
+/// The steps of a recipe: their values end to end in the pool, their header words in `words`.
+pub fn run(
+    headers: &[u64], coefficients: &[f64], steps: &[u64], pool: &mut [f64], words: &mut [u64], scratch: &mut [f64],
+) -> Result<(), Refusal> {
+    let word = unsafe {
+        face::taylor_run(
+            headers.as_ptr(), headers.len(), coefficients.as_ptr(), coefficients.len(), steps.as_ptr(), steps.len(),
+            pool.as_mut_ptr(), pool.len(), words.as_mut_ptr(), words.len(), scratch.as_mut_ptr(), scratch.len(),
+        )
+    };
+    if word == 0 { Ok(()) } else { Err(refusal(word)) }
 }

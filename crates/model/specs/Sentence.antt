@@ -20,7 +20,7 @@ placeMeanings =
     ∷ "its n is not below the operand's limit; take a smaller n.\n"
     ∷ "it would hold more than 4,096 coefficients; lower limits or lengths.\n"
     ∷ ""
-    ∷ "its step word has a wrong kind, operand or unused field; write it anew.\n"
+    ∷ "its step has a wrong kind, operand or unused field; write it anew.\n"
     ∷ []
 
 -- by number, of no place in particular

@@ -46,7 +46,7 @@ fn put_place_meaning(number: u8, at: usize, to: &mut [u8]) -> usize
             to,
         ),
         7 => put(
-            b"its step word has a wrong kind, operand or unused field; write it anew.\n",
+            b"its step has a wrong kind, operand or unused field; write it anew.\n",
             at,
             to,
         ),

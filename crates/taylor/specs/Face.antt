@@ -11,6 +11,10 @@ use Rattle.model.specs.declared.Reading.{Reading}
 use Rattle.model.specs.declared.Reading.the-variants as reading
 use Rattle.model.specs.declared.LinearReading.{LinearReading}
 use Rattle.model.specs.declared.LinearReading.the-variants as linear-reading
+use Rattle.model.specs.declared.CheckAnswer.{CheckAnswer}
+use Rattle.model.specs.declared.CheckAnswer.the-variants as check-answer
+use Rattle.model.specs.declared.RunAnswer.{RunAnswer}
+use Rattle.model.specs.declared.RunAnswer.the-variants as run-answer
 
 -- four limits or four indices of a call, as the entry takes them
 abbrev pub fourOf : ℕ → ℕ → ℕ → ℕ → List ℕ
@@ -51,3 +55,25 @@ constantAfter (linear-reading.Refused r) old = old
 abbrev pub factorAfter : LinearReading → Float → Float
 factorAfter (linear-reading.Done l) old = l .m
 factorAfter (linear-reading.Refused r) old = old
+
+-- a recipe is accepted, and its totals are written; or not
+abbrev pub wordOfCheck : CheckAnswer → ℕ
+wordOfCheck (check-answer.Accepted pool largest inputs) = 0
+wordOfCheck (check-answer.Refused r) = wordOfRefusal r
+
+abbrev pub poolAfter : CheckAnswer → ℕ → ℕ
+poolAfter (check-answer.Accepted pool largest inputs) old = pool
+poolAfter (check-answer.Refused r) old = old
+
+abbrev pub largestAfter : CheckAnswer → ℕ → ℕ
+largestAfter (check-answer.Accepted pool largest inputs) old = largest
+largestAfter (check-answer.Refused r) old = old
+
+abbrev pub inputsAfter : CheckAnswer → ℕ → ℕ
+inputsAfter (check-answer.Accepted pool largest inputs) old = inputs
+inputsAfter (check-answer.Refused r) old = old
+
+-- a run is done, or not
+abbrev pub wordOfRun : RunAnswer → ℕ
+wordOfRun run-answer.Done = 0
+wordOfRun (run-answer.Refused r) = wordOfRefusal r

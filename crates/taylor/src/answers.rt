@@ -1,11 +1,13 @@
 // Answers as words, and what a reading writes.
 use model::Answer;
+use model::CheckAnswer;
 use model::LinearReading;
 use model::Reading;
 use model::Refusal;
+use model::RunAnswer;
 ghost use mathlib.Core.Path.{_≡_};
 ghost use Prim.Native.Nat.{_<_};
-ghost use Rattle.taylor.specs.Face.{wordOfRefusal, wordOfAnswer, wordOfReading, valueAfter, variableOf, wordOfLinear, constantAfter, factorAfter};
+ghost use Rattle.taylor.specs.Face.{wordOfRefusal, wordOfAnswer, wordOfReading, valueAfter, variableOf, wordOfLinear, constantAfter, factorAfter, wordOfCheck, poolAfter, largestAfter, inputsAfter, wordOfRun};
 
 // A refusal as one word.
 fn refusal_word(r: Refusal) -> u64
@@ -52,5 +54,37 @@ pub fn put_linear(r: LinearReading, c: &mut f64, m: &mut f64) -> u64
             if l.yes { 1 + (l.variable as u64) } else { 0 }
         }
         LinearReading::Refused(e) => refusal_word(e) + 4294967296,
+    }
+}
+
+// The totals of a recipe that is accepted, written through `pool`, `largest` and `inputs`; a refusal writes nothing.
+pub fn put_totals(r: CheckAnswer, pool: &mut u64, largest: &mut u64, inputs: &mut u64) -> u64
+    ensures answer { λ w. ⌜ w ≡ wordOfCheck r ⌝ }
+    ensures pool { λ w. ⌜ now (pool .exit) ≡ poolAfter r (now (pool .entry)) ⌝ }
+    ensures largest { λ w. ⌜ now (largest .exit) ≡ largestAfter r (now (largest .entry)) ⌝ }
+    ensures inputs { λ w. ⌜ now (inputs .exit) ≡ inputsAfter r (now (inputs .entry)) ⌝ }
+{
+    match r {
+        CheckAnswer::Accepted {
+            pool: p,
+            largest: l,
+            inputs: i,
+        } => {
+            *pool = p as u64;
+            *largest = l as u64;
+            *inputs = i as u64;
+            0
+        }
+        CheckAnswer::Refused(e) => refusal_word(e),
+    }
+}
+
+// How a run ended, as one word: 0 for done.
+pub fn word_of_run(r: RunAnswer) -> u64
+    ensures { λ w. ⌜ w ≡ wordOfRun r ⌝ }
+{
+    match r {
+        RunAnswer::Done => 0,
+        RunAnswer::Refused(e) => refusal_word(e),
     }
 }

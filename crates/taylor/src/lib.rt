@@ -4,7 +4,9 @@ mod answers;
 
 use answers::put;
 use answers::put_linear;
+use answers::put_totals;
 use answers::word_of;
+use answers::word_of_run;
 ghost use mathlib.Core.Path.{_≡_};
 ghost use mathlib.Core.Bool.{true, false};
 ghost use lib.ListN.{length};
@@ -23,7 +25,9 @@ ghost use Rattle.model.specs.Series.{expAnswer, expOut, logAnswer, logOut, seri
 ghost use Rattle.model.specs.Power.{powerAnswer, powerOut, powerScratch};
 ghost use Rattle.model.specs.Shifts.{derivativeAnswer, derivativeOut, expansionAnswer, expansionOut, shiftDownAnswer, shiftDownOut};
 ghost use Rattle.model.specs.Substitute.{substituteAnswer, substituteOut, substituteScratch};
-ghost use Rattle.taylor.specs.Face.{fourOf, wordOfAnswer, wordOfReading, valueAfter, wordOfLinear, constantAfter, factorAfter};
+ghost use Rattle.model.specs.Check.{checkAnswer};
+ghost use Rattle.model.specs.Run.{runAnswer, runPool, runWords, runScratch};
+ghost use Rattle.taylor.specs.Face.{fourOf, wordOfAnswer, wordOfReading, valueAfter, wordOfLinear, constantAfter, factorAfter, wordOfCheck, poolAfter, largestAfter, inputsAfter, wordOfRun};
 
 // +0.0, with no variables: refusal 5.
 #[no_mangle]
@@ -401,4 +405,39 @@ pub extern "C" fn taylor_subst_var(
     ensures cleared { λ r. ⌜ now (scratch .exit) ≡ substituteScratch v ah (now (a .entry)) bh (now (b .entry)) (now (out .entry)) (now (scratch .entry)) ⌝ }
 {
     word_of(substitution::subst_var(ah, a, bh, b, v as usize, out, scratch))
+}
+
+// Whether a recipe can be run, from words alone: the pool total, the largest announced step count and the input coefficient total; refusals 1, 3, 4, 5, 7.
+#[no_mangle]
+pub extern "C" fn taylor_check(
+    headers: &[u64],
+    steps: &[u64],
+    pool: &mut u64,
+    largest: &mut u64,
+    inputs: &mut u64,
+) -> u64
+    ensures answer { λ r. ⌜ r ≡ wordOfCheck (checkAnswer (now (headers .entry)) (now (steps .entry))) ⌝ }
+    ensures pool { λ r. ⌜ now (pool .exit) ≡ poolAfter (checkAnswer (now (headers .entry)) (now (steps .entry))) (now (pool .entry)) ⌝ }
+    ensures largest { λ r. ⌜ now (largest .exit) ≡ largestAfter (checkAnswer (now (headers .entry)) (now (steps .entry))) (now (largest .entry)) ⌝ }
+    ensures inputs { λ r. ⌜ now (inputs .exit) ≡ inputsAfter (checkAnswer (now (headers .entry)) (now (steps .entry))) (now (inputs .entry)) ⌝ }
+{
+    put_totals(recipes::check(headers, steps), pool, largest, inputs)
+}
+
+// A recipe's steps, their values end to end in the pool and their header words in `words`: refusals 1 to 7; 0 when done.
+#[no_mangle]
+pub extern "C" fn taylor_run(
+    headers: &[u64],
+    coefficients: &[f64],
+    steps: &[u64],
+    pool: &mut [f64],
+    words: &mut [u64],
+    scratch: &mut [f64],
+) -> u64
+    ensures answer { λ r. ⌜ r ≡ wordOfRun (runAnswer (now (headers .entry)) (now (coefficients .entry)) (now (steps .entry)) (now (pool .entry)) (now (words .entry)) (now (scratch .entry))) ⌝ }
+    ensures values { λ r. ⌜ now (pool .exit) ≡ runPool (now (headers .entry)) (now (coefficients .entry)) (now (steps .entry)) (now (pool .entry)) (now (words .entry)) (now (scratch .entry)) ⌝ }
+    ensures heads { λ r. ⌜ now (words .exit) ≡ runWords (now (headers .entry)) (now (coefficients .entry)) (now (steps .entry)) (now (pool .entry)) (now (words .entry)) (now (scratch .entry)) ⌝ }
+    ensures cleared { λ r. ⌜ now (scratch .exit) ≡ runScratch (now (headers .entry)) (now (coefficients .entry)) (now (steps .entry)) (now (pool .entry)) (now (words .entry)) (now (scratch .entry)) ⌝ }
+{
+    word_of_run(recipes::run(headers, coefficients, steps, pool, words, scratch))
 }
