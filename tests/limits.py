@@ -1,0 +1,229 @@
+#!/usr/bin/env python3
+"""What `limits` has to print, worked out from document 01's rules and docs/DECISIONS.md, and compared with what it prints.
+
+    tests/limits.py SEED COUNT PROGRAM.. -- RECIPE..
+
+runs COUNT random sheets through both programs (each a command of one or more words). The limits, cuts and the verdict are worked out here; the coefficients
+of the answer are taken from what `recipe` prints, and so is every refusal. Prints how many sheets there were and the first difference, if any."""
+import random, struct, subprocess, sys
+
+NAMES = ["constant", "negate", "add", "subtract", "multiply", "divide", "power", "derivative", "taylor_expansion_of_coeff", "shift_down", "subst_var"]
+USES = ["n", "a", "ab", "ab", "ab", "ab", "an", "avn", "avn", "avn", "abv"]
+HEAD = (
+    "Each place: what it is, its number of variables, and of each variable the\n"
+    "limit/stored length. Operands are places, v is a variable, n a number.\n"
+)
+OF_PLACE = {
+    1: "its header word breaks the rules; write its limits and lengths anew.\n",
+    3: "its variable is not its operand's; name one that the operand has.\n",
+    4: "its n is not below the operand's limit; take a smaller n.\n",
+    5: "it would hold more than 4,096 coefficients; lower limits or lengths.\n",
+    7: "its step has a wrong kind, operand or unused field; write it anew.\n",
+}
+OF_SHEET = {
+    5: "The sheet is too large: at most 256 coefficients a place, 2,048 in all inputs\nand 2,048 in all steps; lower limits or lengths.\n",
+    7: "Word one is wrong: 0 to 16 inputs, 1 or more steps, 64 places at most, zeros.\n",
+    8: "The sheet is not its words exactly: write each as 16 lower-case hex digits and\na newline, none missing and nothing after them.\n",
+}
+
+
+def unpack(w):
+    """The limits and the lengths of a header word."""
+    n = w >> 61
+    fields = [(w >> (55 - 6 * k)) & 63 for k in range(8)]
+    return [fields[2 * k] + 1 for k in range(n)], [fields[2 * k + 1] + 1 for k in range(n)]
+
+
+def pack(limits, lengths):
+    w = len(limits) << 61
+    for k, (l, n) in enumerate(zip(limits, lengths)):
+        w |= (l - 1) << (55 - 12 * k) | (n - 1) << (49 - 12 * k)
+    return w
+
+
+def fields(w):
+    return w >> 60, w >> 54 & 63, w >> 48 & 63, w >> 46 & 3, w >> 14 & (2**32 - 1)
+
+
+def announce(w, known):
+    """What a step announces: limits and lengths."""
+    kind, a, b, v, n = fields(w)
+    if kind == 0 or kind == 6 and n == 0:
+        return [], []
+    al, an = known[a]
+    if kind == 1:
+        return al[:], an[:]
+    if kind == 6:
+        return al[:], [min(l, n * (x - 1) + 1) for l, x in zip(al, an)]
+    if 7 <= kind <= 9:
+        less = lambda xs, one: [max(one, x - n) if k == v else x for k, x in enumerate(xs)]
+        return less(al, 1), less(an, 1)
+    bl, bn = known[b]
+    if kind == 10 and v >= len(al):
+        return al[:], an[:]
+    limits = [min(l for l in ((al[k] if k < len(al) else None), (bl[k] if k < len(bl) else None)) if l) for k in range(max(len(al), len(bl)))]
+    at = lambda xs, k: xs[k] if k < len(xs) else 1
+    lengths = []
+    for k, l in enumerate(limits):
+        x, y, p = min(l, at(an, k)), min(l, at(bn, k)), at(an, v)
+        lengths.append(
+            max(x, y)
+            if kind in (2, 3)
+            else min(l, x + y - 1)
+            if kind == 4
+            else (x if y == 1 else l)
+            if kind == 5
+            else min(l, 1 + (p - 1) * (y - 1))
+            if k == v
+            else min(l, x + (p - 1) * (y - 1))
+        )
+    return limits, lengths
+
+
+def operands(w, v, known):
+    """The places that a step uses and that have the variable."""
+    kind, a, b, _, _ = fields(w)
+    return [x for x, used in ((a, "a" in USES[kind]), (b, "b" in USES[kind])) if used and v < len(known[x][0])]
+
+
+def limits_text(inputs, steps, known):
+    step = lambda p: steps[p - inputs]
+    limit = lambda p, v: known[p][0][v] if v < len(known[p][0]) else 1
+    who = lambda p: "place %d (%s)" % (p, "input" if p < inputs else "step")
+
+    def decider(p, v):
+        while p >= inputs:
+            same = [x for x in operands(step(p), v, known) if limit(x, v) == limit(p, v)]
+            if not same:
+                break
+            p = same[0]
+        return p
+
+    def further(p, v, memo):
+        if p not in memo:
+            memo[p] = p
+            if p >= inputs and v < len(known[p][0]):
+                best = p
+                for x in reversed(operands(step(p), v, known)):
+                    far = further(x, v, memo)
+                    if limit(far, v) >= limit(best, v):
+                        best = far
+                memo[p] = best
+        return memo[p]
+
+    out = [HEAD]
+    for p, (l, n) in enumerate(known):
+        what = "input"
+        if p >= inputs:
+            kind, a, b, v, number = fields(step(p))
+            used = USES[kind]
+            what = NAMES[kind] + "".join([" %d" % a] * ("a" in used) + [" %d" % b] * ("b" in used) + [" v%d" % v] * ("v" in used) + [" n%d" % number] * ("n" in used))
+        out.append("place %d: %s; vars %d%s%s\n" % (p, what, len(l), ":" if l else "", "".join(" %d/%d" % x for x in zip(l, n))))
+    for p in range(inputs, len(known)):
+        for v in range(len(known[p][0])):
+            above = [x for x in operands(step(p), v, known) if limit(p, v) < limit(x, v)]
+            if above:
+                x = above[0]
+                out.append("place %d variable %d: cut from %d (place %d) to %d by %s\n" % (p, v, limit(x, v), x, limit(p, v), who(decider(p, v))))
+    last, whole = len(known) - 1, True
+    for v in range(len(known[last][0])):
+        far = further(last, v, {})
+        more = ""
+        if limit(far, v) > limit(last, v):
+            whole, more = False, ";\n  place %d went to %d" % (far, limit(far, v))
+        out.append("variable %d of the answer ends at %d, as %s does%s\n" % (v, limit(last, v), who(decider(last, v)), more))
+    out.append("*** WHOLE: no limit cut the answer. ***\n" if whole else "*** CUT: the answer ends before a place that it was made from. ***\n")
+    return "".join(out)
+
+
+def number(x):
+    bits = struct.unpack(">Q", struct.pack(">d", x))[0]
+    if x != x:
+        bits = 0x7FF8000000000000
+    elif abs(x) <= 2**53 and x == int(x):
+        return ("-" if bits >> 63 else "") + str(abs(int(x)))
+    return "0x%016x" % bits
+
+
+def figures_text(word, xs):
+    lengths = unpack(word)[1]
+    one = len(lengths) == 1
+    out = ["index  coefficient         running sum         tail\n" if one else "index          coefficient\n"]
+    total = 0.0
+    for p, x in enumerate(xs):
+        index, rest = [], p
+        for n in reversed(lengths):
+            index.insert(0, rest % n)
+            rest //= n
+        text = "[" + " ".join(map(str, index)) + "]"
+        total += x
+        out.append("%-7s%-20s%-20s%s\n" % (text, number(x), number(total), number(1.0 - total)) if one else "%-15s%s\n" % (text, number(x)))
+    return "".join(out)
+
+
+def told(text, said):
+    """What `limits` prints for a sheet, said what `recipe` printed for it."""
+    if said.startswith("refused"):
+        _, n, place = said.split()
+        n, place = int(n), int(place)
+        return said + ("Place %d: %s" % (place, OF_PLACE[n]) if place < 64 else OF_SHEET[n])
+    words = [int(l, 16) for l in text.split()]
+    inputs, count = words[0] >> 56, words[0] >> 48 & 255
+    known, steps = [unpack(w) for w in words[1 : 1 + inputs]], words[-count:]
+    for w in steps:
+        known.append(announce(w, known))
+    answer = said.split("\n")[1:-1]
+    xs = [struct.unpack(">d", bytes.fromhex(l))[0] for l in answer[1:]]
+    return limits_text(inputs, steps, known) + figures_text(int(answer[0], 16), xs)
+
+
+def sheet(rng):
+    inputs, count = rng.randint(0, 5), rng.randint(1, 6)
+    lines, coefficients = [], []
+    for _ in range(inputs):
+        n = rng.choice([0, 1, 1, 1, 2, 2, 3, 4])
+        limits = [rng.randint(1, 9 if n < 3 else 4) for _ in range(n)]
+        lengths = [rng.randint(1, l) for l in limits]
+        lines.append(pack(limits, lengths))
+        stored = 1
+        for l in lengths:
+            stored *= l
+        for _ in range(stored):
+            coefficients.append(rng.choice([float(rng.randint(-9, 9)), -0.0, 0.5, rng.random(), 2.0**53, float("inf"), float("nan"), 1e300, float(rng.randint(0, 2**53))]))
+    steps = []
+    for i in range(count):
+        p = inputs + i
+        kind = rng.choice([0, 1, 2, 3, 4, 4, 4, 5, 6, 7, 8, 9, 10]) if p else 0
+        used = USES[kind]
+        a, b = (rng.randrange(p) if "a" in used else 0), (rng.randrange(p) if "b" in used else 0)
+        v, n = (rng.choice([0, 0, 0, 1, 2, 3]) if "v" in used else 0), (rng.randint(0, 3) if "n" in used else 0)
+        steps.append(kind << 60 | a << 54 | b << 48 | v << 46 | n << 14)
+    if rng.random() < 0.03:
+        steps[rng.randrange(count)] |= rng.choice([1, 1 << 63, 1 << 50])
+    words = [inputs << 56 | count << 48] + lines + [struct.unpack(">Q", struct.pack(">d", x))[0] for x in coefficients] + steps
+    text = "".join("%016x\n" % w for w in words)
+    return text[:-1] if rng.random() < 0.02 else text
+
+
+def main():
+    rng, count, rest = random.Random(int(sys.argv[1])), int(sys.argv[2]), sys.argv[3:]
+    limits, recipe = rest[: rest.index("--")], rest[rest.index("--") + 1 :]
+    run = lambda program, text: subprocess.run(program, input=text.encode(), stdout=subprocess.PIPE).stdout.decode()
+    kinds = {"refused": 0, "WHOLE": 0, "CUT": 0}
+    for i in range(count):
+        text = sheet(rng)
+        expected, found = told(text, run(recipe, text)), run(limits, text)
+        if expected != found:
+            print("sheet %d differs:\n%s\nexpected:\n%s\nfound:\n%s" % (i, text, expected, found))
+            return 1
+        if any(len(l) > 80 for l in found.split("\n")):
+            print("sheet %d has a line of more than 80 columns:\n%s" % (i, found))
+            return 1
+        for k in kinds:
+            kinds[k] += k in found
+    print("%d sheets, 0 differences (%s)" % (count, ", ".join("%s %d" % x for x in kinds.items())))
+    return 0
+
+
+if __name__ == "__main__":
+    sys.exit(main())
