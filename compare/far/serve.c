@@ -34,9 +34,14 @@ static void move(int way, void *bytes, long count) {
     }
 }
 
-/* The archive and the compiler ask for it. */
+/* The archive and the compiler ask for these. */
 void *memset(void *to, int byte, size_t count) {
     for (size_t i = 0; i < count; i++) ((volatile unsigned char *)to)[i] = (unsigned char)byte;
+    return to;
+}
+
+void *memcpy(void *to, const void *from, size_t count) {
+    for (size_t i = 0; i < count; i++) ((volatile unsigned char *)to)[i] = ((const unsigned char *)from)[i];
     return to;
 }
 
