@@ -1,5 +1,4 @@
--- What the report says of limits is so: a cut is found exactly where a limit is below an operand's, the place that decides a limit has that limit, and the place
--- that goes furthest goes at least as far as the place itself.
+-- What the report says of limits is so: a cut is found exactly where a limit is below an operand's, and the place that decides a limit has that limit.
 use Prim.Native.Nat.{ℕ, zero, suc, _≤_, _<_}
 use mathlib.Core.Bool.{Bool, true, false, _&&_, _||_, cond}
 use mathlib.Core.List.{List}
