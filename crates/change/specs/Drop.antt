@@ -4,31 +4,23 @@ use mathlib.Core.List.{List, _++_}
 use mathlib.Core.Bool.{Bool, true, false, cond}
 use mathlib.Core.Path.{_≡_, refl, sym, ap, _∙_}
 use native.Mathlib.Omega.{arith}
-use native.Mathlib.Numerals.{add-one}
-use native.Mathlib.Nat.{mul-le-mul-right, zero-add, le-refl}
+use native.Mathlib.Nat.{le-refl}
 use lib.Arith.{digits-lt, digits-div, digits-mod}
 use lib.Dec.{ltb}
 use lib.ListN.{length, getD, take, drop}
-use lib.Seq.{getD-take, getD-drop, take-take}
+use lib.Seq.{getD-take, take-take}
 use lib.Ieee.{Float, nan, add, binary64}
 use borrow.Author.Tests.{lt-ltb, le-ltb, ltb-true}
 use Rattle.lists.specs.Test.{decide}
-use Rattle.lists.specs.Table.{table, Filled, length-table, length-front, table-at, table-same}
-use Rattle.lists.specs.Walk.{walk, walk-more, walk-same}
-use Rattle.model.specs.Refusals.{zeroF, zeros}
+use Rattle.lists.specs.Table.{table, Filled, length-front, table-same}
+use Rattle.lists.specs.Walk.{walk-same}
+use Rattle.model.specs.Refusals.{zeroF}
 use Rattle.blocks.specs.Fill.{part-table}
 use Rattle.product.specs.Raise.{Along}
 use Rattle.change.specs.Room.{PartRoom}
+use Rattle.row_sums.specs.Sums.{sumAt, frontAt}
 
--- the sum of the first m rows
-abbrev pub sumAt : ℕ → ℕ → List Float → ℕ → Float
-sumAt s m xs k = walk (λ j acc. add binary64 acc (getD xs (j * s + k) nan)) m 0 zeroF
-
--- the row m plus that sum
-abbrev pub frontAt : ℕ → ℕ → List Float → ℕ → Float
-frontAt s m xs k = add binary64 (getD xs (m * s + k) nan) (sumAt s m xs k)
-
--- and the rows after it
+-- the row m plus the sum of those before it, and the rows after it
 abbrev pub keptAt : ℕ → ℕ → List Float → ℕ → Float
 keptAt s m xs k = cond (ltb k s) (frontAt s m xs k) (getD xs (m * s + k) nan)
 
@@ -38,44 +30,6 @@ droppedAt all s m xs k = cond all (sumAt s m xs k) (keptAt s m xs k)
 -- parts of `width` places that become parts of `step` places, by place
 abbrev pub droppedFlat : Bool → ℕ → ℕ → ℕ → ℕ → List Float → ℕ → Float
 droppedFlat all s m width step xs p = droppedAt all s m (drop (p / step * width) xs) (p % step)
-
--- ---- the sum of rows
-
--- j rows are summed
-pub record Summed (s j : ℕ) (a to : List Float) : Type 0 where
-  pub len : length to ≡ s
-  pub is : to ≡ table s (sumAt s j a)
-
-pub sum-none : (a : List Float) {s k : ℕ} {to : List Float} → to ≡ zeros k → k ≡ s → Summed s 0 a to
-unfolding walk
-sum-none a {s} {k} e f = record { len = ap length e ∙ (length-table (λ i. zeroF) k ∙ f); is = e ∙ ap zeros f }
-
-pub sum-more : {s j at : ℕ} {a to : List Float} (z k : ℕ) {row o : List Float} → Summed s j a to → at ≡ j * s → row ≡ take z (drop at a) → z ≡ s → k ≡ s
-    → o ≡ table k (λ i. add binary64 (getD to i nan) (getD row i nan)) → Summed s (j + 1) a o
-sum-more {s} {j} {at} {a} {to} z k {row} g ea er ez ek eo =
-    let f : ℕ → Float = λ i. add binary64 (getD to i nan) (getD row i nan) in
-    let e = eo ∙ (ap (λ (x : ℕ). table x f) ek ∙ table-same f (sumAt s (j + 1) a) s (λ i h.
-    let x : getD to i nan ≡ sumAt s j a i = ap (λ (l : List Float). getD l i nan) (g .is) ∙ table-at nan (sumAt s j a) s i h in
-    let y : getD row i nan ≡ getD a (j * s + i) nan =
-    ap (λ (l : List Float). getD l i nan) er ∙ (getD-take z (drop at a) i nan (omega (arith, ez)) ∙ (getD-drop at a i nan ∙ ap (λ (x : ℕ). getD a (x + i) nan) ea)) in
-    let w = walk-more (λ j acc. add binary64 acc (getD a (j * s + i) nan)) j 0 zeroF in
-    rw (x, y, add-one j) (rw (zero-add j) at (sym w)))) in
-    record { len = ap length e ∙ length-table (sumAt s (j + 1) a) s; is = e }
-
--- the row j lies in the list
-pub row-below : (s j m : ℕ) {at l : ℕ} → at ≡ j * s → j < m → m * s ≤ l → at + s ≤ l
-row-below s j m e h k = let x : (j + 1) * s ≤ m * s = mul-le-mul-right s (omega arith) in omega (arith, x, e, k)
-
--- the row m with that sum
-pub front-is : (s m : ℕ) (a : List Float) (z k : ℕ) {e : ℕ} {sum row o : List Float} → sum ≡ table s (sumAt s m a) → e ≡ m * s → row ≡ take z (drop e a) → z ≡ s → k ≡ s
-    → o ≡ table k (λ i. add binary64 (getD row i nan) (getD sum i nan)) → o ≡ table s (frontAt s m a)
-front-is s m a z k {e} {sum} {row} es ee er ez ek eo =
-    let f : ℕ → Float = λ i. add binary64 (getD row i nan) (getD sum i nan) in
-    eo ∙ (ap (λ (x : ℕ). table x f) ek ∙ table-same f (frontAt s m a) s (λ i h.
-    let x : getD sum i nan ≡ sumAt s m a i = ap (λ (l : List Float). getD l i nan) es ∙ table-at nan (sumAt s m a) s i h in
-    let y : getD row i nan ≡ getD a (m * s + i) nan =
-    ap (λ (l : List Float). getD l i nan) er ∙ (getD-take z (drop e a) i nan (omega (arith, ez)) ∙ (getD-drop e a i nan ∙ ap (λ (x : ℕ). getD a (x + i) nan) ee)) in
-    rw (x, y)))
 
 -- ---- one part
 

@@ -2,5 +2,4 @@ pub mod Room
 pub mod Parts
 pub mod Drop
 pub mod Shift
-pub mod Scale
 pub mod Taken

@@ -29,9 +29,11 @@ use Rattle.shape.specs.Keeps.{Keeps}
 use Rattle.readings.specs.Kept.{full-keeps}
 use Rattle.product.specs.Room.{Rows, Raising}
 use Rattle.product.specs.Raise.{raise-rows, raise-small}
-use Rattle.change.specs.Room.{Shifted, PartRoom}
+use Rattle.change.specs.Room.{Shifted}
+use Rattle.change.specs.Room.{PartRoom}
 use Rattle.change.specs.Parts.{Others, Sits, sits}
-use Rattle.change.specs.Drop.{sumAt, keptAt, droppedFlat}
+use Rattle.row_sums.specs.Sums.{sumAt}
+use Rattle.change.specs.Drop.{keptAt, droppedFlat}
 
 pub shift-regular : (v n : ℕ) {h : Header} → Ruled h → Regular (announced (Shift v n) h noHeader)
 unfolding announced

@@ -8,8 +8,7 @@ use words::word::header_of;
 use words::word::pack;
 ghost use mathlib.Core.Path.{_≡_};
 ghost use Prim.Native.Nat.{_+_, _*_, _≤_};
-ghost use lib.ListN.{length, getD};
-ghost use lib.Ieee.{nan, add, mul, binary64};
+ghost use lib.ListN.{length};
 ghost use Rattle.lists.specs.Table.{table};
 ghost use Rattle.model.specs.Header.{header, stored, ones};
 ghost use Rattle.model.specs.Refusals.{padded};
@@ -19,73 +18,16 @@ ghost use Rattle.model.specs.Answers.{answered, outAfter};
 ghost use Rattle.model.specs.Gates.{announcedOne};
 ghost use Rattle.model.specs.Shifts.{shiftDownPoly, shiftGate};
 ghost use Rattle.product.specs.Room.{Rows};
-ghost use Rattle.change.specs.Room.{Shifted, PartRoom, Stripes, Scaling, Striped};
-ghost use Rattle.change.specs.Drop.{sumAt, frontAt, keptAt, droppedAt, droppedFlat};
-ghost use Rattle.change.specs.Scale.{factorialF, startF, scaledBy, stripeAt, scaledFlat, scaledPoly};
-
-// Each place of `to` with that of `row` added to it.
-fn add_row(row: &[f64], to: &mut [f64])
-    requires { ⌜ length (now to) ≤ length (now row) ⌝ }
-    ensures { λ _. ⌜ now (to .exit) ≡ table (length (now (to .entry))) (λ k. add binary64 (getD (now (to .entry)) k nan) (getD (now (row .entry)) k nan)) ⌝ }
-{
-    let n = to.len();
-    let mut k = 0;
-    while k < n {
-        to[k] = to[k] + row[k];
-        k += 1;
-    }
-}
-
-// Each place of `row` with that of `to` added to it.
-fn add_to_row(row: &[f64], to: &mut [f64])
-    requires { ⌜ length (now to) ≤ length (now row) ⌝ }
-    ensures { λ _. ⌜ now (to .exit) ≡ table (length (now (to .entry))) (λ k. add binary64 (getD (now (row .entry)) k nan) (getD (now (to .entry)) k nan)) ⌝ }
-{
-    let n = to.len();
-    let mut k = 0;
-    while k < n {
-        let x = row[k];
-        to[k] = x + to[k];
-        k += 1;
-    }
-}
-
-// The sum of the first m rows, from +0.0 upwards; answers how many places they have.
-fn sum_rows(a: &[f64], m: usize, to: &mut [f64]) -> usize
-    requires { ⌜ m * length (now to) ≤ length (now a) ⌝ }
-    ensures places { λ r. ⌜ r ≡ m * length (now (to .entry)) ⌝ }
-    ensures sum { λ r. ⌜ now (to .exit) ≡ table (length (now (to .entry))) (sumAt (length (now (to .entry))) m (now (a .entry))) ⌝ }
-{
-    blocks::clear(to);
-    let s = to.len();
-    let mut j = 0;
-    let mut at = 0;
-    while j < m {
-        add_row(&a[at..at + s], to);
-        at += s;
-        j += 1;
-    }
-    at
-}
-
-// The row m plus the sum of those before it; answers how many places they all have.
-fn front_row(a: &[f64], m: usize, to: &mut [f64]) -> usize
-    requires { ⌜ m * length (now to) + length (now to) ≤ length (now a) ⌝ }
-    ensures places { λ r. ⌜ r ≡ m * length (now (to .entry)) + length (now (to .entry)) ⌝ }
-    ensures sum { λ r. ⌜ now (to .exit) ≡ table (length (now (to .entry))) (frontAt (length (now (to .entry))) m (now (a .entry))) ⌝ }
-{
-    let end = sum_rows(a, m, to);
-    let next = end + to.len();
-    add_to_row(&a[end..next], to);
-    next
-}
+ghost use Rattle.change.specs.Room.{Shifted, PartRoom};
+ghost use Rattle.change.specs.Drop.{keptAt, droppedAt, droppedFlat};
+ghost use Rattle.row_factors.specs.Scale.{scaledPoly};
 
 // The rows from m on, the first of them with the sum of those before it.
 fn kept_rows(a: &[f64], s: usize, m: usize, to: &mut [f64])
     requires { ⌜ (s ≤ length (now to)) × (m * s + length (now to) ≡ length (now a)) ⌝ }
     ensures { λ _. ⌜ now (to .exit) ≡ table (length (now (to .entry))) (keptAt s m (now (a .entry))) ⌝ }
 {
-    let next = front_row(a, m, &mut to[..s]);
+    let next = row_sums::front_row(a, m, &mut to[..s]);
     blocks::copy(&a[next..], &mut to[s..]);
 }
 
@@ -95,7 +37,7 @@ fn drop_part(all: bool, a: &[f64], s: usize, m: usize, to: &mut [f64])
     ensures { λ _. ⌜ now (to .exit) ≡ table (length (now (to .entry))) (droppedAt all s m (now (a .entry))) ⌝ }
 {
     if all {
-        sum_rows(a, m, to);
+        row_sums::sum_rows(a, m, to);
         return;
     }
     kept_rows(a, s, m, to);
@@ -129,107 +71,6 @@ pub fn shift_rows(a: &[f64], h: Header, r: Header, v: usize, n: usize, to: &mut 
         return;
     }
     drop_parts(false, a, s, n, l[v] * s, c[v] * s, to);
-}
-
-// n!, by ascending products.
-fn factorial(n: usize) -> f64
-    requires { ⌜ n ≤ 64 ⌝ }
-    ensures { λ r. ⌜ r ≡ factorialF n ⌝ }
-{
-    let mut product = 1.0;
-    let mut i = 0;
-    while i < n {
-        i += 1;
-        product = product * (i as f64);
-    }
-    product
-}
-
-// The factor of the first row that is kept.
-fn first_factor(plain: bool, n: usize) -> f64
-    requires { ⌜ n ≤ 64 ⌝ }
-    ensures { λ r. ⌜ r ≡ startF plain n ⌝ }
-{
-    if plain {
-        return 1.0;
-    }
-    factorial(n)
-}
-
-// Each place of `a` times the factor.
-fn scale_row(a: &[f64], factor: f64, to: &mut [f64])
-    requires { ⌜ length (now to) ≤ length (now a) ⌝ }
-    ensures { λ _. ⌜ now (to .exit) ≡ table (length (now (to .entry))) (λ k. mul binary64 (getD (now (a .entry)) k nan) factor) ⌝ }
-{
-    let n = to.len();
-    let mut k = 0;
-    while k < n {
-        to[k] = a[k] * factor;
-        k += 1;
-    }
-}
-
-// A row times the factor, or as it is where `plain`.
-fn put_row(plain: bool, a: &[f64], factor: f64, to: &mut [f64])
-    requires { ⌜ length (now to) ≤ length (now a) ⌝ }
-    ensures { λ _. ⌜ now (to .exit) ≡ table (length (now (to .entry))) (λ k. scaledBy plain factor (getD (now (a .entry)) k nan)) ⌝ }
-{
-    if plain {
-        blocks::copy(a, to);
-        return;
-    }
-    scale_row(a, factor, to);
-}
-
-// One row of every part: in `to` it begins at `first`, in `a` it lies `skip` places further on.
-fn scale_stripe(
-    plain: bool,
-    a: &[f64],
-    factor: f64,
-    s: usize,
-    width: usize,
-    step: usize,
-    skip: usize,
-    first: usize,
-    to: &mut [f64],
-)
-    requires { ⌜ Stripes s width step skip first (length (now a)) (length (now to)) ⌝ }
-    ensures { λ _. ⌜ Striped first s step (stripeAt plain factor width step skip (now (a .entry))) (now (to .entry)) (now (to .exit)) ⌝ }
-{
-    let mut from = skip + first;
-    let mut at = first;
-    while at < to.len() {
-        put_row(plain, &a[from..from + s], factor, &mut to[at..at + s]);
-        from += width;
-        at += step;
-    }
-}
-
-// The rows from n on, each times its factor, which is worked out once: that of the first is `start`, or none where `plain`.
-fn scale_rows(
-    plain: bool,
-    a: &[f64],
-    start: f64,
-    n: usize,
-    s: usize,
-    width: usize,
-    step: usize,
-    to: &mut [f64],
-)
-    requires { ⌜ Scaling n s width step (length (now a)) (length (now to)) ⌝ }
-    ensures { λ _. ⌜ now (to .exit) ≡ table (length (now (to .entry))) (scaledFlat plain start n s width step (now (a .entry))) ⌝ }
-{
-    let skip = n * s;
-    scale_stripe(plain, a, start, s, width, step, skip, 0, to);
-    let mut factor = start;
-    let mut k = 1;
-    let mut at = s;
-    while at < step {
-        factor = factor * ((n + k) as f64 / (k as f64));
-        scale_stripe(false, a, factor, s, width, step, skip, at, to);
-        k += 1;
-        at += s;
-    }
 }
 
 // The header with all lengths 1.
@@ -266,10 +107,10 @@ pub fn take_rows(
     let c = r.lengths;
     let strides = words::places::strides_of(l);
     let s = strides[v];
-    scale_rows(
+    row_factors::scale_rows(
         plain,
         a,
-        first_factor(plain, n),
+        row_factors::first_factor(plain, n),
         n,
         s,
         l[v] * s,

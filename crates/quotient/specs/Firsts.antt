@@ -22,7 +22,7 @@ use Rattle.model.specs.Quotient.{recurred}
 use Rattle.general.specs.Index.{inRow}
 use Rattle.general.specs.Product.{span-more, stride-at}
 use Rattle.quotient.specs.Grows.{length-grown}
-use Rattle.quotient.specs.Laid.{Laid, laid-none, laid-mid, laid-append, laid-above, laid-part, laid-under, laid-front}
+use Rattle.lessening.specs.Laid.{Laid, laid-none, laid-mid, laid-append, laid-above, laid-part, laid-under, laid-front}
 use Rattle.quotient.specs.Level.{takenAt, levelOf}
 use Rattle.quotient.specs.Room.{Dividing, Room, RowRoom, First, Adding}
 use Rattle.quotient.specs.First.{firstAt, quotientNext, first-more}

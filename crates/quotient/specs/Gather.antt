@@ -15,7 +15,7 @@ use Rattle.model.specs.Header.{span, count}
 use Rattle.words.specs.Lengths.{Lengths, lengths-pos}
 use Rattle.general.specs.Index.{inRow}
 use Rattle.general.specs.Product.{span-more, stride-at, row-in}
-use Rattle.quotient.specs.Laid.{Laid}
+use Rattle.lessening.specs.Laid.{Laid}
 use Rattle.quotient.specs.Level.{takenAt, leftAt}
 use Rattle.quotient.specs.Room.{Dividing, Taking, RowRoom}
 

@@ -25,7 +25,7 @@ use Rattle.words.specs.Spans.{count-one}
 use Rattle.shape.specs.Under.{count-under}
 use Rattle.blocks.specs.Rows.{Inner}
 use Rattle.blocks.specs.Two.{Two, Holds, cutPlaces, cut-is}
-use Rattle.quotient.specs.Laid.{Laid, laid-part}
+use Rattle.lessening.specs.Laid.{Laid, laid-part}
 use Rattle.quotient.specs.Room.{Dividing, Room, First, Recurring, Divides, loadedQuotient}
 use Rattle.quotient.specs.Firsts.{length-recurred}
 use Rattle.quotient.specs.Gather.{part-at}

@@ -14,7 +14,7 @@ use Rattle.model.specs.Header.{span, count}
 use Rattle.general.specs.Index.{inRow}
 use Rattle.general.specs.Product.{span-more, span-pos, stride-at, row-in}
 use Rattle.quotient.specs.Grows.{length-grown}
-use Rattle.quotient.specs.Laid.{Laid, laid-none, laid-append, laid-above, laid-part, laid-under, laid-over}
+use Rattle.lessening.specs.Laid.{Laid, laid-none, laid-append, laid-above, laid-part, laid-under, laid-over}
 use Rattle.quotient.specs.Level.{leftAt, levelAt, levelOf, level-more}
 use Rattle.quotient.specs.Room.{Dividing, Room, RowRoom, Line}
 use Rattle.quotient.specs.Gather.{row-less, span-in}

@@ -1,5 +1,4 @@
 pub mod Grows
-pub mod Laid
 pub mod Level
 pub mod Room
 pub mod Taken

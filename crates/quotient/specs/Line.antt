@@ -20,7 +20,7 @@ use Rattle.general.specs.Index.{inRow}
 use Rattle.general.specs.Product.{span-more}
 use Rattle.general.specs.Fours.{Summing}
 use Rattle.quotient.specs.Grows.{length-grown}
-use Rattle.quotient.specs.Laid.{Laid, laid-none, laid-set, laid-append, laid-part, laid-under}
+use Rattle.lessening.specs.Laid.{Laid, laid-none, laid-set, laid-append, laid-part, laid-under}
 use Rattle.quotient.specs.Level.{levelAt, levelOf, row-at, passed, lessened-zeros}
 use Rattle.quotient.specs.Room.{Single, Line}
 use Rattle.quotient.specs.Taken.{first-zero, taken-sum, summing}

@@ -1,10 +1,10 @@
 // The quotient of two blocks: by a constant, or by the recurrence, row by row, which recurses over the variables.
 // In the work lie the dividend, the divisor, the finished places, and behind these, used as a stack, what each level still has to divide.
 ghost use mathlib.Core.Path.{_≡_};
-ghost use Prim.Native.Nat.{_+_, _-_, _*_, _≤_, _<_};
+ghost use Prim.Native.Nat.{_+_, _-_, _*_, _<_};
 ghost use mathlib.Core.Bool.{false, cond};
 ghost use lib.ListN.{length, getD, take};
-ghost use lib.Ieee.{nan, add, neg, eq, binary64};
+ghost use lib.Ieee.{nan, eq};
 ghost use Rattle.lists.specs.Four.{at};
 ghost use Rattle.lists.specs.Table.{table};
 ghost use Rattle.lists.specs.Walk.{walk};
@@ -17,7 +17,7 @@ ghost use Rattle.model.specs.Add.{joinAt};
 ghost use Rattle.model.specs.Quotient.{dividedAt, recurred, divided};
 ghost use Rattle.general.specs.Index.{inRow};
 ghost use Rattle.general.specs.Rows.{Strided};
-ghost use Rattle.quotient.specs.Laid.{Laid};
+ghost use Rattle.lessening.specs.Laid.{Laid};
 ghost use Rattle.quotient.specs.Level.{takenAt, leftAt, levelOf, passed};
 ghost use Rattle.quotient.specs.Room.{Dividing, Taking, Room, RowRoom, Line, Adding, First, Recurring, Divides, loadedQuotient};
 ghost use Rattle.quotient.specs.First.{firstAt};
@@ -87,19 +87,6 @@ fn taken_row(
     taken_by_rows(done, ys, ly, sy, r, sr, v, k, row);
 }
 
-// The row negated, then the places from `from` on added: it goes to `to`.
-fn lessen(row: &[f64], work: &mut [f64], from: usize, to: usize)
-    requires { ⌜ (from + length (now row) ≤ to) × (to + length (now row) ≤ length (now work)) ⌝ }
-    ensures { λ _. ⌜ Laid to (table (length (now (row .entry))) (λ i. add binary64 (neg (getD (now (row .entry)) i nan)) (getD (now (work .entry)) (from + i) nan))) (length (now (work .entry))) (now (work .entry)) (now (work .exit)) ⌝ }
-{
-    let n = row.len();
-    let mut i = 0;
-    while i < n {
-        work[to + i] = -row[i] + work[from + i];
-        i += 1;
-    }
-}
-
 // What the row k of a level still has to divide: its c lies from p up to e, and the rows before it from q on. It goes to e.
 fn gather(
     work: &mut [f64],
@@ -122,7 +109,7 @@ fn gather(
     let at = k * sr[v];
     let end = q + at;
     taken_row(&work[q..end], &work[b..f], ly, sy, r, sr, v, k, row);
-    lessen(row, work, p + at, e);
+    lessening::lessen(row, work, p + at, e);
 }
 
 // c after the variables past v, in each of which its place has the number 0.

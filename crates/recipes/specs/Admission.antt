@@ -19,10 +19,10 @@ use Rattle.model.specs.Check.{orElse, checkRefusal}
 use Rattle.model.specs.Run.{lentRefusal}
 use Rattle.words.specs.Lengths.{lengths-of, count-most}
 use Rattle.kinds.specs.Known.{Known}
-use Rattle.recipes.specs.Asks.{or-first, or-next}
-use Rattle.recipes.specs.Judging.{heads}
-use Rattle.recipes.specs.Judged.{Judged}
-use Rattle.recipes.specs.Answered.{Passed, passed}
+use Rattle.judging.specs.Asks.{or-first, or-next}
+use Rattle.judging.specs.Judging.{heads}
+use Rattle.judging.specs.Judged.{Judged}
+use Rattle.judging.specs.Answered.{Passed, passed}
 use Rattle.recipes.specs.Running.{Admitted}
 
 -- c, p, w and s the lengths of coefficients, pool, words and scratch

@@ -32,14 +32,14 @@ use Rattle.shape.specs.Under.{count-under}
 use Rattle.kinds.specs.Known.{head-at, small-variable, step-regular}
 use Rattle.steps.specs.Lent.{Lent}
 use Rattle.steps.specs.Ready.{valueOf, Known, Ready, Placed}
-use Rattle.recipes.specs.Judging.{heads}
-use Rattle.recipes.specs.Judged.{accepts}
-use Rattle.recipes.specs.Formed.{formed-tests, formed-right}
-use Rattle.recipes.specs.Exact.{length-known}
-use Rattle.recipes.specs.EachKind.{by-kind}
-use Rattle.recipes.specs.Follows.{length-inputs, follows-known}
-use Rattle.recipes.specs.Ahead.{Clear, ahead-at, clear-at, ready-at, keeps-at, announced-at, length-announced, step-largest}
-use Rattle.recipes.specs.Passed.{StepReady, inLimit}
+use Rattle.judging.specs.Judging.{heads}
+use Rattle.judging.specs.Judged.{accepts}
+use Rattle.demands.specs.Formed.{formed-tests, formed-right}
+use Rattle.demands.specs.Exact.{length-known}
+use Rattle.demands.specs.EachKind.{by-kind}
+use Rattle.demands.specs.Follows.{length-inputs, follows-known}
+use Rattle.demands.specs.Ahead.{Clear, ahead-at, clear-at, ready-at, keeps-at, announced-at, length-announced, step-largest}
+use Rattle.demands.specs.Passed.{StepReady, inLimit}
 use Rattle.recipes.specs.Standing.{lyingAt, Named, StepIn, constant-value, Begun, total-more, At, at-lying, at-lies, at-later, at-new, input-at}
 
 -- ---- operands of a step that is right

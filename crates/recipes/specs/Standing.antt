@@ -24,7 +24,7 @@ use Rattle.model.specs.Recipe.{inputHeads, headAt, total}
 use Rattle.model.specs.Run.{inputValues, operations, noValue, valueAt}
 use Rattle.words.specs.Lengths.{lengths-of, count-most}
 use Rattle.kinds.specs.Known.{Known, head-at}
-use Rattle.recipes.specs.Counts.{word-ruled}
+use Rattle.judging.specs.Counts.{word-ruled}
 use Rattle.steps.specs.Lent.{source, lying, Lies}
 use Rattle.steps.specs.Ready.{valueOf, Placed, Ready}
 

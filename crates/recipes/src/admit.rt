@@ -1,8 +1,8 @@
 // Whether a recipe is run, and the run of one that is admitted.
-use crate::judge::judge;
-use crate::judge::largest_of;
-use crate::judge::note_inputs;
-use crate::judge::total_of;
+use judging::judge;
+use judging::largest_of;
+use judging::note_inputs;
+use judging::total_of;
 use crate::running::note_starts;
 use crate::running::run_steps;
 use model::Refusal;

@@ -1,13 +1,12 @@
 // Recipes (document 01): the check and the run. They take any words, any number of them, and any buffers.
 mod admit;
-pub mod judge;
 mod running;
 
 use admit::admit;
 use admit::run_admitted;
-use judge::judge;
-use judge::largest_of;
-use judge::total_of;
+use judging::judge;
+use judging::largest_of;
+use judging::total_of;
 use model::CheckAnswer;
 use model::RunAnswer;
 ghost use mathlib.Core.Path.{_≡_};

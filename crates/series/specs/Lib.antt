@@ -1,8 +1,7 @@
 pub mod Room
-pub mod Gather
+pub mod NextRow
 pub mod Stacked
 pub mod Entry
-pub mod Log
 pub mod LogRow
 pub mod LogDone
 pub mod LogRows

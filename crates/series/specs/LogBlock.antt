@@ -32,9 +32,9 @@ use Rattle.words.specs.Lengths.{Lengths, lengths-pos}
 use Rattle.words.specs.Spans.{ones-of-span, span-ones}
 use Rattle.general.specs.Index.{inRow}
 use Rattle.general.specs.Product.{row-in, span-more, span-none, stride-at, alone-one, first-in}
-use Rattle.series.specs.Room.{Shaped}
-use Rattle.series.specs.Gather.{rowAt}
-use Rattle.series.specs.Log.{firstTurn, nextPlace, next-is, LineRoom}
+use Rattle.gathering.specs.Reach.{Shaped}
+use Rattle.gathering.specs.Gather.{rowAt}
+use Rattle.log_line.specs.Line.{firstTurn, nextPlace, next-is, LineRoom}
 use Rattle.series.specs.LogRow.{LogRoom, count-after}
 use Rattle.series.specs.LogRows.{logStep, leftOfRows}
 use Rattle.series.specs.Stacked.{row-under}

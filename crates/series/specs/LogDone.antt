@@ -20,8 +20,8 @@ use Rattle.blocks.specs.Rows.{Inner}
 use Rattle.general.specs.Index.{inRow}
 use Rattle.general.specs.Product.{stride-at}
 use Rattle.quotient.specs.Room.{Recurring}
-use Rattle.series.specs.Room.{Shaped}
-use Rattle.series.specs.Gather.{rowAt}
+use Rattle.gathering.specs.Reach.{Shaped}
+use Rattle.gathering.specs.Gather.{rowAt}
 use Rattle.series.specs.LogRow.{LogRoom, leftRow, after-lengths, after-inner, count-after, log-fits}
 use Rattle.series.specs.Stacked.{kept-put, row-under}
 

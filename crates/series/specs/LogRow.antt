@@ -26,9 +26,9 @@ use Rattle.words.specs.Lengths.{Lengths, lengths-pos}
 use Rattle.blocks.specs.Rows.{Inner, Joining}
 use Rattle.general.specs.Index.{inRow}
 use Rattle.general.specs.Product.{row-in, stride-at}
-use Rattle.series.specs.Room.{Reach, Shaped, Gathering}
-use Rattle.series.specs.Gather.{rowAt, pairAt, gathered}
-use Rattle.series.specs.Log.{firstTurn}
+use Rattle.gathering.specs.Reach.{Reach, Shaped, Gathering}
+use Rattle.gathering.specs.Gather.{rowAt, pairAt, gathered}
+use Rattle.log_line.specs.Line.{firstTurn}
 use Rattle.series.specs.Stacked.{row-under}
 
 -- k times each place

@@ -27,8 +27,8 @@ use Rattle.model.specs.Series.{after, timesWhole, overWhole}
 use Rattle.blocks.specs.Fill.{part-table}
 use Rattle.general.specs.Index.{inRow}
 use Rattle.general.specs.Product.{span-more}
-use Rattle.series.specs.Gather.{rowAt, pairAt}
-use Rattle.series.specs.Log.{firstTurn}
+use Rattle.gathering.specs.Gather.{rowAt, pairAt}
+use Rattle.log_line.specs.Line.{firstTurn}
 use Rattle.series.specs.LogRow.{multipliedBy, leftRow}
 use Rattle.series.specs.LogDone.{Rowed, dividedRow}
 

@@ -19,8 +19,11 @@ use Rattle.model.specs.Series.{overWhole, expRow, expRows}
 use Rattle.words.specs.Lengths.{Lengths, lengths-pos}
 use Rattle.general.specs.Index.{inRow}
 use Rattle.general.specs.Product.{row-in, span-more, span-none, span-pos, stride-at}
-use Rattle.series.specs.Room.{Shaped, Gathering, RowRoom, Room}
-use Rattle.series.specs.Gather.{weighedAt, weighed, gathered, nextRow, rows-are}
+use Rattle.gathering.specs.Reach.{Shaped, Gathering}
+use Rattle.series.specs.Room.{RowRoom, Room}
+use Rattle.scaling.specs.Weighed.{weighedAt}
+use Rattle.series.specs.NextRow.{weighed, nextRow, rows-are}
+use Rattle.gathering.specs.Gather.{gathered}
 
 -- a part of a buffer became xs
 pub kept-put : (p e : ℕ) (w : List Float) {xs : List Float} {q : ℕ} → length xs ≡ e - p → p ≤ e → e ≤ length w → q ≡ e - p → Kept p e xs w (putMid p q w xs)

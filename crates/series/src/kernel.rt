@@ -2,109 +2,18 @@
 // At the front of the work lie the finished rows, and from n on the operand's rows, each times its number. A row is gathered in the buffer of the result.
 ghost use mathlib.Core.Path.{_≡_};
 ghost use mathlib.Core.Bool.{false};
-ghost use Prim.Native.Nat.{_+_, _-_, _*_, _≤_, _<_, min};
+ghost use Prim.Native.Nat.{_+_, _-_, _*_, _<_, min};
 ghost use lib.ListN.{length, take};
 ghost use Rattle.lists.specs.Four.{at};
-ghost use Rattle.lists.specs.Table.{table};
 ghost use Rattle.lists.specs.Stack.{stack};
 ghost use Rattle.lists.specs.Part.{part, Kept};
 ghost use Rattle.model.specs.Header.{span};
 ghost use Rattle.model.specs.Series.{overWhole, expRows};
 ghost use Rattle.general.specs.Index.{inRow};
-ghost use Rattle.general.specs.Rows.{Strided};
-ghost use Rattle.series.specs.Room.{leftOf, Reach, Shaped, Gathering, RowRoom, Room, Whole};
-ghost use Rattle.series.specs.Gather.{weighedAt, gathered, nextRow};
-
-// Each place times the number of its row, t places to a row, 64 rows at most.
-fn weigh(xs: &[f64], t: usize, to: &mut [f64])
-    requires { ⌜ (0 < t) × (length (now to) ≤ length (now xs)) ⌝ ∗ ⌜ length (now to) ≤ 64 * t ⌝ }
-    ensures { λ _. ⌜ now (to .exit) ≡ table (length (now (to .entry))) (weighedAt t (now (xs .entry))) ⌝ }
-{
-    let n = to.len();
-    let mut i = 0;
-    while i < n {
-        let j = i / t;
-        to[i] = xs[i] * (j as f64);
-        i += 1;
-    }
-}
-
-// Each place over the number k.
-pub fn divide_by(k: usize, to: &mut [f64])
-    requires { ⌜ k < 64 ⌝ }
-    ensures { λ _. ⌜ now (to .exit) ≡ overWhole k (now (to .entry)) ⌝ }
-{
-    let d = k as f64;
-    let n = to.len();
-    let mut i = 0;
-    while i < n {
-        to[i] = to[i] / d;
-        i += 1;
-    }
-}
-
-// The number of the left row at the turn j.
-fn left_row(back: bool, k: usize, j: usize) -> usize
-    requires { ⌜ j ≤ k ⌝ }
-    ensures { λ i. ⌜ i ≡ leftOf back k j ⌝ }
-{
-    if back { k - j } else { j }
-}
-
-// The row k of the variable v, from +0.0: for j from lo up to hi the row j of xs times the row k - j of ys; or, backwards, k - j and j.
-pub fn gather_rows(
-    back: bool,
-    xs: &[f64],
-    lx: [usize; 4],
-    sx: [usize; 4],
-    ys: &[f64],
-    r: [usize; 4],
-    sr: [usize; 4],
-    v: usize,
-    k: usize,
-    lo: usize,
-    hi: usize,
-    row: &mut [f64],
-)
-    requires { ⌜ Strided lx sx r sr r sr ⌝ ∗ ⌜ Gathering lx r v k (length (now xs)) (length (now ys)) (length (now row)) ⌝ ∗ ⌜ Reach back k (at lx v) lo hi ⌝ }
-    ensures { λ _. ⌜ now (row .exit) ≡ gathered back lx r v k lo hi (now (xs .entry)) (now (ys .entry)) ⌝ }
-{
-    blocks::clear(row);
-    let w = v + 1;
-    let t = sx[v];
-    let s = sr[v];
-    let mut j = lo;
-    while j < hi {
-        let i = left_row(back, k, j);
-        let p = i * t;
-        let q = (k - i) * s;
-        general::rows(&xs[p..p + t], lx, sx, &ys[q..q + s], r, sr, r, sr, w, row);
-        j += 1;
-    }
-}
-
-// The row k of exp before it is divided: x's row j, weighed, times the finished row k - j, as far as x reaches. Where a row is one place, it is one sum.
-fn gather(
-    xs: &[f64],
-    lx: [usize; 4],
-    sx: [usize; 4],
-    done: &[f64],
-    r: [usize; 4],
-    sr: [usize; 4],
-    v: usize,
-    k: usize,
-    row: &mut [f64],
-)
-    requires { ⌜ Shaped lx sx r sr ⌝ ∗ ⌜ Gathering lx r v k (length (now xs)) (length (now done)) (length (now row)) ⌝ }
-    ensures { λ _. ⌜ now (row .exit) ≡ gathered false lx r v k 1 (min (k + 1) (at lx v)) (now (xs .entry)) (now (done .entry)) ⌝ }
-{
-    let hi = general::line::upto(k, lx[v]);
-    if sr[v] == 1 {
-        row[0] = general::line::sum_on(xs, done, k, 1, hi, 0.0);
-        return;
-    }
-    gather_rows(false, xs, lx, sx, done, r, sr, v, k, 1, hi, row);
-}
+ghost use Rattle.gathering.specs.Reach.{Shaped};
+ghost use Rattle.series.specs.Room.{RowRoom, Room, Whole};
+ghost use Rattle.gathering.specs.Gather.{gathered};
+ghost use Rattle.series.specs.NextRow.{nextRow};
 
 // The row k of the variable v, over k; it goes behind the rows before it, which lie at the front of the work. The operand's rows lie from n up to e.
 fn exp_row(
@@ -124,8 +33,8 @@ fn exp_row(
 {
     let at = k * sr[v];
     let end = at + sr[v];
-    gather(&work[n..e], lx, sx, &work[0..at], r, sr, v, k, row);
-    divide_by(k, row);
+    gathering::gather(&work[n..e], lx, sx, &work[0..at], r, sr, v, k, row);
+    scaling::divide_by(k, row);
     blocks::copy(row, &mut work[at..end]);
 }
 
@@ -148,7 +57,7 @@ fn exp_rows(
     let s = sr[v];
     let m = r[v];
     let e = n + lx[v] * t;
-    weigh(xs, t, &mut work[n..e]);
+    scaling::weigh(xs, t, &mut work[n..e]);
     let mut k = 1;
     while k < m {
         exp_row(work, n, e, lx, sx, r, sr, v, k, &mut row[..s]);

@@ -3,92 +3,28 @@
 // A row is gathered in the buffer of the result.
 ghost use mathlib.Core.Path.{_≡_};
 ghost use mathlib.Core.Bool.{true, false, cond};
-ghost use mathlib.Core.List.{List, [], _∷_};
-ghost use Prim.Native.Nat.{ℕ, _+_, _-_, _*_, _≤_, _<_, max};
+ghost use Prim.Native.Nat.{_+_, _-_, _*_, _<_};
 ghost use lib.Dec.{ltb};
 ghost use lib.ListN.{length, getD, take};
-ghost use lib.Ieee.{nan, mul, binary64};
+ghost use lib.Ieee.{nan};
 ghost use Rattle.lists.specs.Table.{table};
-ghost use Rattle.lists.specs.Grow.{grow};
 ghost use Rattle.lists.specs.Part.{part, Below};
 ghost use Rattle.lists.specs.Four.{at};
 ghost use Rattle.lists.specs.Stack.{stack};
 ghost use Rattle.model.specs.Header.{span, count};
 ghost use Rattle.model.specs.Places.{index};
-ghost use Rattle.model.specs.Refusals.{zeroF};
-ghost use Rattle.model.specs.Constructed.{wholeF};
 ghost use Rattle.model.specs.Poly.{block};
 ghost use Rattle.model.specs.Add.{joinAt};
-ghost use Rattle.model.specs.Series.{after, timesWhole, logRows};
+ghost use Rattle.model.specs.Series.{after, logRows};
 ghost use Rattle.blocks.specs.Rows.{Joining};
 ghost use Rattle.general.specs.Index.{inRow};
-ghost use Rattle.series.specs.Room.{Shaped, Whole};
-ghost use Rattle.series.specs.Log.{NextRoom, LineRoom, firstTurn, lineSum, nextPlace};
+ghost use Rattle.gathering.specs.Reach.{Shaped};
+ghost use Rattle.series.specs.Room.{Whole};
 ghost use Rattle.model.specs.Quotient.{recurred};
 ghost use Rattle.series.specs.LogRow.{multipliedBy, LogRoom, leftRow};
 ghost use Rattle.series.specs.LogDone.{Divisor, Rowed, dividedRow};
 ghost use Rattle.series.specs.LogRows.{logStep};
 ghost use Rattle.series.specs.LogBlock.{Long, LogShaped, RowsRoom};
-
-// The first turn at the row k: the first j that x, m long, reaches, 1 at least.
-fn first_turn(k: usize, m: usize) -> usize
-    requires { ⌜ k < 64 ⌝ }
-    ensures { λ j. ⌜ j ≡ firstTurn m k ⌝ }
-{
-    let lo = general::line::from(k, m);
-    if lo < 1 { 1 } else { lo }
-}
-
-// What x, m places long, stores at k: +0.0 past them.
-fn stored_or_zero(xs: &[f64], m: usize, k: usize) -> f64
-    requires { ⌜ m ≤ length (now xs) ⌝ }
-    ensures { λ z. ⌜ z ≡ cond (ltb k m) (getD (now (xs .entry)) k nan) zeroF ⌝ }
-{
-    if k < m { xs[k] } else { 0.0 }
-}
-
-// The sum at the next place, k: (x_(k - j) * done_j) * j, j ascending from the first turn.
-fn log_sum(xs: &[f64], m: usize, done: &[f64]) -> f64
-    requires { ⌜ NextRoom m (length (now xs)) (length (now done)) ⌝ }
-    ensures { λ z. ⌜ z ≡ lineSum m (now (xs .entry)) (now (done .entry)) ⌝ }
-{
-    let k = done.len();
-    let lo = first_turn(k, m);
-    let mut sum = 0.0;
-    let mut j = lo;
-    while j < k {
-        sum = sum + xs[k - j] * done[j] * (j as f64);
-        j += 1;
-    }
-    sum
-}
-
-// The next place of one long variable, from those before it.
-fn log_next(xs: &[f64], m: usize, done: &[f64]) -> f64
-    requires { ⌜ NextRoom m (length (now xs)) (length (now done)) ⌝ }
-    ensures { λ z. ⌜ z ≡ nextPlace m (now (xs .entry)) (now (done .entry)) ⌝ }
-{
-    let k = done.len();
-    let d = k as f64;
-    let s = log_sum(xs, m, done);
-    let x = stored_or_zero(xs, m, k);
-    (x * d - s) / xs[0] / d
-}
-
-// One long variable: every place after the head.
-fn log_line(head: f64, xs: &[f64], m: usize, to: &mut [f64])
-    requires { ⌜ LineRoom m (length (now xs)) (length (now to)) ⌝ }
-    ensures { λ _. ⌜ now (to .exit) ≡ grow (length (now (to .entry)) - 1) (nextPlace m (now (xs .entry))) (head ∷ []) ⌝ }
-{
-    to[0] = head;
-    let n = to.len();
-    let mut k = 1;
-    while k < n {
-        let z = log_next(xs, m, &to[0..k]);
-        to[k] = z;
-        k += 1;
-    }
-}
 
 // The length of the variable w, where it comes after v.
 fn length_after(v: usize, w: usize, n: usize) -> usize
@@ -108,34 +44,6 @@ fn after_of(v: usize, l: [usize; 4]) -> [usize; 4]
     [a, b, c, d]
 }
 
-// Each place times the number k.
-fn scale(k: usize, a: &[f64], to: &mut [f64])
-    requires { ⌜ k < 64 ⌝ ∗ ⌜ length (now to) ≡ length (now a) ⌝ }
-    ensures { λ _. ⌜ now (to .exit) ≡ timesWhole k (now (a .entry)) ⌝ }
-{
-    let d = k as f64;
-    let n = to.len();
-    let mut i = 0;
-    while i < n {
-        to[i] = a[i] * d;
-        i += 1;
-    }
-}
-
-// The number k times each place.
-fn multiply(k: usize, a: &[f64], to: &mut [f64])
-    requires { ⌜ k < 64 ⌝ ∗ ⌜ length (now to) ≡ length (now a) ⌝ }
-    ensures { λ _. ⌜ now (to .exit) ≡ table (length (now (a .entry))) (λ i. mul binary64 (wholeF k) (getD (now (a .entry)) i nan)) ⌝ }
-{
-    let d = k as f64;
-    let n = to.len();
-    let mut i = 0;
-    while i < n {
-        to[i] = d * a[i];
-        i += 1;
-    }
-}
-
 // The row with k times the operand's row added: ax and ar are the lengths of the two, `times` takes the product.
 fn add_operand(
     k: usize,
@@ -148,7 +56,7 @@ fn add_operand(
     requires { ⌜ k < 64 ⌝ ∗ ⌜ length (now times) ≡ length (now a) ⌝ ∗ ⌜ Joining ax ar (length (now a)) (length (now row)) ⌝ }
     ensures { λ _. ⌜ now (row .exit) ≡ table (count ar) (λ i. joinAt false (getD (now (row .entry)) i nan) (block ax (multipliedBy k (now (a .entry)))) (index ar i)) ⌝ }
 {
-    multiply(k, a, times);
+    scaling::multiply(k, a, times);
     blocks::join_block(false, times, ax, ar, row);
 }
 
@@ -171,8 +79,8 @@ fn log_gather(
 {
     let m = lx[v];
     let at = k * sr[v];
-    let lo = first_turn(k, m);
-    crate::kernel::gather_rows(true, xs, lx, sx, &work[n..n + at], r, sr, v, k, lo, k, row);
+    let lo = log_line::first_turn(k, m);
+    gathering::gather_rows(true, xs, lx, sx, &work[n..n + at], r, sr, v, k, lo, k, row);
     blocks::turn(row);
     if m <= k {
         return;
@@ -221,9 +129,9 @@ fn log_row(
     let ax = after_of(v, lx);
     let ar = after_of(v, r);
     log_divide(&xs[0..t], ax, ar, &mut work[p..p + 8 * s], row);
-    crate::kernel::divide_by(k, row);
+    scaling::divide_by(k, row);
     blocks::copy(row, &mut work[at..at + s]);
-    scale(k, row, &mut work[n + at..n + at + s]);
+    scaling::scale(k, row, &mut work[n + at..n + at + s]);
 }
 
 // The rows of the variable v after its row 0, which lies at the front of the work.
@@ -272,7 +180,7 @@ fn log_block(
     }
     if (r[v] != 1) & (sr[v] == 1) {
         let m = r[v];
-        log_line(head, xs, lx[v], &mut work[..m]);
+        log_line::log_line(head, xs, lx[v], &mut work[..m]);
         return;
     }
     log_block(head, xs, lx, sx, r, sr, v + 1, n, work, row);

@@ -19,10 +19,10 @@ use Rattle.model.specs.Run.{runRefusal}
 use Rattle.model.specs.Printed.{doneText, refusedText}
 use Rattle.model.specs.Sheet.{wordOn, inputCount, stepCount, sheetHeaders, coefficientCount, sheetCoefficients, sheetSteps, ownRefusal, recipeRefusal, readRefusal, sheetRefusal, lastValue, sheetOutput}
 use Rattle.kinds.specs.Known.{Known}
-use Rattle.recipes.specs.Asks.{or-first, or-next}
-use Rattle.sheet.specs.Headers.{good-known}
+use Rattle.judging.specs.Asks.{or-first, or-next}
+use Rattle.sheet_reading.specs.Headers.{good-known}
 use Rattle.sheet.specs.Opened.{Opened, opened, opened-good, opened-few, headers-many, steps-many}
-use Rattle.sheet.specs.Limits.{OwnJudged}
+use Rattle.sheet_limits.specs.Limits.{OwnJudged}
 use Rattle.sheet.specs.declared.Solved.{Solved}
 use Rattle.sheet.specs.Running.{Opening, Running, running-passed, running-known}
 use Rattle.sheet.specs.Solves.{Ends, Ended, Solution}

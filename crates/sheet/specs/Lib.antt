@@ -1,7 +1,4 @@
-pub mod Headers
-pub mod Reading
 pub mod Example
-pub mod Limits
 pub mod Opened
 pub mod Front
 pub mod Running

@@ -22,12 +22,12 @@ use Rattle.words.specs.Rules.{Ruled}
 use Rattle.words.specs.Words.{unpack-pack}
 use Rattle.shape.specs.Keeps.{Keeps}
 use Rattle.shape.specs.Under.{count-under}
-use Rattle.recipes.specs.Asks.{or-next, by-refusal}
-use Rattle.recipes.specs.Follows.{Follows}
-use Rattle.recipes.specs.Never.{run-none}
-use Rattle.recipes.specs.Ahead.{announced-at, length-announced, step-largest}
-use Rattle.recipes.specs.Values.{follows-all}
-use Rattle.recipes.specs.Buffers.{word-kept, coeffs-kept}
+use Rattle.judging.specs.Asks.{or-next, by-refusal}
+use Rattle.demands.specs.Follows.{Follows}
+use Rattle.demands.specs.Never.{run-none}
+use Rattle.demands.specs.Ahead.{announced-at, length-announced, step-largest}
+use Rattle.demands.specs.Values.{follows-all}
+use Rattle.demands.specs.Buffers.{word-kept, coeffs-kept}
 use Rattle.sheet.specs.Opened.{headers-many, steps-many}
 use Rattle.sheet.specs.declared.Solved.{Solved}
 use Rattle.sheet.specs.Running.{RunningIn, passed, steps-largest}

@@ -18,11 +18,11 @@ use Rattle.model.specs.Check.{orElse, checkRefusal}
 use Rattle.model.specs.Sheet.{sheetHeaders, sheetSteps, ownRefusal, readRefusal}
 use Rattle.words.specs.Lengths.{lengths-of, count-most}
 use Rattle.kinds.specs.Known.{Known}
-use Rattle.recipes.specs.Asks.{or-none, ask-none}
-use Rattle.recipes.specs.Judged.{Accepts, accepts, places-known}
-use Rattle.recipes.specs.Ahead.{length-announced}
+use Rattle.judging.specs.Asks.{or-none, ask-none}
+use Rattle.judging.specs.Judged.{Accepts, accepts, places-known}
+use Rattle.demands.specs.Ahead.{length-announced}
 use Rattle.sheet.specs.declared.run.Room.{Room}
-use Rattle.sheet.specs.Limits.{inputs-first, front-heads, back-heads, front-known, back-known}
+use Rattle.sheet_limits.specs.Limits.{inputs-first, front-heads, back-heads, front-known, back-known}
 
 -- a text that is read, with its input headers
 pub record Opening (t hs : List ℕ) : Type 0 where

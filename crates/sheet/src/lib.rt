@@ -1,15 +1,13 @@
 // Sheets (document 01's program `recipe`): the text of a recipe, read, judged and run, and the text of its answer.
-pub mod limits;
 pub mod print;
-pub mod read;
 mod run;
 
 use gates::stored_of;
 use model::Refusal;
 use print::put_done;
 use print::put_refusal;
-use read::input_count;
-use read::read;
+use sheet_reading::input_count;
+use sheet_reading::read;
 use run::floats;
 use run::places;
 use run::run_read;

@@ -1,12 +1,12 @@
 // Running a recipe that was read off a sheet.
 use crate::Solved;
-use crate::limits::judge_own;
-use crate::read::fill_floats;
-use crate::read::fill_words;
-use crate::read::step_count;
+use sheet_limits::judge_own;
+use sheet_reading::fill_floats;
+use sheet_reading::fill_words;
+use sheet_reading::step_count;
 use model::RunAnswer;
-use recipes::judge::largest_of;
-use recipes::judge::total_of;
+use judging::largest_of;
+use judging::total_of;
 use recipes::run;
 ghost use mathlib.Core.Path.{_≡_};
 ghost use mathlib.Core.List.{map};

@@ -23,7 +23,7 @@ use Rattle.readings.specs.Term.{padded-full}
 use Rattle.sums.specs.Negate.{same-header}
 use Rattle.change.specs.Room.{Shifted}
 use Rattle.change.specs.Shift.{shift-down-keeps}
-use Rattle.change.specs.Scale.{scaledPoly}
+use Rattle.row_factors.specs.Scale.{scaledPoly}
 
 abbrev pub changeFamily : ℕ → ℕ → ℕ → Family
 changeFamily kind v n = cond (eqb kind 1) Same (Shift v n)

@@ -26,8 +26,10 @@ use Rattle.model.specs.Substitute.{rowAt, powered, horner, substitutePoly}
 use Rattle.words.specs.Rules.{Good}
 use Rattle.words.specs.Lengths.{Lengths}
 use Rattle.product.specs.Room.{Stands}
-use Rattle.substitution.specs.Room.{wayOf, putFor, rowOf, Given, Puts, Cuts, turnOf, Turned, turns, Hornering}
-use Rattle.substitution.specs.Ways.{lacks, value-0, has-1, value-1, has-2, line-2, value-2, has-3, some-3, value-3}
+use Rattle.substitution_way.specs.Way.{wayOf, putFor}
+use Rattle.substitution.specs.Room.{rowOf, Given, Puts, Cuts, turns, Hornering}
+use Rattle.horner_turn.specs.Room.{turnOf, Turned}
+use Rattle.substitution_way.specs.Ways.{lacks, value-0, has-1, value-1, has-2, line-2, value-2, has-3, some-3, value-3}
 use Rattle.substitution.specs.Sizes.{row-cuts, line-cuts}
 use Rattle.substitution.specs.Horner.{Runs, valueIn, putIn, runs-end, runs-next}
 use Rattle.substitution.specs.Entry.{given-same, given-puts, poly-is, into-lens, into-full, into-small}

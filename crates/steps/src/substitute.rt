@@ -23,7 +23,8 @@ ghost use Rattle.blocks.specs.Rows.{Cutting};
 ghost use Rattle.blocks.specs.Two.{cutPlaces};
 ghost use Rattle.readings.specs.Rows.{Picking};
 ghost use Rattle.product.specs.Room.{Stands};
-ghost use Rattle.substitution.specs.Room.{wayOf, putFor, Given, Puts, turns, Hornering};
+ghost use Rattle.substitution_way.specs.Way.{wayOf, putFor};
+ghost use Rattle.substitution.specs.Room.{Given, Puts, turns, Hornering};
 ghost use Rattle.steps.specs.Lent.{source, lying, Lies, Lent};
 ghost use Rattle.steps.specs.Substitute.{plainOf, Plain, Wrote, Substituting};
 
@@ -43,7 +44,7 @@ fn way_from<'a>(
     let given = stored_of(y);
     let b = crate::operand::operand(yi, coefficients, pool, yf, given);
     let lb = y.lengths;
-    substitution::kernel::choose(vars, v, b, lb)
+    substitution_way::choose(vars, v, b, lb)
 }
 
 // The value of every way but Horner's rule, to the front of `out`.
@@ -145,7 +146,7 @@ fn rows_to(
     while 0 < left {
         left -= 1;
         row_from(x, xi, xf, c, v, left, coefficients, &pool[..at], row, work);
-        let next = substitution::kernel::turn(work, n, value, b, c, limits, &mut pool[at..end]);
+        let next = horner_turn::turn(work, n, value, b, c, limits, &mut pool[at..end]);
         value = next;
     }
     value
@@ -176,7 +177,7 @@ fn horner_to(
     let row = 2 * n;
     let end = at + n;
     row_from(x, xi, xf, c, v, last, coefficients, &pool[..at], row, work);
-    let r = substitution::kernel::first_turn(work, n, c, &mut pool[at..end]);
+    let r = horner_turn::first_turn(work, n, c, &mut pool[at..end]);
     if last == 0 {
         return r;
     }

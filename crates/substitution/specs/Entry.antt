@@ -30,7 +30,8 @@ use Rattle.exact.specs.Sits.{Sits}
 use Rattle.exact.specs.SubstituteKeeps.{lengths-fit, substitute-keeps}
 use Rattle.product.specs.Room.{Stands}
 use Rattle.product.specs.Ways.{count-less}
-use Rattle.substitution.specs.Room.{putFor, Given, Puts}
+use Rattle.substitution_way.specs.Way.{putFor}
+use Rattle.substitution.specs.Room.{Given, Puts}
 
 -- ---- the value
 

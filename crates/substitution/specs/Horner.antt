@@ -30,8 +30,9 @@ use Rattle.exact.specs.SubstituteKeeps.{row-sits, zero-first}
 use Rattle.product.specs.Room.{Stands}
 use Rattle.product.specs.Ways.{under-lengths, count-less, under-sits, sits-under}
 use Rattle.product.specs.Times.{cut-none}
-use Rattle.substitution.specs.Room.{rowOf, Puts, Turning, timesPut, turnOf, Turned, turns, Hornering}
-use Rattle.substitution.specs.Turn.{block-is, times-sits, turn-small, turn-row}
+use Rattle.substitution.specs.Room.{rowOf, Puts, turns, Hornering}
+use Rattle.horner_turn.specs.Room.{Turning, timesPut, turnOf, Turned}
+use Rattle.horner_turn.specs.Turn.{block-is, times-sits, turn-small, turn-row}
 use Rattle.substitution.specs.Sizes.{row-in-la, row-parts, row-under, put-under, put-small}
 
 -- ---- what is put, cut beforehand

@@ -20,7 +20,8 @@ use Rattle.exact.specs.Sits.{cut-at, cut-sits}
 use Rattle.exact.specs.SubstituteKeeps.{row-sits, substituted-most}
 use Rattle.product.specs.Room.{Under}
 use Rattle.product.specs.Ways.{under-lengths, inner-of, count-less, sits-under, ones-under}
-use Rattle.substitution.specs.Room.{rowOf, Puts, Cuts, Adding}
+use Rattle.substitution.specs.Room.{rowOf, Puts, Cuts}
+use Rattle.horner_turn.specs.Room.{Adding}
 
 cut-long : (l n : List ℕ) {v : ℕ} → v < 4 → v < length (cutTo l n)
 unfolding cutTo

@@ -1,5 +1,6 @@
 use Rattle.product.specs.Raise.{Along, along-first, along-next, row-fits, rows-more}
-use Rattle.change.specs.Drop.{droppedFlat, part-is}
+use Rattle.change.specs.Drop.{droppedFlat}
+use Rattle.change.specs.Drop.{part-is}
 use native.Mathlib.Omega.{arith}
 use mathlib.Core.Path.{_≡_, refl}
 use Prim.Native.Nat.{_+_, _-_, _≤_}

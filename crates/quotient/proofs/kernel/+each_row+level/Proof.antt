@@ -6,7 +6,7 @@ use lib.Seq.{length-take-le}
 use mathlib.Core.List.{_++_}
 use Rattle.general.specs.Bounds.{row-small}
 use Rattle.lists.specs.Four.{at}
-use Rattle.quotient.specs.Laid.{Laid}
+use Rattle.lessening.specs.Laid.{Laid}
 use Rattle.quotient.specs.Room.{Room}
 use Rattle.quotient.specs.Levels.{rowsLaid, level-row, level-top, level-in, level-gather, level-next, level-line, level-several, rows-none, rows-more, rows-all}
 use borrow.Fn.Kinds.{In}

@@ -7,7 +7,7 @@ use lib.Seq.{length-take-le}
 use Rattle.lists.specs.Four.{at}
 use Rattle.model.specs.Header.{count}
 use Rattle.general.specs.Bounds.{row-small}
-use Rattle.quotient.specs.Laid.{Laid}
+use Rattle.lessening.specs.Laid.{Laid}
 use Rattle.quotient.specs.Room.{Room}
 use Rattle.quotient.specs.Levels.{level-row, level-top, level-in, level-gather}
 use Rattle.quotient.specs.Firsts.{firstsLaid, first-next, firsts-none, firsts-more, firsts-all}

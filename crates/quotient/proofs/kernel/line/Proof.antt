@@ -3,7 +3,7 @@ use Prim.Native.Nat.{_+_, _-_, _≤_, _<_}
 use lib.ListN.{length}
 use Rattle.lists.specs.Four.{at}
 use Rattle.general.specs.Bounds.{row-small}
-use Rattle.quotient.specs.Laid.{Laid}
+use Rattle.lessening.specs.Laid.{Laid}
 use Rattle.quotient.specs.Line.{lineLaid, line-none, line-in, line-summing, line-more, line-all}
 use Rattle.quotient.proofs.kernel.line.Statement.{statement}
 use Rattle.quotient.proofs.kernel.line.Tie as tie

@@ -5,7 +5,7 @@ use mathlib.Core.List.{List}
 use lib.ListN.{length}
 use Rattle.model.specs.Header.{stored}
 use borrow.Author.Needs.{needs}
-use Rattle.recipes.specs.Counts.{word-ruled}
+use Rattle.judging.specs.Counts.{word-ruled}
 use Rattle.recipes.specs.Standing.{Begun, Starting, starting-none, starting-fits, starting-more}
 use Rattle.recipes.proofs.running.note_starts.Statement.{statement}
 use Rattle.recipes.proofs.running.note_starts.Tie as tie

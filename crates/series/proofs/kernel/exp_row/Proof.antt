@@ -8,7 +8,7 @@ use Rattle.lists.specs.Part.{length-part}
 use Rattle.general.specs.Bounds.{row-small}
 use Rattle.general.specs.Product.{stride-at}
 use Rattle.general.specs.Index.{inRow}
-use Rattle.series.specs.Gather.{gathered}
+use Rattle.gathering.specs.Gather.{gathered}
 use Rattle.series.specs.Stacked.{row-kept, row-fits, row-gathers}
 use borrow.Author.Needs.{needs}
 use Rattle.series.proofs.kernel.exp_row.Statement.{statement}
@@ -16,8 +16,8 @@ use Rattle.series.proofs.kernel.exp_row.Tie as tie
 use Rattle.series.proofs.kernel.exp_row.Reads as reads
 use Rattle.series.proofs.kernel.exp_row.Lts as lts
 use Rattle.blocks.proofs.copy.Reads as copy-reads
-use Rattle.series.proofs.kernel.divide_by.Reads as divide-by-reads
-use Rattle.series.proofs.kernel.gather.Reads as gather-reads
+use Rattle.scaling.proofs.divide_by.Reads as divide-by-reads
+use Rattle.gathering.proofs.gather.Reads as gather-reads
 
 fits : (c : tie.Start) → (c) .args .k * at ((c) .args .t7) ((c) .args .v) + at ((c) .args .t7) ((c) .args .v) ≤ (c) .args .n
 fits c = rw (stride-at ((c) .args .r) ((c) .pre .0 .strided .by-r) ((c) .pre .1 .some)) (row-fits ((c) .pre .1))

@@ -12,14 +12,14 @@ use Rattle.words.specs.Lengths.{lengths-pos}
 use Rattle.general.specs.Index.{inRow}
 use Rattle.general.specs.Bounds.{row-small}
 use Rattle.series.specs.Room.{RowRoom}
-use Rattle.series.specs.Gather.{weighed, nextRow}
+use Rattle.series.specs.NextRow.{weighed, nextRow}
 use Rattle.series.specs.Stacked.{Stacked, stacked-one, row-more, stacked-all, rows-end, rows-fit, operand-fits, some-width, few-rows, weigh-kept, first-under, width-in, row-room, row-fits}
 use Rattle.series.proofs.kernel.exp_rows.Statement.{statement}
 use Rattle.series.proofs.kernel.exp_rows.Tie as tie
 use Rattle.series.proofs.kernel.exp_rows.Reads as reads
 use Rattle.series.proofs.kernel.exp_rows.Lts as lts
 use Rattle.series.proofs.kernel.exp_row.Reads as exp-row-reads
-use Rattle.series.proofs.kernel.weigh.Reads as weigh-reads
+use Rattle.scaling.proofs.weigh.Reads as weigh-reads
 
 abbrev Inv-loop : tie.InvT-loop
 Inv-loop xs v n work₀ row₀ lx sx r sr t s m e k₀ work row k = (k ≤ m) × (Stacked (inRow r v) (nextRow lx r v xs) (take (inRow r v) work₀) n e (weighed lx v xs) (length work₀) k work × (length row ≡ length row₀))

@@ -14,7 +14,7 @@ use borrow.Fn.PlainCycle.{Measures, is, falls, and}
 use Rattle.series.proofs.log_kernel.log_block.Reads as log-block
 use Rattle.series.proofs.log_kernel.log_block.Kinds as log-block-kinds
 use Rattle.series.proofs.log_kernel.+log_block.Lts-log_block as log-block-lts
-use Rattle.series.proofs.log_kernel.log_line.Reads as log-line-reads
+use Rattle.log_line.proofs.log_line.Reads as log-line-reads
 use Rattle.series.proofs.log_kernel.log_rows.Reads as log-rows-reads
 use Rattle.series.proofs.log_kernel.+log_block.{statement}
 use Rattle.series.proofs.log_kernel.+log_block.Tie.{close}

@@ -14,7 +14,7 @@ use Rattle.series.proofs.log_kernel.add_operand.Tie as tie
 use Rattle.series.proofs.log_kernel.add_operand.Reads as reads
 use Rattle.series.proofs.log_kernel.add_operand.Lts as lts
 use Rattle.blocks.proofs.join_block.Reads as join-block-reads
-use Rattle.series.proofs.log_kernel.multiply.Reads as multiply-reads
+use Rattle.scaling.proofs.multiply.Reads as multiply-reads
 
 multiply-requires : tie.Need-multiply-requires
 multiply-requires c κs = search needs

@@ -8,7 +8,7 @@ use Rattle.lists.specs.Table.{length-table}
 use Rattle.lists.specs.Part.{length-part, below-same}
 use Rattle.general.specs.Index.{inRow}
 use Rattle.general.specs.Bounds.{row-small}
-use Rattle.series.specs.Gather.{gathered}
+use Rattle.gathering.specs.Gather.{gathered}
 use Rattle.series.specs.Stacked.{kept-put}
 use Rattle.series.specs.LogRow.{log-fits, log-gathers, log-reach, some-rows, operand-in, operand-less, operand-row, joins, left-short, left-long}
 use borrow.Author.Needs.{needs}
@@ -17,10 +17,10 @@ use Rattle.series.proofs.log_kernel.log_gather.Tie as tie
 use Rattle.series.proofs.log_kernel.log_gather.Reads as reads
 use Rattle.series.proofs.log_kernel.log_gather.Lts as lts
 use Rattle.blocks.proofs.turn.Reads as turn-reads
-use Rattle.series.proofs.kernel.gather_rows.Reads as gather-rows-reads
+use Rattle.gathering.proofs.gather_rows.Reads as gather-rows-reads
 use Rattle.series.proofs.log_kernel.add_operand.Reads as add-operand-reads
 use Rattle.series.proofs.log_kernel.after_of.Reads as after-of-reads
-use Rattle.series.proofs.log_kernel.first_turn.Reads as first-turn-reads
+use Rattle.log_line.proofs.first_turn.Reads as first-turn-reads
 
 made : (c : tie.After-turn) → length (c .turn .last .0) ≡ inRow ((c .before .before .before .before .before .before .before .before .before .before .before .before) .args .r) ((c .before .before .before .before .before .before .before .before .before .before .before .before) .args .v)
 unfolding gathered

@@ -16,11 +16,11 @@ use Rattle.series.proofs.log_kernel.log_row.Tie as tie
 use Rattle.series.proofs.log_kernel.log_row.Reads as reads
 use Rattle.series.proofs.log_kernel.log_row.Lts as lts
 use Rattle.blocks.proofs.copy.Reads as copy-reads
-use Rattle.series.proofs.kernel.divide_by.Reads as divide-by-reads
+use Rattle.scaling.proofs.divide_by.Reads as divide-by-reads
 use Rattle.series.proofs.log_kernel.after_of.Reads as after-of-reads
 use Rattle.series.proofs.log_kernel.log_divide.Reads as log-divide-reads
 use Rattle.series.proofs.log_kernel.log_gather.Reads as log-gather-reads
-use Rattle.series.proofs.log_kernel.scale.Reads as scale-reads
+use Rattle.scaling.proofs.scale.Reads as scale-reads
 
 rooms : (c : tie.After-slice-known2) → 8 * length ((c .before .before .before) .args .work .now) < 18446744073709551616
 rooms c = omega arith

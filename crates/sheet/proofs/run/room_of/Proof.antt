@@ -3,7 +3,7 @@ use native.Mathlib.Omega.{arith}
 use mathlib.Core.Path.{sym}
 use lib.ListN.{length-take, length-drop}
 use lib.Seq.{length-take-le}
-use Rattle.sheet.specs.Limits.{front-known, back-known}
+use Rattle.sheet_limits.specs.Limits.{front-known, back-known}
 use borrow.Author.Needs.{needs}
 use Rattle.sheet.proofs.run.room_of.Statement.{statement}
 use Rattle.sheet.proofs.run.room_of.Tie as tie

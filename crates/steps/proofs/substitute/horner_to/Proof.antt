@@ -25,7 +25,7 @@ use Rattle.shape.proofs.limits.cut_to.Reads as cut-to-reads
 use Rattle.steps.proofs.substitute.put_from.Reads as put-from-reads
 use Rattle.steps.proofs.substitute.row_from.Reads as row-from-reads
 use Rattle.steps.proofs.substitute.rows_to.Reads as rows-to-reads
-use Rattle.substitution.proofs.kernel.first_turn.Reads as first-turn-reads
+use Rattle.horner_turn.proofs.first_turn.Reads as first-turn-reads
 use Rattle.substitution.proofs.kernel.highest.Reads as highest-reads
 use Rattle.substitution.proofs.kernel.row_lengths.Reads as row-lengths-reads
 

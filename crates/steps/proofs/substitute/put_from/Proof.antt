@@ -7,7 +7,7 @@ use Rattle.steps.specs.Lent.{source, length-operand}
 use lib.Seq.{length-take-le}
 use Rattle.lists.specs.Table.{length-table}
 use Rattle.model.specs.Header.{count}
-use Rattle.substitution.specs.Turn.{front-kept}
+use Rattle.horner_turn.specs.Turn.{front-kept}
 use borrow.Author.Needs.{needs}
 use Rattle.steps.proofs.substitute.put_from.Statement.{statement}
 use Rattle.steps.proofs.substitute.put_from.Tie as tie

@@ -15,7 +15,7 @@ use Rattle.steps.proofs.substitute.rows_to.Tie as tie
 use Rattle.steps.proofs.substitute.rows_to.Reads as reads
 use Rattle.steps.proofs.substitute.rows_to.Lts as lts
 use Rattle.steps.proofs.substitute.row_from.Reads as row-from-reads
-use Rattle.substitution.proofs.kernel.turn.Reads as turn-reads
+use Rattle.horner_turn.proofs.turn.Reads as turn-reads
 
 abbrev Inv-loop : tie.InvT-loop
 Inv-loop x xi xf v k b c limits n coefficients pool₀ at work₀ row end left₀ value₀ pool work left value = RunsTo (x .lengths) v (lying xi coefficients (take at pool₀) xf x .coeffs) left value b c limits n (stored x) (turns limits v (block (x .lengths) (lying xi coefficients (take at pool₀) xf x .coeffs)) k (putIn b work₀) (valueIn n value₀ work₀)) at pool₀ pool work

@@ -7,7 +7,7 @@ use Rattle.model.specs.Header.{stored}
 use Rattle.steps.specs.Lent.{source, length-operand}
 use Rattle.model.specs.Poly.{block}
 use Rattle.words.specs.Lengths.{lengths-of}
-use Rattle.substitution.specs.Room.{wayOf}
+use Rattle.substitution_way.specs.Way.{wayOf}
 use borrow.Author.Needs.{needs}
 use Rattle.steps.proofs.substitute.way_from.Statement.{statement}
 use Rattle.steps.proofs.substitute.way_from.Tie as tie
@@ -15,7 +15,7 @@ use Rattle.steps.proofs.substitute.way_from.Reads as reads
 use Rattle.steps.proofs.substitute.way_from.Lts as lts
 use Rattle.gates.proofs.stored_of.Reads as stored-of-reads
 use Rattle.steps.proofs.operand.operand.Reads as operand-reads
-use Rattle.substitution.proofs.kernel.choose.Reads as choose-reads
+use Rattle.substitution_way.proofs.choose.Reads as choose-reads
 
 part-is : (c : tie.After-operand) → c .operand .result .now ≡ take (stored (c .before .before .before .before .args .y)) (drop (c .before .before .before .before .args .yf) (source (c .before .before .before .before .args .yi) (c .before .before .before .before .args .coefficients .now) (c .before .before .before .before .args .pool .now)))
 part-is c = c .operand .ensures ∙ ap (λ (k : ℕ). take k (drop (c .before .before .before .before .args .yf) (source (c .before .before .before .before .args .yi) (c .before .before .before .before .args .coefficients .now) (c .before .before .before .before .args .pool .now)))) (c .before .stored-of .ensures)

@@ -2,7 +2,7 @@ use mathlib.Core.Path.{_∙_}
 use native.Mathlib.Omega.{arith}
 use Rattle.model.specs.Poly.{block}
 use Rattle.product.specs.Ways.{put-stands}
-use Rattle.substitution.specs.Ways.{lacks, value-0, has-1, value-1, has-2, line-2, value-2, has-3, some-3, value-3}
+use Rattle.substitution_way.specs.Ways.{lacks, value-0, has-1, value-1, has-2, line-2, value-2, has-3, some-3, value-3}
 use Rattle.substitution.specs.Sizes.{row-cuts, line-cuts}
 use Rattle.substitution.specs.Entry.{stands-same, copied-stands, given-lens, given-same, given-puts}
 use borrow.Author.Needs.{needs}

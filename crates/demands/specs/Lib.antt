@@ -1,0 +1,15 @@
+pub mod Formed
+pub mod StepReasons
+pub mod Outcome
+pub mod Exact
+pub mod EachKind
+pub mod Follows
+pub mod Passed
+pub mod Ahead
+pub mod Laid
+pub mod Demand
+pub mod Computes
+pub mod Values
+pub mod Buffers
+pub mod Never
+pub mod Demanded

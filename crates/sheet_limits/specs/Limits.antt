@@ -1,0 +1,98 @@
+-- The check, then the program's own limits, from the words that the places announce.
+use Prim.Native.Nat.{ℕ, zero, suc, _+_, _-_, _≤_}
+use mathlib.Core.Bool.{Bool, true, false, _&&_}
+use mathlib.Core.List.{List, [], _∷_, map}
+use mathlib.Core.Path.{_≡_, refl, sym, ap, _∙_}
+use native.Mathlib.Omega.{arith}
+use lib.Dec.{leb}
+use lib.ListN.{length, take, drop, length-map, length-drop}
+use lib.Seq.{take-all}
+use Rattle.lists.specs.All.{all-take, all-drop}
+use Rattle.lists.specs.Chain.{chain-keeps}
+use Rattle.model.specs.declared.Header.{Header}
+use Rattle.model.specs.declared.Refusal.{Refusal}
+use Rattle.model.specs.Header.{noHeader}
+use Rattle.model.specs.Word.{headerOf}
+use Rattle.model.specs.Refusals.{refusedBy, noRefusal}
+use Rattle.model.specs.Recipe.{announcedStep, inputHeads, announcedPlaces, announcedSteps, total, largest}
+use Rattle.model.specs.Check.{orElse, checkRefusal}
+use Rattle.model.specs.Sheet.{ownRefusal}
+use Rattle.words.specs.Rules.{Regular, none-regular}
+use Rattle.kinds.specs.Known.{Known}
+use Rattle.judging.specs.Asks.{or-first, or-next}
+use Rattle.judging.specs.Answered.{drop-map}
+use Rattle.judging.specs.Judging.{heads}
+use Rattle.judging.specs.Judged.{Judged, accepts, places-known}
+
+-- places, of which the first k are inputs
+abbrev pub withinLimits : ℕ → List Header → Bool
+withinLimits k hs = (leb (largest hs) 256 && leb (total (take k hs)) 2048) && leb (total (drop k hs)) 2048
+
+take-map : {A B : Type 0} (f : A → B) (n : ℕ) (l : List A) → map f (take n l) ≡ take n (map f l)
+take-map f zero l = refl
+take-map f (suc n) [] = refl
+take-map f (suc n) (x ∷ l) = ap (λ z. f x ∷ z) (take-map f n l)
+
+-- what `&places[..k]` and `&places[k..]` announce
+module _ (ws : List ℕ) (k : ℕ) where
+  pub front-heads : map headerOf (take k ws) ≡ take k (map headerOf ws)
+  front-heads = take-map headerOf k ws
+
+  pub back-heads : map headerOf (take (length ws - k) (drop k ws)) ≡ drop k (map headerOf ws)
+  back-heads = ap (map headerOf) (take-all (length ws - k) (drop k ws) (rest-len)) ∙ sym (drop-map headerOf k ws)
+    where
+      rest-len : length (drop k ws) ≤ length ws - k
+      rest-len = omega (arith, length-drop k ws)
+
+  module _ (g : Known (map headerOf ws)) where
+    pub front-known : Known (map headerOf (take k ws))
+    front-known = rw front-heads (all-take Regular noHeader none-regular k g)
+
+    pub back-known : Known (map headerOf (take (length ws - k) (drop k ws)))
+    back-known = rw back-heads (all-drop Regular noHeader none-regular k g)
+
+-- the inputs come first
+pub inputs-first : (hs ss : List ℕ) → take (length hs) (announcedPlaces hs ss) ≡ inputHeads hs
+unfolding announcedPlaces
+inputs-first hs ss =
+    let e : length hs ≡ length (inputHeads hs) = sym (length-map hs headerOf) in
+    chain-keeps announcedStep (inputHeads hs) ss (length hs) (omega arith) ∙ take-all (length hs) (inputHeads hs) (omega arith)
+
+pub within-is : (ws : List ℕ) (k : ℕ) {a b c : ℕ} → a ≡ largest (map headerOf ws) → b ≡ total (map headerOf (take k ws))
+    → c ≡ total (map headerOf (take (length ws - k) (drop k ws))) → ((leb a 256 && leb b 2048) && leb c 2048) ≡ withinLimits k (map headerOf ws)
+within-is ws k ea eb ec = rw (ea, eb ∙ ap total (front-heads ws k), ec ∙ ap total (back-heads ws k))
+
+-- old, new: the buffer of announced words before and after
+pub record OwnJudged (hs ss old new : List ℕ) (r : Refusal) : Type 0 where
+  pub answer : r ≡ orElse (checkRefusal hs ss) (ownRefusal hs ss)
+  pub len : length new ≡ length old
+  pub noted : r .number ≡ 0 → heads (length hs + length ss) new ≡ announcedPlaces hs ss
+
+module _ (hs ss old new : List ℕ) {r : Refusal} (j : Judged hs ss old new r) where
+  pub own-checked : (r .number ≡ 0 → ⊥) → OwnJudged hs ss old new r
+  own-checked z =
+      record { answer = sym (ap (λ (x : Refusal). orElse x (ownRefusal hs ss)) (sym (j .answer)) ∙ or-first _ z); len = j .len; noted = λ y. absurd (z y) }
+
+  module _ (z : r .number ≡ 0) where
+    none : checkRefusal hs ss .number ≡ 0
+    none = ap (λ (x : Refusal). x .number) (sym (j .answer)) ∙ z
+
+    pub own-fit : length hs + length ss ≤ 64
+    own-fit = accepts hs ss none .sizes .fit
+
+    pub own-known : Known (heads (length hs + length ss) new)
+    own-known = rw (j .noted z) (places-known hs ss (accepts hs ss none .inputs))
+
+    test : {b : Bool} → b ≡ withinLimits (length hs) (heads (length hs + length ss) new)
+        → b ≡ ((leb (largest (announcedPlaces hs ss)) 256 && leb (total (inputHeads hs)) 2048) && leb (total (announcedSteps hs ss)) 2048)
+    unfolding announcedSteps
+    test e = e ∙ rw (j .noted z, inputs-first hs ss)
+
+    pub own-5 : {b : Bool} → b ≡ withinLimits (length hs) (heads (length hs + length ss) new) → b ≡ false → OwnJudged hs ss old new (refusedBy 5)
+    unfolding ownRefusal
+    own-5 e f =
+        record { answer = sym (or-next _ _ none ∙ rw (sym (test e) ∙ f)); len = j .len; noted = λ y. absurd (omega (arith, y)) }
+
+    pub own-none : {b : Bool} → b ≡ withinLimits (length hs) (heads (length hs + length ss) new) → b ≡ true → OwnJudged hs ss old new noRefusal
+    unfolding ownRefusal
+    own-none e f = record { answer = sym (or-next _ _ none ∙ rw (sym (test e) ∙ f)); len = j .len; noted = λ _. j .noted z }

@@ -1,0 +1,67 @@
+use borrow.Author.Needs.{needs}
+use Prim.Native.Nat.{_-_, _+_, _≤_}
+use mathlib.Core.Path.{_≡_, refl}
+use native.Mathlib.Omega.{arith}
+use lib.ListN.{length}
+use Rattle.lists.specs.Table.{Filled, filled-none, filled-more}
+use Rattle.blocks.specs.Fill.{filled-all}
+use Rattle.model.specs.Sheet.{wordOn}
+use Rattle.sheet_reading.proofs.fill_words.Statement.{statement}
+use Rattle.sheet_reading.proofs.fill_words.Tie as tie
+
+abbrev Inv-loop : tie.InvT-loop
+Inv-loop text from to₀ n k₀ to k = (k ≤ n) × ((n ≡ length to₀) × Filled k (λ j. wordOn text (from + j)) to₀ to)
+
+abbrev μ-loop : tie.MeasureT-loop
+μ-loop text from to₀ n k₀ to k = n - k
+
+loop-holds : tie.Need-loop-holds Inv-loop μ-loop
+loop-holds c = (omega arith, (refl, filled-none))
+
+add-word-at : tie.Need-add-word-at Inv-loop μ-loop
+add-word-at c = omega arith
+
+mul-word-at : tie.Need-mul-word-at Inv-loop μ-loop
+mul-word-at c = omega arith
+
+word-at-requires : tie.Need-word-at-requires Inv-loop μ-loop
+word-at-requires c κs = omega arith
+
+mul-to : tie.Need-mul-to Inv-loop μ-loop
+mul-to c = omega arith
+
+slice-write-to : tie.Need-slice-write-to Inv-loop μ-loop
+slice-write-to c = omega arith
+
+add-k : tie.Need-add-k Inv-loop μ-loop
+add-k c = search needs
+
+loop-less : tie.Need-loop-less Inv-loop μ-loop
+loop-less c = search needs
+
+loop-again : tie.Need-loop-again Inv-loop μ-loop
+loop-again c = (omega arith, (c .before .before .loop .inv .1 .0, filled-more (c .before .before .loop .inv .1 .1) (c .word-at .ensures) (omega arith)))
+
+same-length : tie.Need-same-length Inv-loop μ-loop
+same-length c = c .before .loop .inv .1 .1 .len
+
+returns : tie.Need-returns Inv-loop μ-loop
+returns c = filled-all (c .before .loop .inv .1 .1) (omega arith) (omega arith)
+
+pub fill-words-spec : {M : Type 1} → statement M
+fill-words-spec =
+    tie.close
+    (tie.spec
+    Inv-loop
+    μ-loop
+    loop-holds
+    add-word-at
+    mul-word-at
+    word-at-requires
+    mul-to
+    slice-write-to
+    add-k
+    loop-less
+    loop-again
+    same-length
+    returns)

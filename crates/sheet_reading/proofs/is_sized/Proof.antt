@@ -1,0 +1,28 @@
+use native.Mathlib.Omega.{arith}
+use Rattle.model.specs.Check.{rightSizes}
+use Rattle.model.specs.Sheet.{spare}
+use Rattle.sheet_reading.specs.Reading.{count-small, step-small}
+use borrow.Author.Needs.{needs}
+use Rattle.sheet_reading.proofs.is_sized.Statement.{statement}
+use Rattle.sheet_reading.proofs.is_sized.Tie as tie
+
+input-count-requires : tie.Need-input-count-requires
+input-count-requires c κs = search needs
+
+step-count-requires : tie.Need-step-count-requires
+step-count-requires c κs = search needs
+
+add-result : tie.Need-add-result
+add-result c = omega (arith, c .before .input-count .ensures, c .step-count .ensures, count-small (c .before .before .before .args .text .now), step-small (c .before .before .before .args .text .now))
+
+word-at-requires : tie.Need-word-at-requires
+word-at-requires c κs = search needs
+
+returns : tie.Need-returns
+unfolding rightSizes spare
+returns c = rw (c .before .before .input-count .ensures, c .before .step-count .ensures, c .word-at .ensures)
+
+pub is-sized-spec : {M : Type 1} → statement M
+is-sized-spec =
+    tie.close
+    (tie.spec input-count-requires step-count-requires add-result word-at-requires returns)
