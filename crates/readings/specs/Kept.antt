@@ -22,8 +22,8 @@ use Rattle.shape.specs.Under.{under-same}
 use Rattle.shape.specs.Keeps.{Keeps}
 use Rattle.model.specs.Constructed.{constant, variable}
 use lib.Seq.{length-take-le}
-use Rattle.readings.specs.Short.{zero-count, var-count}
-use Rattle.readings.specs.Term.{termHeader, term-regular, order-regular, term-past, term-row}
+use Rattle.short_blocks.specs.Short.{zero-count, var-count}
+use Rattle.row_terms.specs.Term.{termHeader, term-regular, order-regular, term-past, term-row}
 
 -- a header with all lengths 1
 ones-var : {v k l n : ℕ} → GoodVar v k l n → GoodVar v k l 1

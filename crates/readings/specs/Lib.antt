@@ -1,6 +1,3 @@
 pub mod Line
-pub mod Rows
-pub mod Short
 pub mod Read
-pub mod Term
 pub mod Kept

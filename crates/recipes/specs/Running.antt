@@ -30,7 +30,7 @@ use Rattle.words.specs.Lengths.{lengths-of, count-pos}
 use Rattle.shape.specs.Keeps.{Keeps}
 use Rattle.shape.specs.Under.{count-under}
 use Rattle.kinds.specs.Known.{head-at, small-variable, step-regular}
-use Rattle.steps.specs.Lent.{Lent}
+use Rattle.operands.specs.Lent.{Lent}
 use Rattle.steps.specs.Ready.{valueOf, Known, Ready, Placed}
 use Rattle.judging.specs.Judging.{heads}
 use Rattle.judging.specs.Judged.{accepts}

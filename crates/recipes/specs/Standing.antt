@@ -25,7 +25,7 @@ use Rattle.model.specs.Run.{inputValues, operations, noValue, valueAt}
 use Rattle.words.specs.Lengths.{lengths-of, count-most}
 use Rattle.kinds.specs.Known.{Known, head-at}
 use Rattle.judging.specs.Counts.{word-ruled}
-use Rattle.steps.specs.Lent.{source, lying, Lies}
+use Rattle.operands.specs.Lent.{source, lying, Lies}
 use Rattle.steps.specs.Ready.{valueOf, Placed, Ready}
 
 -- the value of the place q, by its word and its start; k inputs

@@ -1,10 +1,10 @@
 // Whether a recipe is run, and the run of one that is admitted.
+use crate::running::note_starts;
+use crate::running::run_steps;
 use judging::judge;
 use judging::largest_of;
 use judging::note_inputs;
 use judging::total_of;
-use crate::running::note_starts;
-use crate::running::run_steps;
 use model::Refusal;
 ghost use mathlib.Core.Path.{_≡_};
 ghost use mathlib.Core.List.{map, _++_};

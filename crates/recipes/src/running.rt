@@ -18,7 +18,7 @@ ghost use Rattle.model.specs.Refusals.{padded};
 ghost use Rattle.model.specs.Recipe.{inputHeads, announcedSteps, total};
 ghost use Rattle.model.specs.Run.{stepValues, laid};
 ghost use Rattle.kinds.specs.Known.{Known};
-ghost use Rattle.steps.specs.Lent.{Lent};
+ghost use Rattle.operands.specs.Lent.{Lent};
 ghost use Rattle.steps.specs.Ready.{valueOf};
 ghost use Rattle.recipes.specs.Standing.{lyingAt, StepIn, Begun};
 ghost use Rattle.recipes.specs.Running.{Admitted, Running};

@@ -1,13 +1,13 @@
 // Running a recipe that was read off a sheet.
 use crate::Solved;
+use judging::largest_of;
+use judging::total_of;
+use model::RunAnswer;
+use recipes::run;
 use sheet_limits::judge_own;
 use sheet_reading::fill_floats;
 use sheet_reading::fill_words;
 use sheet_reading::step_count;
-use model::RunAnswer;
-use judging::largest_of;
-use judging::total_of;
-use recipes::run;
 ghost use mathlib.Core.Path.{_≡_};
 ghost use mathlib.Core.List.{map};
 ghost use Prim.Native.Nat.{_≤_, _<_};

@@ -1,8 +1,8 @@
 // The check of a sheet's recipe, and after it the program's own limits.
-use model::Refusal;
 use judging::judge;
 use judging::largest_of;
 use judging::total_of;
+use model::Refusal;
 ghost use mathlib.Core.Path.{_≡_};
 ghost use mathlib.Core.List.{map};
 ghost use Prim.Native.Nat.{_≤_};

@@ -1,6 +1,6 @@
 // Reading a sheet in order, as far as its words are well formed.
-use model::Refusal;
 use judging::total_of;
+use model::Refusal;
 use text::line::is_line;
 use text::line::word_at;
 use words::word::is_good;

@@ -35,11 +35,11 @@ use Rattle.exact.specs.QuotientKeeps.{quotient-keeps}
 use Rattle.exact.specs.PowerKeeps.{power-keeps}
 use Rattle.exact.specs.ShiftKeeps.{derivative-keeps, expansion-keeps, shift-down-keeps}
 use Rattle.exact.specs.SubstituteKeeps.{substitute-keeps}
-use Rattle.steps.specs.Lent.{Lies, Lent, kept-as, kept-then, padded-on}
-use Rattle.steps.specs.Change.{changeFamily, changedPoly, Changing}
-use Rattle.steps.specs.Pair.{pairFamily, pairPoly, Pairing, pair-sum, pair-product, pair-quotient}
-use Rattle.steps.specs.Power.{Powering}
-use Rattle.steps.specs.Substitute.{Substituting}
+use Rattle.operands.specs.Lent.{Lies, Lent, kept-as, kept-then, padded-on}
+use Rattle.step_singles.specs.Change.{changeFamily, changedPoly, Changing}
+use Rattle.step_pairs.specs.Pair.{pairFamily, pairPoly, Pairing, pair-sum, pair-product, pair-quotient}
+use Rattle.step_singles.specs.Power.{Powering}
+use Rattle.step_substitutions.specs.Substitute.{Substituting}
 
 -- the kind's operation
 unfoldable pub valueOf : Step → Poly → Poly → Poly

@@ -14,7 +14,7 @@ ghost use Rattle.lists.specs.Part.{Kept};
 ghost use Rattle.model.specs.Word.{headerOf, wordOf};
 ghost use Rattle.model.specs.Constructed.{wholeF};
 ghost use Rattle.model.specs.Refusals.{padded};
-ghost use Rattle.steps.specs.Lent.{lying, Lent};
+ghost use Rattle.operands.specs.Lent.{lying, Lent};
 ghost use Rattle.steps.specs.Ready.{valueOf, Placed, Ready, Making};
 
 // A constant to the pool at the place `at`, then +0.0 up to `room` places.
@@ -23,7 +23,7 @@ pub fn constant_to(n: u32, pool: &mut [f64], at: usize, room: usize)
     ensures { λ _. ⌜ Kept at (at + room) (padded room (wholeF n ∷ [])) (now (pool .entry)) (now (pool .exit)) ⌝ }
 {
     pool[at] = n as f64;
-    crate::operand::pad(pool, at + 1, at + room);
+    operands::pad(pool, at + 1, at + room);
 }
 
 // The value of a step of any other kind to the pool, n places from `at` on: x and y are the true headers of its operands, h what they announce, n its count.
@@ -48,10 +48,10 @@ fn value_to(
 {
     let kind = s.kind;
     if kind == 6 {
-        return crate::single::power_to(s.n, x, xi, xf, h, n, coefficients, pool, at, scratch);
+        return step_singles::power_to(s.n, x, xi, xf, h, n, coefficients, pool, at, scratch);
     }
     if (kind != 1) & (kind <= 5) {
-        return crate::pair::pair_to(
+        return step_pairs::pair_to(
             kind,
             x,
             xi,
@@ -68,7 +68,7 @@ fn value_to(
         );
     }
     if kind == 10 {
-        return crate::substitute::substitute_to(
+        return step_substitutions::substitute_to(
             s.variable,
             x,
             xi,
@@ -84,7 +84,7 @@ fn value_to(
             scratch,
         );
     }
-    crate::single::change_to(
+    step_singles::change_to(
         kind,
         s.variable,
         s.n as usize,
@@ -138,6 +138,6 @@ pub fn perform(
         at,
         scratch,
     );
-    crate::operand::pad(pool, at + n, at + room);
+    operands::pad(pool, at + n, at + room);
     pack(r)
 }

@@ -21,7 +21,7 @@ use Rattle.model.specs.Product.{isZero, constantBlock, multiplied}
 use Rattle.model.specs.Substitute.{rowAt, horner}
 use Rattle.words.specs.Lengths.{lengths-pos}
 use Rattle.blocks.specs.Two.{cutPlaces, cut-is}
-use Rattle.readings.specs.Rows.{Picking}
+use Rattle.row_terms.specs.Rows.{Picking}
 use Rattle.exact.specs.Sits.{Sits, cut-at, sum-at, max-at, sits-more}
 use Rattle.exact.specs.Keeps.{joined-sits, joined-under}
 use Rattle.exact.specs.ProductKeeps.{constant-sits, shape-under}

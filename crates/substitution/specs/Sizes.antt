@@ -15,7 +15,7 @@ use Rattle.model.specs.Poly.{Block, block, readAt, cut}
 use Rattle.model.specs.Substitute.{rowAt, powered, substituted}
 use Rattle.words.specs.Lengths.{Lengths, lengths-pos}
 use Rattle.blocks.specs.Rows.{Cutting}
-use Rattle.readings.specs.Rows.{Picking}
+use Rattle.row_terms.specs.Rows.{Picking}
 use Rattle.exact.specs.Sits.{cut-at, cut-sits}
 use Rattle.exact.specs.SubstituteKeeps.{row-sits, substituted-most}
 use Rattle.product.specs.Room.{Under}

@@ -1,7 +1,7 @@
 // What is put for a variable of a polynomial. Scratch is used in blocks of n places, n the announced count: first what is put, cut to the
 // limits, then the running value of Horner's rule, then one row of the polynomial, then what the product needs.
 use model::Header;
-use readings::kernel::pick;
+use row_terms::pick;
 use words::places::count_of;
 ghost use mathlib.Core.Path.{_≡_};
 ghost use mathlib.Core.Bool.{false};
@@ -17,7 +17,7 @@ ghost use Rattle.model.specs.Refusals.{zeroF, padded};
 ghost use Rattle.model.specs.Poly.{block, readAt};
 ghost use Rattle.model.specs.Product.{isZero, constantBlock};
 ghost use Rattle.model.specs.Substitute.{rowAt, powered, horner};
-ghost use Rattle.readings.specs.Rows.{Picking};
+ghost use Rattle.row_terms.specs.Rows.{Picking};
 ghost use Rattle.product.specs.Room.{Put, Stands};
 ghost use Rattle.substitution_way.specs.Way.{putFor};
 ghost use Rattle.substitution.specs.Room.{rowOf, Given, Puts, Cuts, turns, Hornering};

@@ -3,49 +3,7 @@ use model::Answer;
 use model::Family;
 use words::word::pack;
 ghost use mathlib.Core.Path.{_≡_};
-ghost use Prim.Native.Nat.{_≤_};
-ghost use lib.ListN.{length};
-ghost use Rattle.lists.specs.Table.{front};
-ghost use Rattle.model.specs.Negate.{negatedAt};
-ghost use Rattle.model.specs.Poly.{block, cut};
-ghost use Rattle.model.specs.Add.{joinedBlock, sumAnswer, sumOut, sumScratch};
-ghost use Rattle.sums.specs.Summing.{Summing};
-
-// The first n places of `out` become those of `a`, negated.
-pub fn negate_into(a: &[f64], n: usize, out: &mut [f64])
-    requires { ⌜ (n ≤ length (now a)) × (n ≤ length (now out)) ⌝ }
-    ensures { λ _. ⌜ now (out .exit) ≡ front n (negatedAt (now (a .entry))) (now (out .entry)) ⌝ }
-{
-    let mut i = 0;
-    while i < n {
-        out[i] = -a[i];
-        i += 1;
-    }
-}
-
-// The sum or the difference of two polynomials with the lengths la and lb, cut to the limits; r are the lengths of the result, n its count.
-fn sum_into(
-    minus: bool,
-    a: &[f64],
-    la: [usize; 4],
-    b: &[f64],
-    lb: [usize; 4],
-    limits: [usize; 4],
-    r: [usize; 4],
-    n: usize,
-    out: &mut [f64],
-    work: &mut [f64],
-)
-    requires { ⌜ Summing la lb limits r n (length (now a)) (length (now b)) (length (now out)) (length (now work)) ⌝ }
-    ensures { λ _. ⌜ now (out .exit) ≡ joinedBlock minus (cut limits (block la (now (a .entry)))) (cut limits (block lb (now (b .entry)))) .places ⌝ }
-{
-    let ca = shape::limits::cut_to(limits, la);
-    let cb = shape::limits::cut_to(limits, lb);
-    blocks::load_two(a, la, ca, b, lb, cb, n, work);
-    let na = words::places::count_of(ca);
-    let end = n + words::places::count_of(cb);
-    blocks::combine(minus, &work[0..na], ca, &work[n..end], cb, r, out);
-}
+ghost use Rattle.model.specs.Add.{sumAnswer, sumOut, sumScratch};
 
 // Add and subtract.
 pub fn sum(
@@ -85,7 +43,7 @@ pub fn sum(
     let nb = o.nb;
     let n = o.n;
     let room = 8 * n;
-    sum_into(
+    cut_sums::sum_into(
         minus,
         &a[..na],
         la,

@@ -18,7 +18,7 @@ pub fn negate(head: u64, a: &[f64], out: &mut [f64]) -> Answer
         return Answer::Refused(refusal);
     }
     let n = gates::stored_of(words::word::header_of(head));
-    kernel::negate_into(a, n, out);
+    negation::negate_into(a, n, out);
     Answer::Done(head)
 }
 

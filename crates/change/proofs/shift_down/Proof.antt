@@ -11,7 +11,7 @@ use Rattle.model.specs.Poly.{held}
 use Rattle.model.specs.Shifts.{shiftDownPoly, shiftDownAnswer, shiftDownOut}
 use Rattle.words.specs.Rules.{none-regular}
 use Rattle.gates.specs.Gate.{InReady, in-ready, entry-refused, entry-done}
-use Rattle.readings.specs.Term.{part-written, padded-full}
+use Rattle.row_terms.specs.Term.{part-written, padded-full}
 use Rattle.change.specs.Shift.{shift-down-keeps}
 use borrow.Author.Needs.{needs}
 use Rattle.change.proofs.shift_down.Statement.{statement}

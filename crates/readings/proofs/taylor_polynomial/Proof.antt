@@ -1,4 +1,4 @@
-use Rattle.readings.specs.Term.{part-written, padded-full, order-cutting}
+use Rattle.row_terms.specs.Term.{part-written, padded-full, order-cutting}
 use Rattle.lists.specs.Table.{length-table}
 use mathlib.Core.Path.{_≡_, sym, ap, _∙_}
 use lib.ListN.{length}

@@ -10,7 +10,7 @@ use Rattle.model.specs.Gates.{announcedOne}
 use Rattle.model.specs.Poly.{held}
 use Rattle.words.specs.Rules.{none-regular}
 use Rattle.gates.specs.Gate.{InReady, in-ready, entry-refused, entry-done}
-use Rattle.readings.specs.Term.{part-written}
+use Rattle.row_terms.specs.Term.{part-written}
 use Rattle.row_factors.specs.Scale.{scaledPoly}
 use Rattle.change.specs.Taken.{scaled-keeps}
 use borrow.Author.Needs.{needs}

@@ -12,7 +12,7 @@ use Rattle.model.specs.Refusals.{zeros, padded}
 use Rattle.model.specs.Poly.{Poly, poly}
 use Rattle.words.specs.Rules.{ruled-at}
 use Rattle.words.specs.Lengths.{lengths-of, count-pos}
-use Rattle.readings.specs.Term.{padded-zero, padded-full}
+use Rattle.row_terms.specs.Term.{padded-zero, padded-full}
 use borrow.Author.Needs.{needs}
 use Rattle.change.proofs.kernel.take_rows.Statement.{statement}
 use Rattle.change.proofs.kernel.take_rows.Tie as tie

@@ -6,7 +6,7 @@ use Rattle.model.specs.Word.{wordOf}
 use Rattle.model.specs.Refusals.{padded}
 use Rattle.model.specs.Poly.{Poly}
 use Rattle.words.specs.Rules.{none-regular}
-use Rattle.steps.specs.Lent.{kept-as}
+use Rattle.operands.specs.Lent.{kept-as}
 use Rattle.recipes.specs.Standing.{lyingAt, Named, constant-value}
 use borrow.Author.Needs.{needs}
 use Rattle.recipes.proofs.running.step_word.Statement.{statement}

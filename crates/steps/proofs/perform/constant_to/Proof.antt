@@ -14,7 +14,7 @@ use Rattle.steps.proofs.perform.constant_to.Statement.{statement}
 use Rattle.steps.proofs.perform.constant_to.Tie as tie
 use Rattle.steps.proofs.perform.constant_to.Reads as reads
 use Rattle.steps.proofs.perform.constant_to.Lts as lts
-use Rattle.steps.proofs.operand.pad.Reads as pad-reads
+use Rattle.operands.proofs.pad.Reads as pad-reads
 
 int-to-float-pool : tie.Need-int-to-float-pool
 int-to-float-pool c = search needs

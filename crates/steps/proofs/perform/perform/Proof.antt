@@ -11,7 +11,7 @@ use Rattle.model.specs.Refusals.{padded}
 use Rattle.model.specs.Word.{headerOf, wordOf}
 use Rattle.model.specs.Announced.{announced}
 use Rattle.model.specs.Recipe.{familyOf}
-use Rattle.steps.specs.Lent.{lying, source, lies-source, length-operand}
+use Rattle.operands.specs.Lent.{lying, source, lies-source, length-operand}
 use Rattle.steps.specs.Ready.{valueOf, making, announced-fits, lent-fewer, announced-ruled, value-ruled, value-padded}
 use borrow.Author.Needs.{needs}
 use Rattle.steps.proofs.perform.perform.Statement.{statement}
@@ -21,7 +21,7 @@ use Rattle.steps.proofs.perform.perform.Lts as lts
 use Rattle.gates.proofs.stored_of.Reads as stored-of-reads
 use Rattle.kinds.proofs.step.family_of.Reads as family-of-reads
 use Rattle.shape.proofs.announce.announced_of.Reads as announced-of-reads
-use Rattle.steps.proofs.operand.pad.Reads as pad-reads
+use Rattle.operands.proofs.pad.Reads as pad-reads
 use Rattle.steps.proofs.perform.value_to.Reads as value-to-reads
 use Rattle.words.proofs.word.header_of.Reads as header-of-reads
 use Rattle.words.proofs.word.pack.Reads as pack-reads

@@ -8,17 +8,17 @@ use lib.Ieee.{Float}
 use Rattle.model.specs.Header.{count, stored}
 use Rattle.model.specs.Refusals.{padded}
 use Rattle.model.specs.Poly.{Poly}
-use Rattle.steps.specs.Lent.{lying, kept-as}
+use Rattle.operands.specs.Lent.{lying, kept-as}
 use Rattle.steps.specs.Ready.{to-power, power-value, to-pair, pair-value, to-substitute, substitute-value, to-change, change-value}
 use borrow.Author.Needs.{needs}
 use Rattle.steps.proofs.perform.value_to.Statement.{statement}
 use Rattle.steps.proofs.perform.value_to.Tie as tie
 use Rattle.steps.proofs.perform.value_to.Reads as reads
 use Rattle.steps.proofs.perform.value_to.Lts as lts
-use Rattle.steps.proofs.pair.pair_to.Reads as pair-to-reads
-use Rattle.steps.proofs.single.change_to.Reads as change-to-reads
-use Rattle.steps.proofs.single.power_to.Reads as power-to-reads
-use Rattle.steps.proofs.substitute.substitute_to.Reads as substitute-to-reads
+use Rattle.step_pairs.proofs.pair_to.Reads as pair-to-reads
+use Rattle.step_singles.proofs.change_to.Reads as change-to-reads
+use Rattle.step_singles.proofs.power_to.Reads as power-to-reads
+use Rattle.step_substitutions.proofs.substitute_to.Reads as substitute-to-reads
 
 power-to-requires : tie.Need-power-to-requires
 power-to-requires c κs = (to-power (c .before .before .before .before .before .before .pre .0) (c .before .before .if1 .taken), (c .before .before .before .before .before .before .pre .1 .0 .left, c .before .before .before .before .before .before .pre .1 .1))

@@ -1,0 +1,2 @@
+pub mod Shifted
+pub mod ShiftTotals

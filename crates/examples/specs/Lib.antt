@@ -1,0 +1,5 @@
+pub mod Outcome
+pub mod Examples
+pub mod Held
+pub mod Instances
+pub mod ChangeInstances
