@@ -1,4 +1,3 @@
-pub mod Outcome
 pub mod Examples
 pub mod Held
 pub mod Instances

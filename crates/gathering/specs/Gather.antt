@@ -21,7 +21,7 @@ use Rattle.general.specs.Index.{inRow, split-at}
 use Rattle.general.specs.Product.{stride-at, row-in, first-in, span-pos}
 use Rattle.general.specs.Rows.{Strided, Rowing, rowsOf}
 use Rattle.general.specs.Pairs.{Paired, paired-end}
-use Rattle.general.specs.Fours.{Summing}
+use Rattle.product_lines.specs.Fours.{Summing}
 use Rattle.gathering.specs.Reach.{leftOf, Reach, Shaped, Gathering}
 
 -- the row j of the variable v

@@ -1,2 +1,4 @@
 pub mod Reach
 pub mod Gather
+pub mod Kept
+pub mod Whole

@@ -63,9 +63,9 @@ pub fn gather(
     requires { ⌜ Shaped lx sx r sr ⌝ ∗ ⌜ Gathering lx r v k (length (now xs)) (length (now done)) (length (now row)) ⌝ }
     ensures { λ _. ⌜ now (row .exit) ≡ gathered false lx r v k 1 (min (k + 1) (at lx v)) (now (xs .entry)) (now (done .entry)) ⌝ }
 {
-    let hi = general::line::upto(k, lx[v]);
+    let hi = product_lines::upto(k, lx[v]);
     if sr[v] == 1 {
-        row[0] = general::line::sum_on(xs, done, k, 1, hi, 0.0);
+        row[0] = product_lines::sum_on(xs, done, k, 1, hi, 0.0);
         return;
     }
     gather_rows(false, xs, lx, sx, done, r, sr, v, k, 1, hi, row);

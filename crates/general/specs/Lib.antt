@@ -3,5 +3,4 @@ pub mod Product
 pub mod Rows
 pub mod Pairs
 pub mod Bounds
-pub mod Fours
 pub mod Plane

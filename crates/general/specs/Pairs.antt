@@ -18,10 +18,11 @@ use Rattle.model.specs.Places.{index}
 use Rattle.model.specs.Refusals.{zeros, zeroF}
 use Rattle.model.specs.General.{lo, steps, line, alone, productAt, general}
 use Rattle.words.specs.Lengths.{Lengths}
-use Rattle.blocks.specs.Fill.{filled-row, filled-rest, filled-all, filled-here}
+use Rattle.blocks.specs.Fill.{filled-row, filled-rest, filled-all}
 use Rattle.general.specs.Index.{inRow, split-at}
 use Rattle.general.specs.Product.{span-none, span-more, alone-one, stepAt, product-same, product-end, product-line, product-rows}
-use Rattle.general.specs.Rows.{Several, lineAdded, placeOf, rowsOf, pairsOf}
+use Rattle.general.specs.Rows.{Several, placeOf, rowsOf, pairsOf}
+use Rattle.product_lines.specs.Added.{lineAdded}
 
 -- each place of a row carries a walk of its own, from a on, and has come to j
 pub record Paired (s : ℕ) (f : ℕ → ℕ → Float → Float) (a j : ℕ) (old row : List Float) : Type 0 where
@@ -127,11 +128,6 @@ rows-none lx ly r {v} xs ys old h e =
     let n = span-none r h in
     one-place _ old (e ∙ n)
     ∙ (ap (λ (x : Float). x ∷ []) (sym (product-end lx ly r (index r 0) v xs ys (getD old 0 nan) h)) ∙ ap (λ (m : ℕ). table m (placeOf lx ly r v xs ys old)) (sym n))
-
--- a turn of the loop over the places of a line
-pub line-more : (xs ys : List Float) (n m : ℕ) {k : ℕ} {old out : List Float} {z : Float} → Filled k (lineAdded xs ys n m old) old out → k < length old → z ≡ line xs ys n m k
-    → add binary64 (getD out k nan) z ≡ lineAdded xs ys n m old k
-line-more xs ys n m f h e = rw (filled-here nan f h, e)
 
 -- one long variable is left
 pub rows-line : (lx ly r : List ℕ) (v : ℕ) (xs ys old : List Float) {new : List Float} → Lengths r → v < 4 → alone r (4 - (v + 1)) v ≡ true → length old ≡ span r (4 - v) v

@@ -20,7 +20,8 @@ use Rattle.words.specs.Lengths.{Lengths, lengths-pos}
 use Rattle.blocks.specs.Fill.{filled-row, filled-rest, filled-all}
 use Rattle.general.specs.Index.{inRow, row-div, row-mod, split-at}
 use Rattle.general.specs.Product.{span-more, span-pos, row-in, first-in, stride-at, alone-one, product-line, product-rows}
-use Rattle.general.specs.Rows.{Strided, Rowing, Several, TwoLong, lineAdded, placeOf, rowsOf}
+use Rattle.general.specs.Rows.{Strided, Rowing, Several, TwoLong, placeOf, rowsOf}
+use Rattle.product_lines.specs.Added.{lineAdded}
 use Rattle.general.specs.Pairs.{fromOn, rows-line}
 use Rattle.general.specs.Bounds.{most, line-size, turn}
 

@@ -4,13 +4,13 @@ use mathlib.Core.List.{List}
 use mathlib.Core.Bool.{true, false}
 use mathlib.Core.Path.{_≡_}
 use lib.ListN.{getD}
-use lib.Ieee.{Float, nan, add, binary64}
+use lib.Ieee.{Float, nan}
 use Rattle.lists.specs.Four.{at}
 use Rattle.lists.specs.Table.{table}
 use Rattle.lists.specs.Walk.{walk}
 use Rattle.model.specs.Header.{span, count}
 use Rattle.model.specs.Places.{strides, index}
-use Rattle.model.specs.General.{lo, steps, line, alone, productAt}
+use Rattle.model.specs.General.{lo, steps, alone, productAt}
 use Rattle.words.specs.Lengths.{Lengths}
 use Rattle.general.specs.Index.{inRow}
 use Rattle.general.specs.Product.{stepAt}
@@ -56,10 +56,6 @@ pub record Pairing (lx ly r : List ℕ) (v k nx ny nr : ℕ) : Type 0 where
   pub room-x : span lx (4 - v) v ≤ nx
   pub room-y : span ly (4 - v) v ≤ ny
   pub full : nr ≡ inRow r v
-
--- a place with its sum added: n and m are the lengths of the left and the right
-abbrev pub lineAdded : List Float → List Float → ℕ → ℕ → List Float → ℕ → Float
-lineAdded xs ys n m old k = add binary64 (getD old k nan) (line xs ys n m k)
 
 -- a place of the sub-block, from what it holds
 abbrev pub placeOf : List ℕ → List ℕ → List ℕ → ℕ → List Float → List Float → List Float → ℕ → Float

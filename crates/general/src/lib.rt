@@ -1,5 +1,4 @@
 // The general product of two blocks, row by row (document 01, port order 4).
-pub mod line;
 pub mod plane;
 
 ghost use mathlib.Core.Path.{_≡_};
@@ -28,8 +27,8 @@ fn each_pair(
     let w = v + 1;
     let tx = sx[v];
     let ty = sy[v];
-    let lo = line::from(k, ly[v]);
-    let hi = line::upto(k, lx[v]);
+    let lo = product_lines::from(k, ly[v]);
+    let hi = product_lines::upto(k, lx[v]);
     let mut j = lo;
     while j < hi {
         let p = j * tx;

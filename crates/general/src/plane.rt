@@ -1,6 +1,5 @@
 // Two long variables: a plane, whose rows are made of pairs of lines. It takes plain numbers in place of the lengths and strides: most calls
 // of a product are made here.
-use crate::line;
 ghost use mathlib.Core.Path.{_≡_};
 ghost use lib.ListN.{length};
 ghost use Rattle.general.specs.Plane.{Lining, Planing, linesOf, planeOf};
@@ -26,7 +25,7 @@ pub fn each_line(
     while j < b {
         let p = j * tx;
         let q = (k - j) * ty;
-        line::lines(&xs[p..], nx, &ys[q..], ny, row);
+        product_lines::lines(&xs[p..], nx, &ys[q..], ny, row);
         j += 1;
     }
 }
@@ -51,8 +50,8 @@ pub fn plane(
     let mut k = 0;
     while k < n {
         let at = k * s;
-        let a = line::from(k, my);
-        let b = line::upto(k, mx);
+        let a = product_lines::from(k, my);
+        let b = product_lines::upto(k, mx);
         each_line(xs, tx, nx, ys, ty, ny, k, a, b, &mut res[at..at + s]);
         k += 1;
     }

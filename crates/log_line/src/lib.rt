@@ -15,7 +15,7 @@ pub fn first_turn(k: usize, m: usize) -> usize
     requires { ⌜ k < 64 ⌝ }
     ensures { λ j. ⌜ j ≡ firstTurn m k ⌝ }
 {
-    let lo = general::line::from(k, m);
+    let lo = product_lines::from(k, m);
     if lo < 1 { 1 } else { lo }
 }
 

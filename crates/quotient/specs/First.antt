@@ -24,8 +24,8 @@ use Rattle.blocks.specs.Rows.{Joining}
 use Rattle.general.specs.Index.{inRow, split-at}
 use Rattle.general.specs.Product.{row-in}
 use Rattle.general.specs.Pairs.{fromOn}
-use Rattle.quotient.specs.Grows.{grow-add, grow-same, length-grown}
-use Rattle.quotient.specs.Level.{takenAt, levelAt, levelOf, taken-row, lessened-same}
+use Rattle.quotient_levels.specs.Grows.{grow-add, grow-same, length-grown}
+use Rattle.quotient_levels.specs.Level.{takenAt, levelAt, levelOf, taken-row, lessened-same}
 use Rattle.quotient.specs.Room.{Adding}
 
 -- what the row k still has to divide at its place i

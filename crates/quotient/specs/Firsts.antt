@@ -21,12 +21,13 @@ use Rattle.model.specs.Add.{joinAt}
 use Rattle.model.specs.Quotient.{recurred}
 use Rattle.general.specs.Index.{inRow}
 use Rattle.general.specs.Product.{span-more, stride-at}
-use Rattle.quotient.specs.Grows.{length-grown}
+use Rattle.quotient_levels.specs.Grows.{length-grown}
 use Rattle.lessening.specs.Laid.{Laid, laid-none, laid-mid, laid-append, laid-above, laid-part, laid-under, laid-front}
-use Rattle.quotient.specs.Level.{takenAt, levelOf}
-use Rattle.quotient.specs.Room.{Dividing, Room, RowRoom, First, Adding}
+use Rattle.quotient_levels.specs.Level.{takenAt, levelOf}
+use Rattle.quotient_levels.specs.Room.{Dividing, Room, RowRoom}
+use Rattle.quotient.specs.Room.{First, Adding}
 use Rattle.quotient.specs.First.{firstAt, quotientNext, first-more}
-use Rattle.quotient.specs.Levels.{level-stride, level-top, level-in}
+use Rattle.quotient_levels.specs.Levels.{level-stride, level-top, level-in}
 
 -- the row k, gathered
 module _ {lx ly sy r sr : List ℕ} (g : Dividing ly sy r sr) {nx k p q b f mr : ℕ} (d : First lx r nx q) (w : List Float) (t : RowRoom ly r 0 k p (p + count r) q b f (length w) mr) where

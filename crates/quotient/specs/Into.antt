@@ -26,9 +26,10 @@ use Rattle.shape.specs.Under.{count-under}
 use Rattle.blocks.specs.Rows.{Inner}
 use Rattle.blocks.specs.Two.{Two, Holds, cutPlaces, cut-is}
 use Rattle.lessening.specs.Laid.{Laid, laid-part}
-use Rattle.quotient.specs.Room.{Dividing, Room, First, Recurring, Divides, loadedQuotient}
+use Rattle.quotient_levels.specs.Room.{Dividing, Room}
+use Rattle.quotient.specs.Room.{First, Recurring, Divides, loadedQuotient}
 use Rattle.quotient.specs.Firsts.{length-recurred}
-use Rattle.quotient.specs.Gather.{part-at}
+use Rattle.quotient_levels.specs.Gather.{part-at}
 
 inner-by : {n c : List ℕ} → ((k : ℕ) → k < 4 → at c k ≤ at n k) → Inner n c
 inner-by h = record { c0 = h 0 (lit< tt); c1 = h 1 (lit< tt); c2 = h 2 (lit< tt); c3 = h 3 (lit< tt) }

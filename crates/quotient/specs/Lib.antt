@@ -1,10 +1,4 @@
-pub mod Grows
-pub mod Level
 pub mod Room
-pub mod Taken
-pub mod Gather
-pub mod Line
-pub mod Levels
 pub mod First
 pub mod Firsts
 pub mod Into

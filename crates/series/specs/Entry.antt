@@ -21,8 +21,8 @@ use Rattle.words.specs.Lengths.{lengths-of}
 use Rattle.shape.specs.Under.{Under, count-under}
 use Rattle.blocks.specs.Rows.{Inner}
 use Rattle.gates.specs.Gate.{WorkReady}
-use Rattle.series.specs.Room.{Whole}
-use Rattle.series.specs.LogBlock.{Long}
+use Rattle.gathering.specs.Whole.{Whole}
+use Rattle.logarithm.specs.LogBlock.{Long}
 
 -- no length becomes smaller
 series-most : {a : Header} → Regular a → (k : ℕ) → k < 4 → len a k ≤ len (announced Series a noHeader) k

@@ -1,8 +1,1 @@
-pub mod Room
-pub mod NextRow
-pub mod Stacked
 pub mod Entry
-pub mod LogRow
-pub mod LogDone
-pub mod LogRows
-pub mod LogBlock

@@ -1,7 +1,4 @@
 // exp and log of a polynomial (document 01, port order 6). The entries take any words, heads and buffers.
-pub mod kernel;
-pub mod log_kernel;
-
 use model::Answer;
 use model::Family;
 use model::Header;
@@ -28,7 +25,7 @@ pub fn exp(word: u64, a: &[f64], head: f64, out: &mut [f64], scratch: &mut [f64]
     let na = gates::stored_of(x);
     let n = gates::stored_of(h);
     let room = 8 * n;
-    kernel::exp_into(
+    exponential::exp_into(
         head,
         &a[..na],
         lx,
@@ -58,7 +55,7 @@ pub fn log(word: u64, a: &[f64], head: f64, out: &mut [f64], scratch: &mut [f64]
     let na = gates::stored_of(x);
     let n = gates::stored_of(h);
     let room = 8 * n;
-    log_kernel::log_into(
+    logarithm::log_into(
         head,
         &a[..na],
         lx,

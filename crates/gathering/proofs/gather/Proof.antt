@@ -9,8 +9,8 @@ use Rattle.gathering.proofs.gather.Statement.{statement}
 use Rattle.gathering.proofs.gather.Tie as tie
 use Rattle.gathering.proofs.gather.Reads as reads
 use Rattle.gathering.proofs.gather.Lts as lts
-use Rattle.general.proofs.line.sum_on.Reads as sum-on-reads
-use Rattle.general.proofs.line.upto.Reads as upto-reads
+use Rattle.product_lines.proofs.sum_on.Reads as sum-on-reads
+use Rattle.product_lines.proofs.upto.Reads as upto-reads
 use Rattle.gathering.proofs.gather_rows.Reads as gather-rows-reads
 
 mul-upto : tie.Need-mul-upto

@@ -28,8 +28,8 @@ use Rattle.general.proofs.+each_pair+each_row+rows.Lts-each_row as each
 use Rattle.general.proofs.rows.Reads as rows
 use Rattle.general.proofs.rows.Kinds as rows-kinds
 use Rattle.general.proofs.+each_pair+each_row+rows.Lts-rows as rows-lts
-use Rattle.general.proofs.line.from.Reads as from-reads
-use Rattle.general.proofs.line.upto.Reads as upto-reads
+use Rattle.product_lines.proofs.from.Reads as from-reads
+use Rattle.product_lines.proofs.upto.Reads as upto-reads
 use Rattle.general.proofs.plane.each_line.Reads as each-line-reads
 use Rattle.general.proofs.plane.two_long.Reads as two-long-reads
 use Rattle.general.proofs.+each_pair+each_row+rows.{statement}

@@ -23,7 +23,7 @@ use Rattle.blocks.proofs.clear.Reads as clear-reads
 use Rattle.gates.proofs.stored_of.Reads as stored-of-reads
 use Rattle.gates.proofs.work_gate.Reads as work-gate-reads
 use Rattle.model.proofs.Header.none.Reads as none-reads
-use Rattle.series.proofs.log_kernel.log_into.Reads as log-into-reads
+use Rattle.logarithm.proofs.log_into.Reads as log-into-reads
 use Rattle.shape.proofs.announce.announced_of.Reads as announced-of-reads
 use Rattle.words.proofs.word.header_of.Reads as header-of-reads
 use Rattle.words.proofs.word.pack.Reads as pack-reads

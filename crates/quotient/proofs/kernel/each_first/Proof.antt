@@ -8,8 +8,8 @@ use Rattle.lists.specs.Four.{at}
 use Rattle.model.specs.Header.{count}
 use Rattle.general.specs.Bounds.{row-small}
 use Rattle.lessening.specs.Laid.{Laid}
-use Rattle.quotient.specs.Room.{Room}
-use Rattle.quotient.specs.Levels.{level-row, level-top, level-in, level-gather}
+use Rattle.quotient_levels.specs.Room.{Room}
+use Rattle.quotient_levels.specs.Levels.{level-row, level-top, level-in, level-gather}
 use Rattle.quotient.specs.Firsts.{firstsLaid, first-next, firsts-none, firsts-more, firsts-all}
 use Rattle.quotient.proofs.kernel.each_first.Statement.{statement}
 use Rattle.quotient.proofs.kernel.each_first.Tie as tie

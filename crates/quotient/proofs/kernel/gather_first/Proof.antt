@@ -2,7 +2,7 @@ use native.Mathlib.Omega.{arith}
 use mathlib.Core.Path.{sym, _∙_}
 use lib.ListN.{length-take, length-drop}
 use lib.Seq.{length-take-le}
-use Rattle.quotient.specs.Gather.{row-fits, gather-taking}
+use Rattle.quotient_levels.specs.Gather.{row-fits, gather-taking}
 use Rattle.quotient.specs.Firsts.{first-stride, first-fits, first-adding, first-gathered}
 use borrow.Author.Needs.{needs}
 use Rattle.quotient.proofs.kernel.gather_first.Statement.{statement}

@@ -1,0 +1,4 @@
+pub mod LogRow
+pub mod LogDone
+pub mod LogRows
+pub mod LogBlock

@@ -1,0 +1,8 @@
+// A promise that is an equation admits one outcome. A crate needs a function: this one.
+ghost use mathlib.Core.Path.{_≡_};
+
+pub fn same(x: f64) -> f64
+    ensures { λ r. ⌜ r ≡ x ⌝ }
+{
+    x
+}
