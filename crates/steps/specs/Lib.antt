@@ -1,1 +1,2 @@
+pub mod Substitute
 pub mod Ready

@@ -39,7 +39,7 @@ use Rattle.operands.specs.Lent.{Lies, Lent, kept-as, kept-then, padded-on}
 use Rattle.step_singles.specs.Change.{changeFamily, changedPoly, Changing}
 use Rattle.step_pairs.specs.Pair.{pairFamily, pairPoly, Pairing, pair-sum, pair-product, pair-quotient}
 use Rattle.step_singles.specs.Power.{Powering}
-use Rattle.step_substitutions.specs.Substitute.{Substituting}
+use Rattle.steps.specs.Substitute.{Substituting}
 
 -- the kind's operation
 unfoldable pub valueOf : Step → Poly → Poly → Poly

@@ -68,7 +68,7 @@ fn value_to(
         );
     }
     if kind == 10 {
-        return step_substitutions::substitute_to(
+        return crate::substitute::substitute_to(
             s.variable,
             x,
             xi,

@@ -18,7 +18,7 @@ use Rattle.steps.proofs.perform.value_to.Lts as lts
 use Rattle.step_pairs.proofs.pair_to.Reads as pair-to-reads
 use Rattle.step_singles.proofs.change_to.Reads as change-to-reads
 use Rattle.step_singles.proofs.power_to.Reads as power-to-reads
-use Rattle.step_substitutions.proofs.substitute_to.Reads as substitute-to-reads
+use Rattle.steps.proofs.substitute.substitute_to.Reads as substitute-to-reads
 
 power-to-requires : tie.Need-power-to-requires
 power-to-requires c κs = (to-power (c .before .before .before .before .before .before .pre .0) (c .before .before .if1 .taken), (c .before .before .before .before .before .before .pre .1 .0 .left, c .before .before .before .before .before .before .pre .1 .1))

@@ -26,7 +26,7 @@ ghost use Rattle.product.specs.Room.{Stands};
 ghost use Rattle.substitution_way.specs.Way.{wayOf, putFor};
 ghost use Rattle.substitution.specs.Room.{Given, Puts, turns, Hornering};
 ghost use Rattle.operands.specs.Lent.{source, lying, Lies, Lent};
-ghost use Rattle.step_substitutions.specs.Substitute.{plainOf, Plain, Wrote, Substituting};
+ghost use Rattle.steps.specs.Substitute.{plainOf, Plain, Wrote, Substituting};
 
 // Which way what is put goes for v, from where it lies.
 fn way_from<'a>(

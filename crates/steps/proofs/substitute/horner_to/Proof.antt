@@ -15,16 +15,16 @@ use Rattle.blocks.specs.Two.{cutPlaces}
 use Rattle.substitution.specs.Sizes.{row-picks, row-fits, put-loads, put-small, puts-adding}
 use Rattle.substitution.specs.Horner.{valueIn, putIn, start-one, start-front, start-room, start-stands}
 use Rattle.operands.specs.Lent.{lying, lies-source, part-kept, kept-as}
-use Rattle.step_substitutions.specs.Substitute.{wrote-of, same-operand, turns-wrote}
+use Rattle.steps.specs.Substitute.{wrote-of, same-operand, turns-wrote}
 use borrow.Author.Needs.{needs}
-use Rattle.step_substitutions.proofs.horner_to.Statement.{statement}
-use Rattle.step_substitutions.proofs.horner_to.Tie as tie
-use Rattle.step_substitutions.proofs.horner_to.Reads as reads
-use Rattle.step_substitutions.proofs.horner_to.Lts as lts
+use Rattle.steps.proofs.substitute.horner_to.Statement.{statement}
+use Rattle.steps.proofs.substitute.horner_to.Tie as tie
+use Rattle.steps.proofs.substitute.horner_to.Reads as reads
+use Rattle.steps.proofs.substitute.horner_to.Lts as lts
 use Rattle.shape.proofs.limits.cut_to.Reads as cut-to-reads
-use Rattle.step_substitutions.proofs.put_from.Reads as put-from-reads
-use Rattle.step_substitutions.proofs.row_from.Reads as row-from-reads
-use Rattle.step_substitutions.proofs.rows_to.Reads as rows-to-reads
+use Rattle.steps.proofs.substitute.put_from.Reads as put-from-reads
+use Rattle.steps.proofs.substitute.row_from.Reads as row-from-reads
+use Rattle.steps.proofs.substitute.rows_to.Reads as rows-to-reads
 use Rattle.horner_turn.proofs.first_turn.Reads as first-turn-reads
 use Rattle.substitution.proofs.kernel.highest.Reads as highest-reads
 use Rattle.substitution.proofs.kernel.row_lengths.Reads as row-lengths-reads

@@ -9,12 +9,12 @@ use Rattle.model.specs.Poly.{block}
 use Rattle.substitution.specs.Room.{turns}
 use Rattle.substitution.specs.Horner.{valueIn, putIn, next-picks, next-turning, next-row}
 use Rattle.operands.specs.Lent.{lying, lies-source, part-kept}
-use Rattle.step_substitutions.specs.Substitute.{RunsTo, runs-first, to-end, to-less, to-next, same-operand}
-use Rattle.step_substitutions.proofs.rows_to.Statement.{statement}
-use Rattle.step_substitutions.proofs.rows_to.Tie as tie
-use Rattle.step_substitutions.proofs.rows_to.Reads as reads
-use Rattle.step_substitutions.proofs.rows_to.Lts as lts
-use Rattle.step_substitutions.proofs.row_from.Reads as row-from-reads
+use Rattle.steps.specs.Substitute.{RunsTo, runs-first, to-end, to-less, to-next, same-operand}
+use Rattle.steps.proofs.substitute.rows_to.Statement.{statement}
+use Rattle.steps.proofs.substitute.rows_to.Tie as tie
+use Rattle.steps.proofs.substitute.rows_to.Reads as reads
+use Rattle.steps.proofs.substitute.rows_to.Lts as lts
+use Rattle.steps.proofs.substitute.row_from.Reads as row-from-reads
 use Rattle.horner_turn.proofs.turn.Reads as turn-reads
 
 abbrev Inv-loop : tie.InvT-loop

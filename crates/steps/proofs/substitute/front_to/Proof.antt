@@ -4,16 +4,16 @@ use lib.ListN.{take, drop}
 use lib.Seq.{length-take-le}
 use Rattle.substitution.specs.Entry.{stands-same}
 use Rattle.operands.specs.Lent.{lying, lies-source, front-kept}
-use Rattle.step_substitutions.specs.Substitute.{plain-is, plain-room, horner-puts, horner-some, horner-is, wrote-of, wrote-same}
+use Rattle.steps.specs.Substitute.{plain-is, plain-room, horner-puts, horner-some, horner-is, wrote-of, wrote-same}
 use borrow.Author.Needs.{needs}
-use Rattle.step_substitutions.proofs.front_to.Statement.{statement}
-use Rattle.step_substitutions.proofs.front_to.Tie as tie
-use Rattle.step_substitutions.proofs.front_to.Reads as reads
-use Rattle.step_substitutions.proofs.front_to.Lts as lts
+use Rattle.steps.proofs.substitute.front_to.Statement.{statement}
+use Rattle.steps.proofs.substitute.front_to.Tie as tie
+use Rattle.steps.proofs.substitute.front_to.Reads as reads
+use Rattle.steps.proofs.substitute.front_to.Lts as lts
 use Rattle.product.proofs.kernel.keep.Reads as keep-reads
-use Rattle.step_substitutions.proofs.horner_to.Reads as horner-to-reads
-use Rattle.step_substitutions.proofs.plain_from.Reads as plain-from-reads
-use Rattle.step_substitutions.proofs.way_from.Reads as way-from-reads
+use Rattle.steps.proofs.substitute.horner_to.Reads as horner-to-reads
+use Rattle.steps.proofs.substitute.plain_from.Reads as plain-from-reads
+use Rattle.steps.proofs.substitute.way_from.Reads as way-from-reads
 
 slice-reshare-prefix-way-from : tie.Need-slice-reshare-prefix-way-from
 slice-reshare-prefix-way-from c = search needs

@@ -9,10 +9,10 @@ use Rattle.lists.specs.Table.{length-table}
 use Rattle.model.specs.Header.{count}
 use Rattle.horner_turn.specs.Turn.{front-kept}
 use borrow.Author.Needs.{needs}
-use Rattle.step_substitutions.proofs.put_from.Statement.{statement}
-use Rattle.step_substitutions.proofs.put_from.Tie as tie
-use Rattle.step_substitutions.proofs.put_from.Reads as reads
-use Rattle.step_substitutions.proofs.put_from.Lts as lts
+use Rattle.steps.proofs.substitute.put_from.Statement.{statement}
+use Rattle.steps.proofs.substitute.put_from.Tie as tie
+use Rattle.steps.proofs.substitute.put_from.Reads as reads
+use Rattle.steps.proofs.substitute.put_from.Lts as lts
 use Rattle.blocks.proofs.load.Reads as load-reads
 use Rattle.gates.proofs.stored_of.Reads as stored-of-reads
 use Rattle.operands.proofs.operand.Reads as operand-reads

@@ -7,12 +7,12 @@ use Rattle.operands.specs.Lent.{source, length-operand}
 use Rattle.model.specs.Poly.{block}
 use Rattle.product.specs.Ways.{put-stands}
 use Rattle.substitution.specs.Entry.{stands-same, copied-stands}
-use Rattle.step_substitutions.specs.Substitute.{plain-0, plain-1, plain-2}
+use Rattle.steps.specs.Substitute.{plain-0, plain-1, plain-2}
 use borrow.Author.Needs.{needs}
-use Rattle.step_substitutions.proofs.plain_from.Statement.{statement}
-use Rattle.step_substitutions.proofs.plain_from.Tie as tie
-use Rattle.step_substitutions.proofs.plain_from.Reads as reads
-use Rattle.step_substitutions.proofs.plain_from.Lts as lts
+use Rattle.steps.proofs.substitute.plain_from.Statement.{statement}
+use Rattle.steps.proofs.substitute.plain_from.Tie as tie
+use Rattle.steps.proofs.substitute.plain_from.Reads as reads
+use Rattle.steps.proofs.substitute.plain_from.Lts as lts
 use Rattle.blocks.proofs.copy.Reads as copy-reads
 use Rattle.gates.proofs.stored_of.Reads as stored-of-reads
 use Rattle.operands.proofs.operand.Reads as operand-reads

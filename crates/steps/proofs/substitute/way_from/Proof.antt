@@ -9,10 +9,10 @@ use Rattle.model.specs.Poly.{block}
 use Rattle.words.specs.Lengths.{lengths-of}
 use Rattle.substitution_way.specs.Way.{wayOf}
 use borrow.Author.Needs.{needs}
-use Rattle.step_substitutions.proofs.way_from.Statement.{statement}
-use Rattle.step_substitutions.proofs.way_from.Tie as tie
-use Rattle.step_substitutions.proofs.way_from.Reads as reads
-use Rattle.step_substitutions.proofs.way_from.Lts as lts
+use Rattle.steps.proofs.substitute.way_from.Statement.{statement}
+use Rattle.steps.proofs.substitute.way_from.Tie as tie
+use Rattle.steps.proofs.substitute.way_from.Reads as reads
+use Rattle.steps.proofs.substitute.way_from.Lts as lts
 use Rattle.gates.proofs.stored_of.Reads as stored-of-reads
 use Rattle.operands.proofs.operand.Reads as operand-reads
 use Rattle.substitution_way.proofs.choose.Reads as choose-reads

@@ -4,14 +4,14 @@ use lib.ListN.{length, take}
 use lib.Seq.{length-take-le}
 use Rattle.model.specs.Header.{stored}
 use Rattle.operands.specs.Lent.{lying, source, lies-source, length-operand}
-use Rattle.step_substitutions.specs.Substitute.{substituting-given, value-head, value-lengths, value-count, value-kept}
+use Rattle.steps.specs.Substitute.{substituting-given, value-head, value-lengths, value-count, value-kept}
 use borrow.Author.Needs.{needs}
-use Rattle.step_substitutions.proofs.substitute_to.Statement.{statement}
-use Rattle.step_substitutions.proofs.substitute_to.Tie as tie
-use Rattle.step_substitutions.proofs.substitute_to.Reads as reads
-use Rattle.step_substitutions.proofs.substitute_to.Lts as lts
+use Rattle.steps.proofs.substitute.substitute_to.Statement.{statement}
+use Rattle.steps.proofs.substitute.substitute_to.Tie as tie
+use Rattle.steps.proofs.substitute.substitute_to.Reads as reads
+use Rattle.steps.proofs.substitute.substitute_to.Lts as lts
 use Rattle.operands.proofs.pad.Reads as pad-reads
-use Rattle.step_substitutions.proofs.front_to.Reads as front-to-reads
+use Rattle.steps.proofs.substitute.front_to.Reads as front-to-reads
 use Rattle.words.proofs.places.count_of.Reads as count-of-reads
 
 full : (c : tie.Start) → length (lying (c .args .xi) (c .args .coefficients .now) (take (c .args .at) (c .args .pool .now)) (c .args .xf) (c .args .x) .coeffs) ≡ stored (c .args .x)

@@ -4,10 +4,10 @@ use lib.ListN.{length, take, drop}
 use Rattle.model.specs.Header.{stored}
 use Rattle.operands.specs.Lent.{source, length-operand}
 use borrow.Author.Needs.{needs}
-use Rattle.step_substitutions.proofs.row_from.Statement.{statement}
-use Rattle.step_substitutions.proofs.row_from.Tie as tie
-use Rattle.step_substitutions.proofs.row_from.Reads as reads
-use Rattle.step_substitutions.proofs.row_from.Lts as lts
+use Rattle.steps.proofs.substitute.row_from.Statement.{statement}
+use Rattle.steps.proofs.substitute.row_from.Tie as tie
+use Rattle.steps.proofs.substitute.row_from.Reads as reads
+use Rattle.steps.proofs.substitute.row_from.Lts as lts
 use Rattle.gates.proofs.stored_of.Reads as stored-of-reads
 use Rattle.operands.proofs.operand.Reads as operand-reads
 use Rattle.substitution.proofs.kernel.load_row.Reads as load-row-reads
