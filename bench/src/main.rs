@@ -1,8 +1,10 @@
-//! The same inputs through three programs: the proved library, plain Rust, and the Rust module over its stand-ins.
+//! The same inputs through four programs: the proved library, plain Rust, plain Rust held to the library's promise, and the Rust module over
+//! its stand-ins.
 //!
 //!     bench                          compares results by bits, then times: a row a case
 //!     bench cases                    the names of the cases
 //!     bench count PEER CASE CALLS    makes CALLS calls inside `counted`, for an instruction count
+mod kept;
 #[cfg(module)]
 mod module;
 mod ours;
@@ -26,6 +28,8 @@ struct Operation {
     factors: &'static [&'static str],
     ours: fn(&mut Ours),
     plain: fn(&mut Plain),
+    /// Left out where nobody wrote it.
+    kept: Option<fn(&mut Ours)>,
     #[cfg(module)]
     module: fn(&mut module::Module),
 }
@@ -37,6 +41,7 @@ const OPERATIONS: &[Operation] = &[
         factors: &["dense", "linear", "constant"],
         ours: Ours::multiply,
         plain: |p| plain::multiply(&p.a, &p.b, &mut p.out),
+        kept: Some(Ours::multiply_kept),
         #[cfg(module)]
         module: module::Module::multiply,
     },
@@ -46,6 +51,7 @@ const OPERATIONS: &[Operation] = &[
         factors: &["10"],
         ours: Ours::pow,
         plain: |p| plain::pow(&p.a, 10, &mut p.out),
+        kept: None,
         #[cfg(module)]
         module: module::Module::pow,
     },
@@ -55,6 +61,7 @@ const OPERATIONS: &[Operation] = &[
         factors: &["horner16"],
         ours: Ours::subst_var,
         plain: |p| plain::subst_var(&p.a, 0, &p.b, &mut p.out),
+        kept: None,
         #[cfg(module)]
         module: module::Module::subst_var,
     },
@@ -71,6 +78,7 @@ struct Plain {
 enum Peer {
     Ours(Ours),
     Plain(Plain),
+    Kept(Ours),
     #[cfg(module)]
     Module(module::Module),
 }
@@ -78,18 +86,22 @@ enum Peer {
 const PEERS: &[&str] = &[
     "ours",
     "plain",
+    "kept",
     #[cfg(module)]
     "module",
 ];
 
 impl Peer {
-    fn new(name: &str, case: &Case) -> Peer {
+    /// None where the program has not the operation.
+    fn new(name: &str, case: &Case) -> Option<Peer> {
         let (a, b) = case.operands();
+        let lent = || Ours::new(&a, &b, case.announced());
         match name {
-            "ours" => Peer::Ours(Ours::new(&a, &b, case.announced())),
-            "plain" => Peer::Plain(Plain { a, b, out: Poly::default() }),
+            "ours" => Some(Peer::Ours(lent())),
+            "kept" => case.operation.kept.map(|_| Peer::Kept(lent())),
+            "plain" => Some(Peer::Plain(Plain { a, b, out: Poly::default() })),
             #[cfg(module)]
-            "module" => Peer::Module(module::Module::new(&a, &b)),
+            "module" => Some(Peer::Module(module::Module::new(&a, &b))),
             _ => panic!("no such program: {name}"),
         }
     }
@@ -99,6 +111,7 @@ impl Peer {
         match self {
             Peer::Ours(p) => (operation.ours)(black_box(p)),
             Peer::Plain(p) => (operation.plain)(black_box(p)),
+            Peer::Kept(p) => operation.kept.into_iter().for_each(|call| call(black_box(p))),
             #[cfg(module)]
             Peer::Module(p) => (operation.module)(black_box(p)),
         }
@@ -108,6 +121,7 @@ impl Peer {
         match self {
             Peer::Ours(p) => p.answer(),
             Peer::Plain(p) => ours::answer_of(&p.out),
+            Peer::Kept(p) => p.answer(),
             #[cfg(module)]
             Peer::Module(p) => ours::answer_of(&p.answer()),
         }
@@ -215,25 +229,28 @@ fn batch(mut call: impl FnMut()) -> u64 {
 /// One row: every program a batch, round after round; medians, and medians of the rounds' own ratios. The last number is what it takes
 /// in plain Rust to clear a scratch, which the library's contract asks of it and which the others have not to do.
 fn row(case: &Case) -> String {
-    let mut peers: Vec<Peer> = PEERS.iter().map(|p| Peer::new(p, case)).collect();
-    peers.iter_mut().for_each(|p| p.call(case.operation));
-    let first = peers[0].answer();
-    for (peer, name) in peers.iter().zip(PEERS) {
-        assert!(peer.answer() == first, "{}: {name} answers other bits than {}", case.name(), PEERS[0]);
+    let mut peers: Vec<Option<Peer>> = PEERS.iter().map(|p| Peer::new(p, case)).collect();
+    let mut first = None;
+    for (peer, name) in peers.iter_mut().zip(PEERS) {
+        let Some(peer) = peer else { continue };
+        peer.call(case.operation);
+        let answer = peer.answer();
+        assert!(*first.get_or_insert(answer.clone()) == answer, "{}: {name} answers other bits than {}", case.name(), PEERS[0]);
     }
     let mut scratch = Aligned::new(8 * case.announced());
     let mut clear = || black_box(scratch.get_mut()).fill(0.0);
-    let calls: Vec<u64> = peers.iter_mut().map(|p| batch(|| p.call(case.operation))).collect();
+    let calls: Vec<u64> = peers.iter_mut().map(|p| p.as_mut().map_or(0, |p| batch(|| p.call(case.operation)))).collect();
     let clears = batch(&mut clear);
     let rounds: Vec<Vec<f64>> = (0..ROUNDS)
         .map(|_| {
             let peers = peers.iter_mut().zip(&calls);
-            let times = peers.map(|(p, &n)| timed(n, || p.call(case.operation)));
+            let times = peers.map(|(p, &n)| p.as_mut().map_or(f64::NAN, |p| timed(n, || p.call(case.operation))));
             times.collect::<Vec<f64>>().into_iter().chain([timed(clears, &mut clear)]).collect()
         })
         .collect();
-    let time = |i: usize| format!("{:.3}", 1e6 * median(rounds.iter().map(|r| r[i]).collect()));
-    let ratio = |i: usize| format!("{:.2}", median(rounds.iter().map(|r| r[i] / r[0]).collect()));
+    let shown = |x: f64, digits: usize| if x.is_nan() { "-".to_string() } else { format!("{x:.digits$}") };
+    let time = |i: usize| shown(1e6 * median(rounds.iter().map(|r| r[i]).collect()), 3);
+    let ratio = |i: usize| shown(median(rounds.iter().map(|r| r[i] / r[0]).collect()), 2);
     let n = PEERS.len();
     let cells: Vec<String> = (0..n).map(time).chain((1..n).map(ratio)).chain([time(n)]).collect();
     format!("| {} | {} |", case.name(), cells.join(" | "))
@@ -255,9 +272,10 @@ fn main() {
         ["count", peer, name, calls] => {
             let cases = Case::all();
             let case = cases.iter().find(|c| c.name() == name).expect("a case");
-            let mut peer = Peer::new(peer, case);
-            peer.call(case.operation);
-            counted(&mut peer, case.operation, calls.parse().expect("a number of calls"));
+            if let Some(mut peer) = Peer::new(peer, case) {
+                peer.call(case.operation);
+                counted(&mut peer, case.operation, calls.parse().expect("a number of calls"));
+            }
         }
         _ => eprintln!("usage: bench | bench cases | bench peers | bench count PEER CASE CALLS"),
     }

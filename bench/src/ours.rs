@@ -75,6 +75,12 @@ impl Ours {
         self.head = told(taylor::multiply(self.ah, a, self.bh, b, out, scratch));
     }
 
+    /// The same by plain Rust that keeps the promise.
+    pub fn multiply_kept(&mut self) {
+        let (a, b, out, scratch) = (self.a.get(), self.b.get(), self.out.get_mut(), self.scratch.get_mut());
+        self.head = crate::kept::multiply(self.ah, a, self.bh, b, out, scratch).unwrap_or_else(|number| panic!("refused: {number}"));
+    }
+
     pub fn pow(&mut self) {
         let (a, out, scratch) = (self.a.get(), self.out.get_mut(), self.scratch.get_mut());
         self.head = told(taylor::pow(self.ah, a, 10, out, scratch));

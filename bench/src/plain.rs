@@ -12,19 +12,19 @@ pub struct Poly {
 
 /// A block: its lengths and coefficients.
 #[derive(Clone, Copy)]
-struct Block<'a> {
-    lengths: [usize; 4],
-    coeffs: &'a [f64],
+pub struct Block<'a> {
+    pub lengths: [usize; 4],
+    pub coeffs: &'a [f64],
 }
 
 /// c + m * v.
-struct Linear {
-    c: f64,
-    m: f64,
-    v: usize,
+pub struct Linear {
+    pub c: f64,
+    pub m: f64,
+    pub v: usize,
 }
 
-fn count(lengths: &[usize]) -> usize {
+pub fn count(lengths: &[usize]) -> usize {
     lengths.iter().product()
 }
 
@@ -34,7 +34,7 @@ fn linear_in(x: Block, v: usize) -> bool {
     x.lengths[v] > 1 && x.coeffs.iter().enumerate().all(|(i, &c)| c == 0.0 || i == 0 || i == step)
 }
 
-fn extract_linear(x: Block) -> Option<Linear> {
+pub fn extract_linear(x: Block) -> Option<Linear> {
     let v = (0..4).find(|&v| linear_in(x, v))?;
     let step = count(&x.lengths[v + 1..]);
     Some(Linear { c: x.coeffs[0], m: x.coeffs[step], v })
@@ -136,7 +136,7 @@ fn rows(xs: &[f64], ys: &[f64], res: &mut [f64], axes: &[Axis]) {
     }
 }
 
-fn general(xs: &[f64], lx: &[usize; 4], ys: &[f64], ly: &[usize; 4], res: &mut [f64], r: &[usize; 4]) {
+pub fn general(xs: &[f64], lx: &[usize; 4], ys: &[f64], ly: &[usize; 4], res: &mut [f64], r: &[usize; 4]) {
     rows(xs, ys, res, &axes(lx, ly, r));
 }
 
