@@ -5,3 +5,5 @@ pub mod Line
 pub mod Times
 pub mod Zero
 pub mod Lined
+pub mod Own
+pub mod Short

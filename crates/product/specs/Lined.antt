@@ -132,7 +132,7 @@ neither true b h = (h, decide b (λ e. e ∙ h) (λ e. e))
 neither false b h = (refl, h)
 
 -- more than one place times a constant that is not one
-by-scale : (limits : List ℕ) (c : Float) (x : Block) → (count (x .lengths) ≡ 1 → ⊥) → eq c oneF ≡ false → productOf 0 limits x (constantBlock c) ≡ scaled c x
+pub by-scale : (limits : List ℕ) (c : Float) (x : Block) → (count (x .lengths) ≡ 1 → ⊥) → eq c oneF ≡ false → productOf 0 limits x (constantBlock c) ≡ scaled c x
 unfolding productOf chosen plainProduct span
 by-scale limits c x n o = simp (ne-eqb _ _ n, o)
 

@@ -50,7 +50,7 @@ fn choose_line(a: &[f64], la: [usize; 4], b: &[f64], lb: [usize; 4]) -> Way
 }
 
 // Which way a product goes.
-fn choose(a: &[f64], la: [usize; 4], b: &[f64], lb: [usize; 4], stage: usize) -> Way
+pub fn choose(a: &[f64], la: [usize; 4], b: &[f64], lb: [usize; 4], stage: usize) -> Way
     requires { ⌜ Lengths la ⌝ ∗ ⌜ Lengths lb ⌝ ∗ ⌜ length (now a) ≡ count la ⌝ ∗ ⌜ length (now b) ≡ count lb ⌝ }
     ensures { λ r. ⌜ r ≡ chosen stage (block la (now (a .entry))) (block lb (now (b .entry))) ⌝ }
 {
@@ -93,7 +93,7 @@ fn choose(a: &[f64], la: [usize; 4], b: &[f64], lb: [usize; 4], stage: usize) ->
 }
 
 // c times each place.
-fn scale(c: f64, a: &[f64], to: &mut [f64])
+pub fn scale(c: f64, a: &[f64], to: &mut [f64])
     requires { ⌜ length (now to) ≡ length (now a) ⌝ }
     ensures { λ _. ⌜ now (to .exit) ≡ table (length (now (a .entry))) (scaledAt c (now (a .entry))) ⌝ }
 {
@@ -397,7 +397,7 @@ fn line_row(a: &[f64], c: f64, m: f64, s: usize, to: &mut [f64])
 }
 
 // Row by row, each of `width` places in `a` and of `step` in `to`.
-fn line_rows(a: &[f64], c: f64, m: f64, s: usize, width: usize, step: usize, to: &mut [f64])
+pub fn line_rows(a: &[f64], c: f64, m: f64, s: usize, width: usize, step: usize, to: &mut [f64])
     requires { ⌜ Rows s width step (length (now a)) (length (now to)) ⌝ ∗ ⌜ (s ≤ width) × (width ≤ step) ⌝ }
     ensures { λ _. ⌜ now (to .exit) ≡ table (length (now (to .entry))) (linedFlat c m s width step (now (a .entry))) ⌝ }
 {

@@ -1,5 +1,6 @@
 // The product of two polynomials (document 01, port order 4). The entry takes any words and buffers.
 pub mod kernel;
+mod own;
 
 use model::Answer;
 use model::Header;
@@ -7,8 +8,8 @@ use words::word::pack;
 ghost use mathlib.Core.Path.{_≡_};
 ghost use Rattle.model.specs.Product.{productAnswer, productOut, productScratch};
 
-// a * b, cut to the smaller limits: refusals 1, 2, 5, 6.
-pub fn multiply(
+// The product, whatever the limits and the ways.
+fn multiply_opened(
     ah: u64,
     a: &[f64],
     bh: u64,
@@ -51,4 +52,24 @@ pub fn multiply(
         limits: l,
         lengths: r,
     }))
+}
+
+// a * b, cut to the smaller limits: refusals 1, 2, 5, 6.
+pub fn multiply(
+    ah: u64,
+    a: &[f64],
+    bh: u64,
+    b: &[f64],
+    out: &mut [f64],
+    scratch: &mut [f64],
+) -> Answer
+    ensures answer { λ r. ⌜ r ≡ productAnswer ah (now (a .entry)) bh (now (b .entry)) (now (out .entry)) (now (scratch .entry)) ⌝ }
+    ensures written { λ r. ⌜ now (out .exit) ≡ productOut ah (now (a .entry)) bh (now (b .entry)) (now (out .entry)) (now (scratch .entry)) ⌝ }
+    ensures cleared { λ r. ⌜ now (scratch .exit) ≡ productScratch ah (now (a .entry)) bh (now (b .entry)) (now (out .entry)) (now (scratch .entry)) ⌝ }
+{
+    let w = own::short_way(ah, a, bh, b, out.len(), scratch.len());
+    if w.kind != 6 {
+        return own::multiply_short(w, ah, a, out, scratch);
+    }
+    multiply_opened(ah, a, bh, b, out, scratch)
 }

@@ -1,78 +1,15 @@
 use native.Mathlib.Omega.{arith}
-use mathlib.Core.Path.{_≡_, sym, ap, _∙_}
-use mathlib.Core.List.{_++_}
-use Prim.Native.Nat.{ℕ, _*_, _≤_}
-use lib.ListN.{length, drop, length-append}
-use lib.Seq.{length-take-le}
-use Rattle.model.specs.Poly.{Poly, held}
-use Rattle.model.specs.Gates.{announcedPair}
-use Rattle.model.specs.Word.{wordOf}
-use Rattle.gates.specs.Open.{told-by, opened-ready, opened-count, opened-fits}
-use Rattle.model.specs.declared.Family.the-variants.{Product}
-use Rattle.model.specs.Header.{header}
-use Rattle.model.specs.Product.{productPoly, productAnswer, productOut, productScratch}
-use Rattle.blocks.specs.Entry.{refused-answer, refused-out, refused-scratch, done-answer, done-out, done-scratch}
-use Rattle.product.specs.Times.{entry-times, entry-ruled, entry-head, entry-out}
+use mathlib.Core.Path.{refl, _∙_}
+use Rattle.product.specs.Short.{short-room, short-answer, short-out, short-scratch}
 use borrow.Author.Needs.{needs}
 use Rattle.product.proofs.multiply.Statement.{statement}
 use Rattle.product.proofs.multiply.Tie as tie
 
-abbrev value : tie.Start → Poly
-value c = productPoly (held (c .args .ah) (c .args .a .now)) (held (c .args .bh) (c .args .b .now))
+short-way-requires : tie.Need-short-way-requires
+short-way-requires c κs = search needs
 
-head : (c : tie.After-multiply-into) → header (c .before .before .before .before .before .before .before .before .before .before .before .before .before .before .open-product .result .told .vars) (c .before .before .before .before .before .before .before .before .before .before .before .before .before .before .open-product .result .told .limits) (c .multiply-into .result) ≡ value (c .before .before .before .before .before .before .before .before .before .before .before .before .before .before .before .before .before .before .before) .head
-head c =
-    let t = c .before .before .before .before .before .before .before .before .before .before .before .before .before .before .open-product .ensures .tells (c .before .before .before .before .before .before .before .before .before .before .before .if1 .left) in
-    entry-head (c .before .before .before .before .before .before .before .before .before .before .before .before .before .before .before .before .before .before .before .args .ah) (c .before .before .before .before .before .before .before .before .before .before .before .before .before .before .before .before .before .before .before .args .a .now) (c .before .before .before .before .before .before .before .before .before .before .before .before .before .before .before .before .before .before .before .args .bh) (c .before .before .before .before .before .before .before .before .before .before .before .before .before .before .before .before .before .before .before .args .b .now) (t .left) (t .right) (told-by Product t) (t .count-a) (t .count-b) (c .multiply-into .ensures .0)
-
-used : (c : tie.After-multiply-into) → length (c .multiply-into .last .1 .1 .1 .1 .1 .1 .1 .0) ≡ 8 * c .before .before .before .before .before .before .before .before .before .before .before .before .before .before .open-product .result .n
-used c = c .multiply-into .kept .1 .1 .1 .1 .1 .1 .1 .0 ∙ length-take-le _ _ (opened-fits (c .before .before .before .before .before .before .before .before .before .before .before .before .before .before .open-product .ensures) (c .before .before .before .before .before .before .before .before .before .before .before .if1 .left) .3)
-
-rooms : (c : tie.After-multiply-into) → 8 * c .before .before .before .before .before .before .before .before .before .before .before .before .before .before .open-product .result .n ≤ length (c .multiply-into .last .1 .1 .1 .1 .1 .1 .1 .0 ++ drop (8 * c .before .before .before .before .before .before .before .before .before .before .before .before .before .before .open-product .result .n) (c .before .before .before .before .before .before .before .before .before .before .before .before .before .before .before .before .before .before .before .args .scratch .now))
-rooms c = simp length-append (omega (arith, used c))
-
-open-product-requires : tie.Need-open-product-requires
-open-product-requires c κs = search needs
-
-returns : tie.Need-returns
-unfolding productAnswer productOut productScratch
-returns c = let e = (c .before .before .before .open-product .ensures .refusal) in let n = c .if1 .taken in (refused-answer e (announcedPair Product (c .before .before .before .before .before .before .before .before .args .ah) (c .before .before .before .before .before .before .before .before .args .bh)) (value (c .before .before .before .before .before .before .before .before)) n, (refused-out e (announcedPair Product (c .before .before .before .before .before .before .before .before .args .ah) (c .before .before .before .before .before .before .before .before .args .bh)) (value (c .before .before .before .before .before .before .before .before)) n (c .before .before .before .before .before .before .before .before .args .out .now), refused-scratch e (announcedPair Product (c .before .before .before .before .before .before .before .before .args .ah) (c .before .before .before .before .before .before .before .before .args .bh)) (value (c .before .before .before .before .before .before .before .before)) n (c .before .before .before .before .before .before .before .before .args .scratch .now)))
-
-mul-room : tie.Need-mul-room
-mul-room c = omega (arith, (opened-count (c .before .before .before .before .before .before .before .before .before .open-product .ensures) (c .before .before .before .before .before .before .if1 .left)), (opened-ready (c .before .before .before .before .before .before .before .before .before .open-product .ensures) (c .before .before .before .before .before .before .if1 .left)) .announced .most)
-
-slice-aggregate-multiply-into : tie.Need-slice-aggregate-multiply-into
-slice-aggregate-multiply-into c = sym (length-take-le _ _ (opened-fits (c .before .before .before .before .before .before .before .before .before .before .open-product .ensures) (c .before .before .before .before .before .before .before .if1 .left) .0))
-
-slice-aggregate-multiply-into-2 : tie.Need-slice-aggregate-multiply-into-2
-slice-aggregate-multiply-into-2 c = sym (length-take-le _ _ (opened-fits (c .before .before .before .before .before .before .before .before .before .before .before .open-product .ensures) (c .before .before .before .before .before .before .before .before .if1 .left) .1))
-
-slice-relend-prefix-multiply-into : tie.Need-slice-relend-prefix-multiply-into
-slice-relend-prefix-multiply-into c = opened-fits (c .before .before .before .before .before .before .before .before .before .before .before .open-product .ensures) (c .before .before .before .before .before .before .before .before .if1 .left) .2
-
-slice-aggregate-multiply-into-3 : tie.Need-slice-aggregate-multiply-into-3
-slice-aggregate-multiply-into-3 c = sym (length-take-le _ _ (opened-fits (c .before .before .before .before .before .before .before .before .before .before .before .before .open-product .ensures) (c .before .before .before .before .before .before .before .before .before .if1 .left) .2))
-
-slice-relend-prefix-multiply-into-2 : tie.Need-slice-relend-prefix-multiply-into-2
-slice-relend-prefix-multiply-into-2 c = opened-fits (c .before .before .before .before .before .before .before .before .before .before .before .before .open-product .ensures) (c .before .before .before .before .before .before .before .before .before .if1 .left) .3
-
-slice-aggregate-multiply-into-4 : tie.Need-slice-aggregate-multiply-into-4
-slice-aggregate-multiply-into-4 c = sym (length-take-le _ _ (opened-fits (c .before .before .before .before .before .before .before .before .before .before .before .before .before .open-product .ensures) (c .before .before .before .before .before .before .before .before .before .before .if1 .left) .3))
-
-multiply-into-requires : tie.Need-multiply-into-requires
-multiply-into-requires c κs = let f = opened-fits (c .before .before .before .before .before .before .before .before .before .before .before .before .before .open-product .ensures) (c .before .before .before .before .before .before .before .before .before .before .if1 .left) in let t = c .before .before .before .before .before .before .before .before .before .before .before .before .before .open-product .ensures .tells (c .before .before .before .before .before .before .before .before .before .before .if1 .left) in entry-times (opened-ready (c .before .before .before .before .before .before .before .before .before .before .before .before .before .open-product .ensures) (c .before .before .before .before .before .before .before .before .before .before .if1 .left)) (t .left) (t .right) (told-by Product t) (t .count-a) (t .count-b) (t .count) (length-take-le _ _ (f .0)) (length-take-le _ _ (f .1)) (length-take-le _ _ (f .2)) (length-take-le _ _ (f .3))
-
-slice-relend-prefix-clear : tie.Need-slice-relend-prefix-clear
-slice-relend-prefix-clear c = rooms (c .before .before .before .before)
-
-slice-aggregate-clear : tie.Need-slice-aggregate-clear
-slice-aggregate-clear c = sym (length-take-le _ _ (rooms (c .before .before .before .before .before)))
-
-clear-requires : tie.Need-clear-requires
-clear-requires c κs = search needs
-
-pack-requires : tie.Need-pack-requires
-pack-requires c κs = rw (head (c .before .before .before .before .before .before .before .before)) (entry-ruled (opened-ready (c .before .before .before .before .before .before .before .before .before .before .before .before .before .before .before .before .before .before .before .before .before .before .open-product .ensures) (c .before .before .before .before .before .before .before .before .before .before .before .before .before .before .before .before .before .before .before .if1 .left)) (c .before .before .before .before .before .before .before .before .before .before .before .before .before .before .before .before .before .before .before .before .before .before .before .before .before .before .before .args .a .now) (c .before .before .before .before .before .before .before .before .before .before .before .before .before .before .before .before .before .before .before .before .before .before .before .before .before .before .before .args .b .now))
+multiply-short-requires : tie.Need-multiply-short-requires
+multiply-short-requires c κs = short-room (c .before .before .before .before .short-way .ensures (c .before .before .if1 .taken)) refl refl
 
 same-length : tie.Need-same-length
 same-length c = search needs
@@ -80,28 +17,31 @@ same-length c = search needs
 same-length-2 : tie.Need-same-length-2
 same-length-2 c = search needs
 
+returns : tie.Need-returns
+returns c = let s = (c .before .before .before .before .before .before .before .before .before .short-way .ensures (c .before .before .before .before .before .before .before .if1 .taken)) in (c .before .before .before .before .multiply-short .ensures .0 ∙ short-answer s (omega (arith, c .before .before .before .before .before .before .before .before .before .before .before .before .before .before .fits .ah)) (c .before .before .before .before .before .before .before .before .before .before .before .before .before .before .args .out .now) (c .before .before .before .before .before .before .before .before .before .before .before .before .before .before .args .scratch .now) refl refl, (c .before .before .before .before .multiply-short .ensures .1 .0 ∙ short-out s (c .before .before .before .before .before .before .before .before .before .before .before .before .before .before .args .out .now) (c .before .before .before .before .before .before .before .before .before .before .before .before .before .before .args .scratch .now) refl refl, c .before .before .before .before .multiply-short .ensures .1 .1 ∙ short-scratch s (c .before .before .before .before .before .before .before .before .before .before .before .before .before .before .args .out .now) (c .before .before .before .before .before .before .before .before .before .before .before .before .before .before .args .scratch .now) refl refl))
+
+multiply-opened-requires : tie.Need-multiply-opened-requires
+multiply-opened-requires c κs = search needs
+
+same-length-3 : tie.Need-same-length-3
+same-length-3 c = search needs
+
+same-length-4 : tie.Need-same-length-4
+same-length-4 c = search needs
+
 returns-2 : tie.Need-returns-2
-unfolding productAnswer productOut productScratch
-returns-2 c = let e = (c .before .before .before .before .before .before .before .before .before .before .before .before .before .before .before .before .before .before .before .before .before .before .before .open-product .ensures .refusal) in let z = (c .before .before .before .before .before .before .before .before .before .before .before .before .before .before .before .before .before .before .before .before .if1 .left) in let n = (opened-count (c .before .before .before .before .before .before .before .before .before .before .before .before .before .before .before .before .before .before .before .before .before .before .before .open-product .ensures) (c .before .before .before .before .before .before .before .before .before .before .before .before .before .before .before .before .before .before .before .before .if1 .left)) in let t = c .before .before .before .before .before .before .before .before .before .before .before .before .before .before .before .before .before .before .before .before .before .before .before .open-product .ensures .tells (c .before .before .before .before .before .before .before .before .before .before .before .before .before .before .before .before .before .before .before .before .if1 .left) in (done-answer e (announcedPair Product (c .before .before .before .before .before .before .before .before .before .before .before .before .before .before .before .before .before .before .before .before .before .before .before .before .before .before .before .before .args .ah) (c .before .before .before .before .before .before .before .before .before .before .before .before .before .before .before .before .before .before .before .before .before .before .before .before .before .before .before .before .args .bh)) (value (c .before .before .before .before .before .before .before .before .before .before .before .before .before .before .before .before .before .before .before .before .before .before .before .before .before .before .before .before)) z (c .pack .ensures ∙ ap wordOf (head (c .before .before .before .before .before .before .before .before .before))), (done-out e (announcedPair Product (c .before .before .before .before .before .before .before .before .before .before .before .before .before .before .before .before .before .before .before .before .before .before .before .before .before .before .before .before .args .ah) (c .before .before .before .before .before .before .before .before .before .before .before .before .before .before .before .before .before .before .before .before .before .before .before .before .before .before .before .before .args .bh)) (value (c .before .before .before .before .before .before .before .before .before .before .before .before .before .before .before .before .before .before .before .before .before .before .before .before .before .before .before .before)) z (c .before .before .before .before .before .before .before .before .before .before .before .before .before .before .before .before .before .before .before .before .before .before .before .before .before .before .before .before .args .out .now) n (entry-out (c .before .before .before .before .before .before .before .before .before .before .before .before .before .before .before .before .before .before .before .before .before .before .before .before .before .before .before .before .args .ah) (c .before .before .before .before .before .before .before .before .before .before .before .before .before .before .before .before .before .before .before .before .before .before .before .before .before .before .before .before .args .a .now) (c .before .before .before .before .before .before .before .before .before .before .before .before .before .before .before .before .before .before .before .before .before .before .before .before .before .before .before .before .args .bh) (c .before .before .before .before .before .before .before .before .before .before .before .before .before .before .before .before .before .before .before .before .before .before .before .before .before .before .before .before .args .b .now) (t .left) (t .right) (told-by Product t) (t .count-a) (t .count-b) (c .before .before .before .before .before .before .before .before .before .before .before .before .before .before .before .before .before .before .before .before .before .before .before .open-product .result .n) (c .before .before .before .before .before .before .before .before .before .multiply-into .ensures .1)), done-scratch e (announcedPair Product (c .before .before .before .before .before .before .before .before .before .before .before .before .before .before .before .before .before .before .before .before .before .before .before .before .before .before .before .before .args .ah) (c .before .before .before .before .before .before .before .before .before .before .before .before .before .before .before .before .before .before .before .before .before .before .before .before .before .before .before .before .args .bh)) (value (c .before .before .before .before .before .before .before .before .before .before .before .before .before .before .before .before .before .before .before .before .before .before .before .before .before .before .before .before)) z (c .before .before .before .before .before .before .before .before .before .before .before .before .before .before .before .before .before .before .before .before .before .before .before .before .before .before .before .before .args .scratch .now) (c .before .before .before .before .before .before .before .before .before .multiply-into .last .1 .1 .1 .1 .1 .1 .1 .0) (ap (λ (k : ℕ). 8 * k) n) (used (c .before .before .before .before .before .before .before .before .before)) (c .before .before .before .clear .ensures) (length-take-le _ _ (rooms (c .before .before .before .before .before .before .before .before .before)))))
+returns-2 c = search needs
 
 pub multiply-spec : {M : Type 1} → statement M
 multiply-spec =
     tie.close
     (tie.spec
-    open-product-requires
-    returns
-    mul-room
-    slice-aggregate-multiply-into
-    slice-aggregate-multiply-into-2
-    slice-relend-prefix-multiply-into
-    slice-aggregate-multiply-into-3
-    slice-relend-prefix-multiply-into-2
-    slice-aggregate-multiply-into-4
-    multiply-into-requires
-    slice-relend-prefix-clear
-    slice-aggregate-clear
-    clear-requires
-    pack-requires
+    short-way-requires
+    multiply-short-requires
     same-length
     same-length-2
+    returns
+    multiply-opened-requires
+    same-length-3
+    same-length-4
     returns-2)

@@ -1,0 +1,70 @@
+use Rattle.product.specs.Short.{short-written, short-cleared}
+use native.Mathlib.Omega.{arith}
+use mathlib.Core.Path.{_≡_, refl, sym, ap, _∙_}
+use lib.Seq.{length-take-le}
+use Rattle.model.specs.Header.{stored}
+use Rattle.model.specs.Word.{headerOf}
+use Rattle.words.specs.Lengths.{lengths-of}
+use borrow.Author.Needs.{needs}
+use Rattle.product.proofs.own.multiply_short.Statement.{statement}
+use Rattle.product.proofs.own.multiply_short.Tie as tie
+
+counted : (c : tie.After-stored-of) → c .stored-of .result ≡ stored (headerOf (c .before .before .before .before .before .before .args .ah))
+counted c = c .stored-of .ensures ∙ ap stored (c .before .before .header-of .ensures)
+
+header-of-requires : tie.Need-header-of-requires
+header-of-requires c κs = search needs
+
+stored-of-requires : tie.Need-stored-of-requires
+stored-of-requires c κs = rw (c .before .header-of .ensures) (c .before .before .before .before .before .pre .good .regular .rules)
+
+mul-room : tie.Need-mul-room
+mul-room c = omega (arith, counted (c), c .before .before .before .before .before .before .pre .good .most)
+
+slice-aggregate-short-into : tie.Need-slice-aggregate-short-into
+slice-aggregate-short-into c = sym (length-take-le _ _ (omega (arith, counted (c .before), c .before .before .before .before .before .before .before .pre .full)))
+
+slice-relend-prefix-short-into : tie.Need-slice-relend-prefix-short-into
+slice-relend-prefix-short-into c = omega (arith, counted (c .before), c .before .before .before .before .before .before .before .pre .lent)
+
+slice-aggregate-short-into-2 : tie.Need-slice-aggregate-short-into-2
+slice-aggregate-short-into-2 c = sym (length-take-le _ _ (omega (arith, counted (c .before .before), c .before .before .before .before .before .before .before .before .pre .lent)))
+
+short-into-requires : tie.Need-short-into-requires
+short-into-requires c κs = record { lens = lengths-of {h = c .before .before .before .before .header-of .result} (rw (c .before .before .before .before .header-of .ensures) (c .before .before .before .before .before .before .before .before .pre .good .regular .rules)); full = length-take-le _ _ (omega (arith, counted (c .before .before), c .before .before .before .before .before .before .before .before .pre .full)) ∙ c .before .before .stored-of .ensures; room = length-take-le _ _ (omega (arith, counted (c .before .before), c .before .before .before .before .before .before .before .before .pre .lent)) ∙ c .before .before .stored-of .ensures; var = c .before .before .before .before .before .before .before .before .pre .var }
+
+slice-relend-prefix-clear : tie.Need-slice-relend-prefix-clear
+slice-relend-prefix-clear c = omega (arith, counted (c .before .before .before .before .before), c .before .before .before .before .before .before .before .before .before .before .before .pre .room)
+
+slice-aggregate-clear : tie.Need-slice-aggregate-clear
+slice-aggregate-clear c = sym (length-take-le _ _ (omega (arith, counted (c .before .before .before .before .before .before), c .before .before .before .before .before .before .before .before .before .before .before .before .pre .room)))
+
+clear-requires : tie.Need-clear-requires
+clear-requires c κs = search needs
+
+same-length : tie.Need-same-length
+same-length c = search needs
+
+same-length-2 : tie.Need-same-length-2
+same-length-2 c = search needs
+
+returns : tie.Need-returns
+returns c = (refl, (short-written (headerOf (c .before .before .before .before .before .before .before .before .before .before .before .before .before .before .before .args .ah)) (counted (c .before .before .before .before .before .before .before .before .before)) (c .before .before .before .before .before .before .before .before .before .before .before .before .before .before .before .args .out .now) (c .before .before .before .before .before .before .before .before .before .before .before .before .before .before .before .args .w) (c .before .before .before .before .before .before .before .before .before .before .before .header-of .ensures) (c .before .before .before .before .before .before .before .before .before .before .before .before .before .before .before .args .a .now) (c .before .before .before .before .before .before .short-into .ensures), short-cleared (headerOf (c .before .before .before .before .before .before .before .before .before .before .before .before .before .before .before .args .ah)) (counted (c .before .before .before .before .before .before .before .before .before)) (c .before .before .before .before .before .before .before .before .before .before .before .before .before .before .before .args .scratch .now) (c .before .before .clear .ensures) (length-take-le _ _ (omega (arith, counted (c .before .before .before .before .before .before .before .before .before), c .before .before .before .before .before .before .before .before .before .before .before .before .before .before .before .pre .room)))))
+
+pub multiply-short-spec : {M : Type 1} → statement M
+multiply-short-spec =
+    tie.close
+    (tie.spec
+    header-of-requires
+    stored-of-requires
+    mul-room
+    slice-aggregate-short-into
+    slice-relend-prefix-short-into
+    slice-aggregate-short-into-2
+    short-into-requires
+    slice-relend-prefix-clear
+    slice-aggregate-clear
+    clear-requires
+    same-length
+    same-length-2
+    returns)

@@ -1,0 +1,64 @@
+use native.Mathlib.Omega.{arith}
+use mathlib.Core.List.{List}
+use mathlib.Core.Path.{refl, ap}
+use Prim.Native.Nat.{ℕ}
+use native.Mathlib.Nat.{le-refl}
+use Rattle.lists.specs.Four.{at}
+use Rattle.product.specs.Raise.{raise-rows, raise-small, lined-rows, lined-is}
+use Rattle.product.specs.Short.{short-raising, scaled-short, lined-short}
+use borrow.Author.Needs.{needs}
+use Rattle.product.proofs.own.short_into.Statement.{statement}
+use Rattle.product.proofs.own.short_into.Tie as tie
+
+scale-requires : tie.Need-scale-requires
+scale-requires c κs = search needs
+
+same-length : tie.Need-same-length
+same-length c = search needs
+
+returns : tie.Need-returns
+returns c = scaled-short (c .before .before .before .before .before .before .before .before .before .args .w) (c .before .before .before .before .before .before .before .before .before .args .t3) (c .before .before .before .before .before .before .before .before .before .args .a .now) (c .before .before .before .before .if1 .taken) (c .before .before .before .before .before .before .before .before .before .pre .full) (c .before .before .scale .ensures)
+
+strides-of-requires : tie.Need-strides-of-requires
+strides-of-requires c κs = search needs
+
+mul-s : tie.Need-mul-s
+mul-s c = omega (arith, c .before .before .before .before .before .before .pre .var (c .before .if1 .left))
+
+array-read-s : tie.Need-array-read-s
+array-read-s c = omega (arith, c .before .before .before .before .before .before .pre .var (c .before .if1 .left))
+
+mul-width : tie.Need-mul-width
+mul-width c = omega (arith, c .before .before .before .before .before .before .pre .var (c .before .if1 .left))
+
+array-read-width : tie.Need-array-read-width
+array-read-width c = omega (arith, c .before .before .before .before .before .before .pre .var (c .before .if1 .left))
+
+mul-width-2 : tie.Need-mul-width-2
+mul-width-2 c = omega (arith, raise-small (short-raising (c .before .before .before .before .before .before .pre) (c .before .if1 .left)) (ap (λ (l : List ℕ). at l (c .before .before .before .before .before .before .args .w .line .variable)) (c .strides-of .ensures)) refl refl .0)
+
+line-rows-requires : tie.Need-line-rows-requires
+line-rows-requires c κs = let t = short-raising (c .before .before .before .before .before .before .before .pre) (c .before .before .if1 .left) in (raise-rows t (ap (λ (l : List ℕ). at l (c .before .before .before .before .before .before .before .args .w .line .variable)) (c .before .strides-of .ensures)) refl refl, lined-rows t (ap (λ (l : List ℕ). at l (c .before .before .before .before .before .before .before .args .w .line .variable)) (c .before .strides-of .ensures)) refl refl (le-refl _))
+
+same-length-2 : tie.Need-same-length-2
+same-length-2 c = search needs
+
+returns-2 : tie.Need-returns-2
+returns-2 c = lined-short (c .before .before .before .before .before .before .before .before .before .before .args .w) (c .before .before .before .before .before .before .before .before .before .before .args .t3) (c .before .before .before .before .before .before .before .before .before .before .args .a .now) (c .before .before .before .before .before .if1 .left) (lined-is (short-raising (c .before .before .before .before .before .before .before .before .before .before .pre) (c .before .before .before .before .before .if1 .left)) (ap (λ (l : List ℕ). at l (c .before .before .before .before .before .before .before .before .before .before .args .w .line .variable)) (c .before .before .before .before .strides-of .ensures)) refl refl (c .before .before .before .before .before .before .before .before .before .before .args .w .line .c) (c .before .before .before .before .before .before .before .before .before .before .args .w .line .m) (c .before .before .before .before .before .before .before .before .before .before .args .a .now) (c .before .before .line-rows .ensures))
+
+pub short-into-spec : {M : Type 1} → statement M
+short-into-spec =
+    tie.close
+    (tie.spec
+    scale-requires
+    same-length
+    returns
+    strides-of-requires
+    mul-s
+    array-read-s
+    mul-width
+    array-read-width
+    mul-width-2
+    line-rows-requires
+    same-length-2
+    returns-2)
