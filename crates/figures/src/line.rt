@@ -1,9 +1,9 @@
 // A line for each stored place.
 use crate::number::put_float;
-use crate::number::put_if;
 use model::Header;
 use readings::kernel::sum_to;
 use report::put::put;
+use report::put::put_if;
 use report::put::put_number;
 use shape::limits::least;
 use words::places::index_of;

@@ -1,18 +1,11 @@
 // Floats in a report: whole numbers in decimal, others as the hex digits of their words.
 use bits::word_of;
 use report::put::put;
+use report::put::put_if;
 use report::put::put_number;
 use text::print::put_word;
-ghost use Rattle.model.specs.Report.{when};
 ghost use Rattle.report.specs.Puts.{Puts};
 ghost use Rattle.model.specs.Number.{signedText, hexText, wordText, numberText};
-
-// A text only where a test passed.
-pub fn put_if(test: bool, bytes: &[u8], at: usize, to: &mut [u8]) -> usize
-    ensures { λ r. ⌜ Puts (when test (now (bytes .entry))) at (now (to .entry)) (now (to .exit)) r ⌝ }
-{
-    if test { put(bytes, at, to) } else { at }
-}
 
 // The sign that a word has, and a size.
 fn put_whole(word: u64, size: u64, at: usize, to: &mut [u8]) -> usize

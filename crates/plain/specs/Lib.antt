@@ -1,1 +1,4 @@
 pub mod Tells
+pub mod Front
+pub mod Traces
+pub mod Long

@@ -2,18 +2,10 @@
 // No contract can say what is read or printed. `sheet::answer` says what is printed for a text, and that as much of it as is read here decides (sheet-front).
 use libc::STDIN_FILENO;
 use libc::STDOUT_FILENO;
-ghost use mathlib.Core.Path.{_≡_};
-ghost use lib.ListN.{replicate};
-
-// Memory for a sheet, and one byte that would be too many.
-fn memory() -> [u8; 1115218]
-    ensures { λ r. ⌜ r ≡ replicate 1115218 0 ⌝ }
-{
-    [0u8; 1115218]
-}
+use text::line::sheet_memory;
 
 fn main() {
-    let mut text = memory();
+    let mut text = sheet_memory();
     let mut output = [0u8; 4378];
     let got = io::read_full(STDIN_FILENO, &mut text);
     let n = sheet::answer(&text[..got], &mut output);

@@ -37,10 +37,10 @@ joined-each f (suc n) k l =
     (λ t. let e : k ≡ n = eqb-true k n t in rw e (within-behind (joined f n) (record { before = []; after = []; is = sym (append-nil (f n)) })))
     (λ t. let d = eqb-false k n t in within-before (f n) (joined-each f n k (omega (arith, d))))
 
-abbrev lineOne : List ℕ
+abbrev pub lineOne : List ℕ
 lineOne = bytes "Each place: what it is, its number of variables, and of each variable the\n"
 
-abbrev lineTwo : List ℕ
+abbrev pub lineTwo : List ℕ
 lineTwo = bytes "limit/stored length. Operands are places, v is a variable, n a number.\n"
 
 module _ (known : List Header) (ss : List ℕ) (inputs n : ℕ) where

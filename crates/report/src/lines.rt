@@ -1,5 +1,6 @@
 // A line for each place.
 use crate::put::put;
+use crate::put::put_if;
 use crate::put::tell;
 use crate::put::tell_if;
 use kinds::gate::head_at;
@@ -9,9 +10,8 @@ use trace::cut::uses_in;
 use trace::decide::step_word;
 ghost use mathlib.Core.List.{map};
 ghost use Prim.Native.Nat.{_<_};
-ghost use Rattle.lists.specs.Bytes.{bytes};
 ghost use Rattle.model.specs.Word.{headerOf};
-ghost use Rattle.model.specs.Report.{when, joined, pairText, shapeText, kindText, fieldsText, stepText, whatText, placeText};
+ghost use Rattle.model.specs.Report.{joined, pairText, shapeText, kindText, fieldsText, stepText, whatText, placeText};
 ghost use Rattle.report.specs.Puts.{Puts};
 
 // The limit and the stored length of the variable v, if there is one.
@@ -38,18 +38,12 @@ fn put_pairs(h: Header, at: usize, to: &mut [u8]) -> usize
     next
 }
 
-fn put_colon_if(test: bool, at: usize, to: &mut [u8]) -> usize
-    ensures { λ r. ⌜ Puts (when test (bytes ":")) at (now (to .entry)) (now (to .exit)) r ⌝ }
-{
-    if test { put(b":", at, to) } else { at }
-}
-
 // The number of variables, and of each the limit and the stored length.
 fn put_shape(h: Header, at: usize, to: &mut [u8]) -> usize
     ensures { λ r. ⌜ Puts (shapeText h) at (now (to .entry)) (now (to .exit)) r ⌝ }
 {
     let a = tell(b"; vars ", h.vars, at, to);
-    let b = put_colon_if(0 < h.vars, a, to);
+    let b = put_if(0 < h.vars, b":", a, to);
     let c = put_pairs(h, b, to);
     put(b"\n", c, to)
 }

@@ -5,6 +5,7 @@ use text::print::put_decimal;
 ghost use mathlib.Core.Bool.{cond};
 ghost use mathlib.Core.List.{[], _++_};
 ghost use Rattle.model.specs.Printed.{decimal};
+ghost use Rattle.model.specs.Report.{when};
 ghost use Rattle.report.specs.Puts.{Puts};
 
 pub fn put(bytes: &[u8], at: usize, to: &mut [u8]) -> usize
@@ -15,6 +16,13 @@ pub fn put(bytes: &[u8], at: usize, to: &mut [u8]) -> usize
     }
     let n = least(bytes.len(), to.len() - at);
     put_bytes(&bytes[..n], at, to)
+}
+
+// A text only where a test passed.
+pub fn put_if(test: bool, bytes: &[u8], at: usize, to: &mut [u8]) -> usize
+    ensures { λ r. ⌜ Puts (when test (now (bytes .entry))) at (now (to .entry)) (now (to .exit)) r ⌝ }
+{
+    if test { put(bytes, at, to) } else { at }
 }
 
 pub fn put_number(n: usize, at: usize, to: &mut [u8]) -> usize

@@ -3,7 +3,7 @@
 use Prim.Native.Nat.{ℕ, zero, suc, _+_, _/_, _%_, _^_, _≤_, _<_}
 use mathlib.Core.List.{List}
 use mathlib.Core.Bool.{Bool, true, false, _&&_, cond}
-use mathlib.Core.Path.{_≡_, refl}
+use mathlib.Core.Path.{_≡_, refl, ap}
 use native.Mathlib.Omega.{arith}
 use lib.Dec.{eqb, leb, ltb, lit<}
 use lib.ListN.{length}
@@ -49,9 +49,20 @@ module _ (r : Refusal) (few : r .number < 32) where
   unfolding readBy
   read-low x = decide (isNone r) (λ t. simp t (omega (arith, eqb-true (r .number) 0 t))) (λ t. simp t (omega arith))
 
+-- the refusal that a word stands for
+abbrev pub refusalFrom : ℕ → Refusal
+refusalFrom w = refusedAt (w % 256) (w / 256)
+
+pub refusal-from : (r : Refusal) → r .number < 256 → refusalFrom (wordOfRefusal r) ≡ r
+refusal-from r few =
+    let w = wordOfRefusal r in
+    let n : w % 256 ≡ r .number = omega arith in
+    let p : w / 256 ≡ r .place = omega arith in
+    rw (n, p)
+
 -- the answer that a word stands for
 unfoldable pub answerFrom : ℕ → Answer
-answerFrom w = cond (eqb (w % 32) 0) (Done w) (Refused (refusedAt (w % 256) (w / 256)))
+answerFrom w = cond (eqb (w % 32) 0) (Done w) (Refused (refusalFrom w))
 
 -- done
 word-back : (w : ℕ) → w % 32 ≡ 0 → answerFrom w ≡ Done w
@@ -62,11 +73,8 @@ word-back w e = rw e
 refusal-back : (r : Refusal) → r .number < 32 → (r .number ≡ 0 → ⊥) → answerFrom (wordOfRefusal r) ≡ Refused r
 unfolding answerFrom
 refusal-back r few n =
-    let w = wordOfRefusal r in
-    let a : w % 32 ≡ r .number = omega arith in
-    let b : w % 256 ≡ r .number = omega arith in
-    let d : w / 256 ≡ r .place = omega arith in
-    rw (a, b, d, ne-eqb _ _ n)
+    let a : wordOfRefusal r % 32 ≡ r .number = omega arith in
+    rw (a, ne-eqb _ _ n) (ap Refused (refusal-from r (omega arith)))
 
 pub back : (r : Refusal) → r .number < 32 → (h : Header) → answerFrom (wordOfAnswer (answerBy r (wordOf h))) ≡ answerBy r (wordOf h)
 unfolding answerBy wordOf

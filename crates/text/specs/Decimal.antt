@@ -12,7 +12,7 @@ use Rattle.lists.specs.Test.{decide}
 use Rattle.model.specs.Printed.{lastDigit, digits, decimal}
 
 -- one digit less
-tenth : (k n : ℕ) → n < 10 ^ suc k → n / 10 < 10 ^ k
+pub tenth : (k n : ℕ) → n < 10 ^ suc k → n / 10 < 10 ^ k
 tenth k n h = let e = pow-suc 10 k in omega (arith, e)
 
 -- more digits than there are make no difference

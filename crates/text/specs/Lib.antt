@@ -2,3 +2,4 @@ pub mod Put
 pub mod Lines
 pub mod Texts
 pub mod Decimal
+pub mod Value

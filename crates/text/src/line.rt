@@ -1,7 +1,15 @@
 // Lines of a text: 16 lower-case hex digits and a newline. A byte past the end counts as 0.
 ghost use mathlib.Core.Path.{_≡_};
 ghost use Prim.Native.Nat.{_≤_, _<_};
+ghost use lib.ListN.{replicate};
 ghost use Rattle.model.specs.Hex.{isDigit, digitOf, byteAt, isLine, wordAt};
+
+// Memory for the lines of the longest sheet, and one byte that would be too many.
+pub fn sheet_memory() -> [u8; 1115218]
+    ensures { λ r. ⌜ r ≡ replicate 1115218 0 ⌝ }
+{
+    [0u8; 1115218]
+}
 
 fn is_digit(b: u8) -> bool
     ensures { λ r. ⌜ r ≡ isDigit b ⌝ }

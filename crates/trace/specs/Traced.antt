@@ -58,7 +58,7 @@ module _ (known : List Header) (v : ℕ) (ss : List ℕ) (inputs : ℕ) where
     pub most : k ≤ length old
     pub is : found ≡ over (furthests known v ss inputs k) old
 
-  many : (k : ℕ) → length (furthests known v ss inputs k) ≡ k
+  pub many : (k : ℕ) → length (furthests known v ss inputs k) ≡ k
   unfolding furthests
   many k = omega (arith, length-grow k (furthestNext known v ss inputs) [])
 

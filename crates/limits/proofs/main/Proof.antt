@@ -9,11 +9,11 @@ use Rattle.limits.proofs.main.Lts as lts
 use Rattle.io.proofs.read_full.Reads as read-full-reads
 use Rattle.io.proofs.write_all.Reads as write-all-reads
 use Rattle.limits.proofs.answer_memory.Reads as answer-memory-reads
-use Rattle.limits.proofs.memory.Reads as memory-reads
+use Rattle.text.proofs.line.sheet_memory.Reads as sheet-memory-reads
 use Rattle.plain.proofs.answer.Reads as answer-reads
 
-memory-requires : tie.Need-memory-requires
-memory-requires c κs = search needs
+sheet-memory-requires : tie.Need-sheet-memory-requires
+sheet-memory-requires c κs = search needs
 
 answer-memory-requires : tie.Need-answer-memory-requires
 answer-memory-requires c κs = search needs
@@ -52,7 +52,7 @@ pub main-spec : {M : Type 1} → statement M
 main-spec =
     tie.close
     (tie.spec
-    memory-requires
+    sheet-memory-requires
     answer-memory-requires
     slice-aggregate-read-full
     read-full-requires

@@ -6,8 +6,8 @@ use borrow.Author.Needs.{needs}
 use Rattle.recipe.proofs.main.Statement.{statement}
 use Rattle.recipe.proofs.main.Tie as tie
 
-memory-requires : tie.Need-memory-requires
-memory-requires c κs = search needs
+sheet-memory-requires : tie.Need-sheet-memory-requires
+sheet-memory-requires c κs = search needs
 
 slice-aggregate-read-full : tie.Need-slice-aggregate-read-full
 slice-aggregate-read-full c = search needs
@@ -40,7 +40,7 @@ pub main-spec : {M : Type 1} → statement M
 main-spec =
     tie.close
     (tie.spec
-    memory-requires
+    sheet-memory-requires
     slice-aggregate-read-full
     read-full-requires
     array-share-prefix-text

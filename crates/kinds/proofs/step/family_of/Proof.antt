@@ -1,4 +1,3 @@
-use Prim.Native.Nat.{ℕ, _+_, _≤_}
 use mathlib.Core.Path.{_≡_, sym}
 use native.Mathlib.Omega.{arith}
 use lib.Dec.{eqb}
@@ -7,26 +6,19 @@ use borrow.Author.Tests.{eqb-true, eqb-false}
 use Rattle.lists.specs.Test.{decide}
 use Rattle.model.specs.declared.Family.the-variants.{Constant}
 use Rattle.model.specs.Recipe.{families, familyOf}
+use Rattle.kinds.specs.Arms.{past-kinds}
 use borrow.Author.Needs.{needs}
 use Rattle.kinds.proofs.step.family_of.Statement.{statement}
 use Rattle.kinds.proofs.step.family_of.Tie as tie
 
 -- the arm of no number: none of 1 to 10
-past : {n k : ℕ} → n ≤ k → (k ≡ n → ⊥) → n + 1 ≤ k
-past h ne = omega arith
-
 rest-constant : (c : tie.At-match-rest) → Constant ≡ familyOf (c .before .args .s)
 unfolding families
 rest-constant c =
-    let r = c .match .rest in
     let s = c .before .args .s in
     decide (eqb (s .kind) 0)
     (λ e. simp (eqb-true (s .kind) 0 e))
-    (λ e.
-    let p1 : 1 ≤ s .kind = past (omega arith) (eqb-false (s .kind) 0 e) in
-    let p6 = past (past (past (past (past p1 (r .0 .0 .0 .0 .0 .0 .0 .0 .0 .1)) (r .0 .0 .0 .0 .0 .0 .0 .0 .1)) (r .0 .0 .0 .0 .0 .0 .0 .1)) (r .0 .0 .0 .0 .0 .0 .1)) (r .0 .0 .0 .0 .0 .1) in
-    let p11 = past (past (past (past (past p6 (r .0 .0 .0 .0 .1)) (r .0 .0 .0 .1)) (r .0 .0 .1)) (r .0 .1)) (r .1) in
-    sym (List·getD-eq-default (families s) Constant p11))
+    (λ e. let ne = eqb-false (s .kind) 0 e in sym (List·getD-eq-default (families s) Constant (past-kinds (omega arith) (c .match .rest))))
 
 cast-t4 : tie.Need-cast-t4
 cast-t4 c = search needs

@@ -1,10 +1,9 @@
-use Prim.Native.Nat.{ℕ, _+_, _≤_}
-use mathlib.Core.Path.{_≡_}
 use native.Mathlib.Omega.{arith}
 use lib.ListN.{List·getD-eq-default}
 use Rattle.report.specs.Puts.{puts-none}
 use Rattle.lists.specs.Bytes.{bytes}
 use Rattle.model.specs.Report.{kindText, kindNames}
+use Rattle.kinds.specs.Arms.{past-kinds}
 use borrow.Author.Needs.{needs}
 use Rattle.report.proofs.lines.put_kind.Statement.{statement}
 use Rattle.report.proofs.lines.put_kind.Tie as tie
@@ -156,17 +155,12 @@ unfolding kindText kindNames bytes
 returns-11 c = rw (c .before .before .before .before .before .match .keys11) (c .before .before .put11 .ensures)
 
 -- none of 0 to 10
-past : {n k : ℕ} → n ≤ k → (k ≡ n → ⊥) → n + 1 ≤ k
-past h ne = omega arith
-
 returns-12 : tie.Need-returns-12
 unfolding kindText kindNames bytes
 returns-12 c =
     let r = c .match .rest in
-    let p1 : 1 ≤ c .before .before .args .kind = past {n = 0} (omega arith) (r .0 .0 .0 .0 .0 .0 .0 .0 .0 .0 .1) in
-    let p6 = past (past (past (past (past p1 (r .0 .0 .0 .0 .0 .0 .0 .0 .0 .1)) (r .0 .0 .0 .0 .0 .0 .0 .0 .1)) (r .0 .0 .0 .0 .0 .0 .0 .1)) (r .0 .0 .0 .0 .0 .0 .1)) (r .0 .0 .0 .0 .0 .1) in
-    let p11 = past (past (past (past (past p6 (r .0 .0 .0 .0 .1)) (r .0 .0 .0 .1)) (r .0 .0 .1)) (r .0 .1)) (r .1) in
-    rw (List·getD-eq-default kindNames "" {n = c .before .before .args .kind} p11) (puts-none _ _)
+    let ne = r .0 .0 .0 .0 .0 .0 .0 .0 .0 .0 .1 in
+    rw (List·getD-eq-default kindNames "" {n = c .before .before .args .kind} (past-kinds (omega arith) r)) (puts-none _ _)
 
 pub put-kind-spec : {M : Type 1} → statement M
 put-kind-spec =

@@ -6,7 +6,7 @@ use Rattle.report.proofs.lines.put_shape.Statement.{statement}
 use Rattle.report.proofs.lines.put_shape.Tie as tie
 use Rattle.report.proofs.lines.put_shape.Reads as reads
 use Rattle.report.proofs.lines.put_shape.Lts as lts
-use Rattle.report.proofs.lines.put_colon_if.Reads as put-colon-if-reads
+use Rattle.report.proofs.put.put_if.Reads as put-if-reads
 use Rattle.report.proofs.lines.put_pairs.Reads as put-pairs-reads
 use Rattle.report.proofs.put.put.Reads as put-reads
 use Rattle.report.proofs.put.tell.Reads as tell-reads
@@ -17,8 +17,11 @@ slice-aggregate-tell c = search needs
 tell-requires : tie.Need-tell-requires
 tell-requires c κs = search needs
 
-put-colon-if-requires : tie.Need-put-colon-if-requires
-put-colon-if-requires c κs = search needs
+slice-aggregate-put-if : tie.Need-slice-aggregate-put-if
+slice-aggregate-put-if c = search needs
+
+put-if-requires : tie.Need-put-if-requires
+put-if-requires c κs = search needs
 
 put-pairs-requires : tie.Need-put-pairs-requires
 put-pairs-requires c κs = search needs
@@ -34,7 +37,7 @@ same-length c = search needs
 
 returns : tie.Need-returns
 unfolding shapeText bytes
-returns c = puts-then (c .before .before .before .before .before .before .before .before .before .before .before .before .before .before .before .before .tell .ensures) (puts-then (c .before .before .before .before .before .before .before .before .before .before .before .put-colon-if .ensures) (puts-then (c .before .before .before .before .before .before .before .put-pairs .ensures) (c .before .before .put .ensures)))
+returns c = puts-then (c .before .before .before .before .before .before .before .before .before .before .before .before .before .before .before .before .before .tell .ensures) (puts-then (c .before .before .before .before .before .before .before .before .before .before .before .put-if .ensures) (puts-then (c .before .before .before .before .before .before .before .put-pairs .ensures) (c .before .before .put .ensures)))
 
 pub put-shape-spec : {M : Type 1} → statement M
 put-shape-spec =
@@ -42,7 +45,8 @@ put-shape-spec =
     (tie.spec
     slice-aggregate-tell
     tell-requires
-    put-colon-if-requires
+    slice-aggregate-put-if
+    put-if-requires
     put-pairs-requires
     slice-aggregate-put
     put-requires

@@ -1,7 +1,7 @@
 use Rattle.report.specs.Puts.{puts-none}
 use borrow.Author.Needs.{needs}
-use Rattle.figures.proofs.number.put_if.Statement.{statement}
-use Rattle.figures.proofs.number.put_if.Tie as tie
+use Rattle.report.proofs.put.put_if.Statement.{statement}
+use Rattle.report.proofs.put.put_if.Tie as tie
 
 put-requires : tie.Need-put-requires
 put-requires c κs = search needs

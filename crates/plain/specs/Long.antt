@@ -1,0 +1,189 @@
+-- Whatever the sheet, what `limits` prints keeps to 80 columns and fits the 65,536 bytes that its program has.
+use Prim.Native.Nat.{ℕ, zero, suc, _+_, _-_, _*_, _≤_, _<_}
+use Prim.Native.String.{String}
+use mathlib.Core.Bool.{Bool, true, _&&_}
+use mathlib.Core.List.{List, [], _∷_, _++_}
+use mathlib.Core.Path.{_≡_, refl, sym, ap, _∙_}
+use native.Mathlib.Omega.{arith}
+use lib.Dec.{leb, ltb}
+use lib.Ieee.{Float, ofBits, binary64}
+use lib.ListN.{length, getD, take, drop, length-append}
+use lib.Seq.{getD-drop, take-all}
+use borrow.Author.Tests.{ltb-true, leb-true, eqb-true, eqb-false}
+use Rattle.lists.specs.Bytes.{bytes}
+use Rattle.lists.specs.Grow.{over, take-over}
+use Rattle.lists.specs.Table.{length-table}
+use Rattle.lists.specs.Test.{decide, and-left, and-right}
+use Rattle.model.specs.declared.Refusal.{Refusal}
+use Rattle.model.specs.Header.{stored}
+use Rattle.model.specs.Word.{headerOf, wordOf}
+use Rattle.model.specs.Refusals.{isNone}
+use Rattle.model.specs.Check.{checkRefusal}
+use Rattle.model.specs.Recipe.{inputHeads, headAt, announcedPlaces, announcedSteps, total, largest}
+use Rattle.model.specs.Run.{noValue, valueAt, values, stepValues}
+use Rattle.model.specs.Printed.{refusedWord, space, refusedText}
+use Rattle.model.specs.Report.{tell, when}
+use Rattle.model.specs.Sentence.{placeMeanings, sheetMeanings, meaning, refusalReport}
+use Rattle.model.specs.Sheet.{inputCount, stepCount, sheetHeaders, sheetCoefficients, sheetSteps, wordOn, coefficientCount, ownRefusal, recipeRefusal, readRefusal, sheetRefusal, lastValue}
+use Rattle.model.specs.Told.{limitsFirst, toldText}
+use Rattle.words.specs.Words.{unpack-pack}
+use Rattle.shape.specs.Under.{count-under}
+use Rattle.shape.specs.Keeps.{Keeps}
+use Rattle.judging.specs.Asks.{or-none, or-next}
+use Rattle.judging.specs.Judged.{Accepts, accepts, places-known}
+use Rattle.demands.specs.Ahead.{announced-at, step-largest}
+use Rattle.demands.specs.Values.{follows-all}
+use Rattle.sheet.specs.Opened.{steps-many}
+use Rattle.sheet.specs.Running.{passed, steps-largest}
+use Rattle.report.specs.Puts.{Printed}
+use Rattle.report.specs.Columns.{inColumns, columnAfter, columns-append, columns-earlier, Piece, piece, piece-then, piece-columns, number-piece, tell-two, newline-rest, rest-then, Lines, lines}
+use Rattle.report.specs.Long.{limits-lines}
+use Rattle.figures.specs.Lines.{word-lengths}
+use Rattle.figures.specs.Long.{figures-lines}
+use Rattle.plain.specs.Tells.{told-refused, told-done}
+use Rattle.plain.specs.Traces.{check-none, few, sheet-ordered, sheet-short}
+
+-- n bytes at most, in 80 columns
+record Kept (n : ℕ) (t : List ℕ) : Type 0 where
+  most : length t ≤ n
+  keeps : inColumns 0 t ≡ true
+
+kept-behind : {a b : ℕ} {s t : List ℕ} → Lines a s → Kept b t → Kept (a + b) (s ++ t)
+kept-behind {s = s} {t = t} p q = record { most = omega (arith, length-append s t, p .most, q .most); keeps = columns-append 0 s t (p .keeps) (rw (p .ends) (q .keeps)) }
+
+-- ---- a refusal
+
+refused-lines : (r : Refusal) → Lines 50 (refusedText r)
+unfolding refusedText
+refused-lines r =
+    lines (omega arith)
+    (rest-then (piece 8 refusedWord refl) (rest-then (number-piece (r .number)) (rest-then (piece 1 space refl) (rest-then (number-piece (r .place)) newline-rest))))
+
+-- texts that keep to the columns from the column c on
+abbrev allFrom : ℕ → List String → Bool
+allFrom c [] = true
+allFrom c (s ∷ ss) = (leb (length (bytes s)) 130 && inColumns c (bytes s)) && allFrom c ss
+
+named-from : (c : ℕ) (ss : List String) (k : ℕ) → allFrom c ss ≡ true → (length (bytes (getD ss k "")) ≤ 130) × (inColumns c (bytes (getD ss k "")) ≡ true)
+unfolding bytes inColumns
+named-from c [] k e = (omega arith, refl)
+named-from c (s ∷ ss) zero e =
+    let h = and-left (leb (length (bytes s)) 130 && inColumns c (bytes s)) (allFrom c ss) e in
+    (leb-true _ _ (and-left (leb (length (bytes s)) 130) (inColumns c (bytes s)) h), and-right (leb (length (bytes s)) 130) (inColumns c (bytes s)) h)
+named-from c (s ∷ ss) (suc k) e = named-from c ss k (and-right (leb (length (bytes s)) 130 && inColumns c (bytes s)) (allFrom c ss) e)
+
+place-from : (n : ℕ) → (length (bytes (getD placeMeanings n "")) ≤ 130) × (inColumns 10 (bytes (getD placeMeanings n "")) ≡ true)
+unfolding placeMeanings bytes inColumns
+place-from n = named-from 10 placeMeanings n refl
+
+sheet-from : (n : ℕ) → (length (bytes (getD sheetMeanings n "")) ≤ 130) × (inColumns 0 (bytes (getD sheetMeanings n "")) ≡ true)
+unfolding sheetMeanings bytes inColumns
+sheet-from n = named-from 0 sheetMeanings n refl
+
+where-piece : (p : ℕ) → p < 64 → Piece 10 (tell "Place " p ++ bytes ": ")
+unfolding bytes
+where-piece p l = piece-then (tell-two "Place " p (piece 6 (bytes "Place ") refl) (omega arith)) (piece 2 (bytes ": ") refl)
+
+sentence-kept : (r : Refusal) → Kept 140 (when (ltb (r .place) 64) (tell "Place " (r .place) ++ bytes ": ") ++ meaning (ltb (r .place) 64) (r .number))
+unfolding meaning
+sentence-kept r =
+    decide (ltb (r .place) 64)
+    (λ t.
+    let s : List ℕ = tell "Place " (r .place) ++ bytes ": " in
+    let m : List ℕ = bytes (getD placeMeanings (r .number) "") in
+    let p : Piece 10 s = where-piece (r .place) (ltb-true (r .place) 64 t) in
+    let f = place-from (r .number) in
+    let c = piece-columns s 0 (p .plain) (omega (arith, p .most)) in
+    let k : Kept 140 (s ++ m) =
+    record {
+      most = omega (arith, length-append s m, p .most, f .0);
+      keeps = columns-append 0 s m (c .0) (columns-earlier m (columnAfter 0 s) 10 (omega (arith, c .1, p .most)) (f .1));
+    } in
+    rw t k)
+    (λ t. let f = sheet-from (r .number) in rw t (record { most = omega (arith, f .0); keeps = f .1 }))
+
+refusal-kept : (r : Refusal) → Kept 190 (refusalReport r)
+unfolding refusalReport
+refusal-kept r = kept-behind (refused-lines r) (sentence-kept r)
+
+-- ---- a sheet that is not refused
+
+module _ (t : List ℕ) (z : sheetRefusal t .number ≡ 0) where
+  abbrev hs : List ℕ
+  hs = sheetHeaders t
+
+  abbrev ss : List ℕ
+  ss = sheetSteps t
+
+  abbrev cs : List Float
+  cs = sheetCoefficients t
+
+  accepts-it : Accepts hs ss
+  accepts-it = accepts hs ss (check-none t z)
+
+  small-steps : largest (announcedSteps hs ss) ≤ 256
+  unfolding sheetRefusal recipeRefusal
+  small-steps =
+      let a = or-none (checkRefusal hs ss) _ (or-none (readRefusal t) _ z .1) in
+      let b = or-none (ownRefusal hs ss) _ (a .1) in
+      steps-largest (passed hs ss (ap (λ (x : Refusal). x .number) (or-next (checkRefusal hs ss) (ownRefusal hs ss) (a .0)) ∙ b .0))
+
+  full : total (inputHeads hs) ≤ length cs
+  unfolding sheetCoefficients coefficientCount
+  full = omega (arith, length-table (λ j. ofBits binary64 (wordOn t (1 + inputCount t + j))) (coefficientCount t))
+
+  abbrev last : ℕ
+  last = length ss - 1
+
+  last-in : last < length ss
+  last-in = omega (arith, accepts-it .sizes .some)
+
+  -- the last value keeps what its step announced
+  keep : Keeps (headAt (announcedPlaces hs ss) (length hs + last)) (lastValue t)
+  unfolding lastValue stepValues
+  keep =
+      let e : valueAt (values hs cs ss) (length hs + last) ≡ lastValue t =
+      sym (getD-drop (length hs) (values hs cs ss) last noValue) ∙ ap (λ (n : ℕ). getD (drop (length hs) (values hs cs ss)) (n - 1) noValue) (steps-many t) in
+      rw e at (follows-all hs cs ss {m = 8 * largest (announcedSteps hs ss)} (check-none t z) full (omega arith) .keeps (length hs + last))
+
+  last-few : stored (headerOf (wordOf (lastValue t .head))) ≤ 256
+  last-few =
+      let l : stored (headAt (announcedPlaces hs ss) (length hs + last)) ≤ largest (announcedSteps hs ss) =
+      rw (announced-at hs ss last last-in) (step-largest hs ss last last-in) in
+      rw (unpack-pack (lastValue t .head) (keep .regular)) (omega (arith, count-under (keep .under), l, small-steps))
+
+  first-lines : Lines 25000 (limitsFirst t)
+  unfolding limitsFirst
+  first-lines =
+      limits-lines (announcedPlaces hs ss) ss (inputCount t) (places-known hs ss (accepts-it .inputs)) (inputCount t + stepCount t)
+      (omega (arith, accepts-it .sizes .some, steps-many t)) (few t z) (sheet-ordered t z)
+      (λ p a l e. let n = sheet-short t z p a l (record { from = omega (arith, e); to = omega (arith, e) }) in omega arith)
+
+  done-kept : Kept 44000 (toldText t)
+  done-kept =
+      let f = figures-lines (headerOf (wordOf (lastValue t .head))) (lastValue t .coeffs) (word-lengths (wordOf (lastValue t .head))) last-few in
+      rw (told-done t z) (kept-behind first-lines (record { most = f .most; keeps = f .keeps }))
+
+-- ---- the laws
+
+told-kept : (t : List ℕ) → Kept 44000 (toldText t)
+told-kept t =
+    decide (isNone (sheetRefusal t))
+    (λ a. done-kept t (eqb-true _ _ a))
+    (λ a.
+    let k = refusal-kept (sheetRefusal t) in
+    rw (told-refused t refl (eqb-false (sheetRefusal t .number) 0 a)) (record { most = omega (arith, k .most); keeps = k .keeps }))
+
+module _ (t : List ℕ) where
+  pub told-columns : inColumns 0 (toldText t) ≡ true
+  told-columns = told-kept t .keeps
+
+  pub told-fits : length (toldText t) ≤ 65536
+  told-fits = omega (arith, told-kept t .most)
+
+  -- so that all of it is printed
+  pub told-whole : {old new : List ℕ} {n : ℕ} → Printed (toldText t) old new n → 65536 ≤ length old → take n new ≡ toldText t
+  told-whole {old} {new} {n} p l =
+      let e : n ≡ length (toldText t) = omega (arith, p .behind, told-fits) in
+      let f : take (length old) (toldText t) ≡ toldText t = take-all (length old) (toldText t) (omega (arith, told-fits)) in
+      ap (take n) (p .is ∙ ap (λ (x : List ℕ). over x old) f) ∙ take-over (toldText t) old n (sym e)

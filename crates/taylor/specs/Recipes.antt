@@ -1,0 +1,61 @@
+-- The face: what the check and the run of a recipe answered is read back, from the word and, of the check, from the totals that were written. Both refuse by
+-- 1 to 7, so that the 0 of accepted or done stands for nothing else. What stood where the totals go makes no difference.
+use Prim.Native.Nat.{ℕ, _<_}
+use mathlib.Core.Bool.{false, cond}
+use mathlib.Core.List.{List}
+use mathlib.Core.Path.{_≡_, ap}
+use native.Mathlib.Omega.{arith}
+use lib.Dec.{eqb}
+use lib.Ieee.{Float}
+use borrow.Author.Tests.{eqb-false, ne-eqb}
+use Rattle.lists.specs.Test.{decide}
+use Rattle.model.specs.declared.Refusal.{Refusal}
+use Rattle.model.specs.declared.CheckAnswer.{CheckAnswer}
+use Rattle.model.specs.declared.CheckAnswer.the-variants as check-answer
+use Rattle.model.specs.declared.RunAnswer.{RunAnswer}
+use Rattle.model.specs.declared.RunAnswer.the-variants as run-answer
+use Rattle.model.specs.Refusals.{isNone}
+use Rattle.model.specs.Check.{checkRefusal, checkBy, checkAnswer}
+use Rattle.model.specs.Run.{runRefusal, runBy, runAnswer}
+use Rattle.demands.specs.Never.{check-small, run-small}
+use Rattle.taylor.specs.Face.{wordOfRefusal, wordOfCheck, poolAfter, largestAfter, inputsAfter, wordOfRun}
+use Rattle.taylor.specs.Apart.{refusalFrom, refusal-from}
+
+-- what a word and three totals stand for
+unfoldable pub checkFrom : ℕ → ℕ → ℕ → ℕ → CheckAnswer
+checkFrom w pool largest inputs = cond (eqb w 0) (check-answer.Accepted pool largest inputs) (check-answer.Refused (refusalFrom w))
+
+-- what a word stands for
+unfoldable pub runFrom : ℕ → RunAnswer
+runFrom w = cond (eqb w 0) run-answer.Done (run-answer.Refused (refusalFrom w))
+
+-- the answer x, read back; pool, largest, inputs: what stood where the totals go
+abbrev CheckBack : CheckAnswer → ℕ → ℕ → ℕ → Type 0
+CheckBack x pool largest inputs = checkFrom (wordOfCheck x) (poolAfter x pool) (largestAfter x largest) (inputsAfter x inputs) ≡ x
+
+-- any refusal r that decides
+module _ (r : Refusal) (few : r .number < 256) where
+  word-not-zero : isNone r ≡ false → eqb (wordOfRefusal r) 0 ≡ false
+  word-not-zero t = ne-eqb (wordOfRefusal r) 0 (λ z. eqb-false (r .number) 0 t (omega arith))
+
+  by-check : (p l i pool largest inputs : ℕ) → CheckBack (checkBy r p l i) pool largest inputs
+  unfolding checkBy checkFrom
+  by-check p l i pool largest inputs =
+      decide (isNone r) (λ t. rw t) (λ t. rw (t, word-not-zero t) (ap check-answer.Refused (refusal-from r few)))
+
+  by-run : runFrom (wordOfRun (runBy r)) ≡ runBy r
+  unfolding runBy runFrom
+  by-run = decide (isNone r) (λ t. rw t) (λ t. rw (t, word-not-zero t) (ap run-answer.Refused (refusal-from r few)))
+
+-- ---- the entries
+
+pub check-back : (hs ss : List ℕ) (pool largest inputs : ℕ)
+    → checkFrom (wordOfCheck (checkAnswer hs ss)) (poolAfter (checkAnswer hs ss) pool) (largestAfter (checkAnswer hs ss) largest) (inputsAfter (checkAnswer hs ss) inputs)
+    ≡ checkAnswer hs ss
+unfolding checkAnswer
+check-back hs ss pool largest inputs = by-check (checkRefusal hs ss) (omega (arith, check-small hs ss)) _ _ _ pool largest inputs
+
+pub run-back : (hs : List ℕ) (cs : List Float) (ss : List ℕ) (pool : List Float) (words : List ℕ) (scratch : List Float)
+    → runFrom (wordOfRun (runAnswer hs cs ss pool words scratch)) ≡ runAnswer hs cs ss pool words scratch
+unfolding runAnswer
+run-back hs cs ss pool words scratch = by-run (runRefusal hs cs ss pool words scratch) (omega (arith, run-small hs cs ss pool words scratch))
