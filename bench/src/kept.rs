@@ -1,5 +1,6 @@
 //! Plain Rust held to the promise that the library keeps: header words and lent buffers, refused by the same numbers, the answer followed by
-//! +0.0, 8 times the announced count of the scratch at +0.0. No unsafe code, no proof; the arithmetic is plain.rs's.
+//! +0.0, 8 times the announced count of the scratch at +0.0. No unsafe code, no proof; the arithmetic is plain.rs's. What is inlined was tried, and the
+//! faster way kept.
 use crate::plain::{count, extract_linear, general, Block, Linear};
 
 /// Number of variables, limits and stored lengths.
@@ -16,6 +17,7 @@ fn field(word: u64, low: usize) -> usize {
 
 impl Header {
     /// What a word says, if it keeps document 01's rules.
+    #[inline(always)]
     fn of(word: u64) -> Option<Header> {
         let h = Header {
             vars: (word >> 61) as usize,
@@ -27,17 +29,20 @@ impl Header {
     }
 
     fn word(&self) -> u64 {
-        let fields = (0..4).fold(self.vars as u64, |w, v| (w << 12) | ((self.limits[v] as u64 - 1) << 6) | (self.lengths[v] as u64 - 1));
+        let fields =
+            (0..4).fold(self.vars as u64, |w, v| (w << 12) | ((self.limits[v] as u64 - 1) << 6) | (self.lengths[v] as u64 - 1));
         fields << 13
     }
 }
 
 /// c times each place.
+#[inline(always)]
 fn scale(c: f64, x: Block, out: &mut [f64]) -> [usize; 4] {
     out.iter_mut().zip(x.coeffs).for_each(|(z, x)| *z = c * x);
     x.lengths
 }
 
+#[inline(always)]
 fn copy(x: Block, out: &mut [f64]) -> [usize; 4] {
     out[..x.coeffs.len()].copy_from_slice(x.coeffs);
     x.lengths
@@ -48,6 +53,7 @@ fn is_zero(x: &[f64]) -> bool {
 }
 
 /// m times x shifted up by one in the variable, and, unless c is zero, c times x added.
+#[inline(never)]
 fn by_line(x: Block, f: Linear, limits: &[usize; 4], out: &mut [f64]) -> [usize; 4] {
     let step = count(&x.lengths[f.v + 1..]);
     let width = x.lengths[f.v] * step;
@@ -70,6 +76,7 @@ fn by_line(x: Block, f: Linear, limits: &[usize; 4], out: &mut [f64]) -> [usize;
 }
 
 /// The places under the limits; `room` holds them where some are cut off.
+#[inline(always)]
 fn cut<'a>(x: Block<'a>, limits: &[usize; 4], room: &'a mut Vec<f64>) -> Block<'a> {
     let n = x.lengths;
     let r: [usize; 4] = std::array::from_fn(|v| limits[v].min(n[v]));
@@ -85,6 +92,7 @@ fn cut<'a>(x: Block<'a>, limits: &[usize; 4], room: &'a mut Vec<f64>) -> Block<'
 }
 
 /// The smaller limit of a variable; the other's where one lacks it.
+#[inline(always)]
 fn smaller(a: &Header, b: &Header, v: usize) -> usize {
     match (v < a.vars, v < b.vars) {
         (true, true) => a.limits[v].min(b.limits[v]),
@@ -94,6 +102,7 @@ fn smaller(a: &Header, b: &Header, v: usize) -> usize {
 }
 
 /// The product to the front of `out`; its lengths.
+#[inline(always)]
 fn product(x: Block, y: Block, limits: &[usize; 4], out: &mut [f64]) -> [usize; 4] {
     match (x.coeffs, y.coeffs) {
         ([c], _) if *c == 1.0 => return copy(y, out),

