@@ -16,7 +16,7 @@ use Rattle.lists.specs.Table.{table, Filled, length-front, table-same}
 use Rattle.lists.specs.Walk.{walk-same}
 use Rattle.model.specs.Refusals.{zeroF}
 use Rattle.blocks.specs.Fill.{part-table}
-use Rattle.product.specs.Raise.{Along}
+use Rattle.linear_rows.specs.Raised.{Along}
 use Rattle.change.specs.Room.{PartRoom}
 use Rattle.row_sums.specs.Sums.{sumAt, frontAt}
 

@@ -27,7 +27,8 @@ use Rattle.words.specs.Lengths.{lengths-of}
 use Rattle.shape.specs.Announced.{single-regular}
 use Rattle.shape.specs.Keeps.{Keeps}
 use Rattle.readings.specs.Kept.{full-keeps}
-use Rattle.product.specs.Room.{Rows, Raising}
+use Rattle.linear_rows.specs.Rows.{Rows}
+use Rattle.product.specs.Room.{Raising}
 use Rattle.product.specs.Raise.{raise-rows, raise-small}
 use Rattle.change.specs.Room.{Shifted}
 use Rattle.change.specs.Room.{PartRoom}

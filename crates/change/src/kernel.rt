@@ -17,7 +17,7 @@ ghost use Rattle.model.specs.Poly.{poly, held};
 ghost use Rattle.model.specs.Answers.{answered, outAfter};
 ghost use Rattle.model.specs.Gates.{announcedOne};
 ghost use Rattle.model.specs.Shifts.{shiftDownPoly, shiftGate};
-ghost use Rattle.product.specs.Room.{Rows};
+ghost use Rattle.linear_rows.specs.Rows.{Rows};
 ghost use Rattle.change.specs.Room.{Shifted, PartRoom};
 ghost use Rattle.change.specs.Drop.{keptAt, droppedAt, droppedFlat};
 ghost use Rattle.row_factors.specs.Scale.{scaledPoly};

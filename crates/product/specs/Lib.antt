@@ -7,3 +7,4 @@ pub mod Zero
 pub mod Lined
 pub mod Own
 pub mod Short
+pub mod Owned

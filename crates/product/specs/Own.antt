@@ -1,5 +1,5 @@
 -- A right factor that leaves the left operand's header as it is, and the two ways that then take one pass: by a constant, and by a linear factor.
-use Prim.Native.Nat.{ℕ, _+_, _-_, _*_, _≤_, _<_, min}
+use Prim.Native.Nat.{ℕ, _*_, _≤_, _<_}
 use mathlib.Core.List.{List}
 use mathlib.Core.Bool.{false, cond}
 use mathlib.Core.Path.{_≡_}
@@ -10,7 +10,7 @@ use Rattle.lists.specs.Table.{table}
 use Rattle.model.specs.declared.Header.{Header}
 use Rattle.model.specs.declared.Way.{Way}
 use Rattle.model.specs.declared.Family.the-variants.{Product}
-use Rattle.model.specs.Header.{limit, len, count, stored}
+use Rattle.model.specs.Header.{count, stored}
 use Rattle.model.specs.Word.{headerOf}
 use Rattle.model.specs.Places.{index}
 use Rattle.model.specs.Refusals.{zeroF, noRefusal}
@@ -20,19 +20,8 @@ use Rattle.model.specs.Poly.{Block, block}
 use Rattle.model.specs.Product.{scaledAt, chosen}
 use Rattle.words.specs.Rules.{Good}
 use Rattle.words.specs.Lengths.{Lengths}
+use Rattle.kept_headers.specs.Kept.{Keeps}
 use Rattle.product.specs.Room.{linedAt}
-
--- in one variable: l and n the left operand's limit and length, k and m the right one's
-pub record KeepsLength (l n k m : ℕ) : Type 0 where
-  pub same : k ≡ l
-  pub pos : 1 ≤ m
-  pub fit : 1 ≤ n → n ≤ l → m ≤ l
-  pub own : 1 ≤ n → n ≤ l → min l (min l n + min l m - 1) ≡ n
-
--- y beside x: no limit cuts, and the announced lengths are those of x
-pub record Keeps (x y : Header) : Type 0 where
-  pub vars : x .vars ≡ y .vars
-  pub var : (k : ℕ) → k < 4 → KeepsLength (limit x k) (len x k) (limit y k) (len y k)
 
 -- the way of two blocks is that by a constant or a linear factor on the right, c neither zero nor one
 pub record Light (a b : Block) (w : Way) : Type 0 where

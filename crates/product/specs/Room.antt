@@ -1,11 +1,10 @@
 -- What the functions of the product ask and leave. The m.. are the lengths of buffers.
-use Prim.Native.Nat.{ℕ, _+_, _-_, _*_, _/_, _%_, _≤_, _<_}
+use Prim.Native.Nat.{ℕ, _+_, _*_, _≤_, _<_}
 use mathlib.Core.List.{List, _++_}
 use mathlib.Core.Bool.{cond}
 use mathlib.Core.Path.{_≡_}
-use lib.Dec.{ltb}
-use lib.ListN.{length, getD, take, drop}
-use lib.Ieee.{Float, nan, add, mul, binary64}
+use lib.ListN.{length, take, drop}
+use lib.Ieee.{Float, add, mul, binary64}
 use Rattle.lists.specs.Part.{Below}
 use Rattle.lists.specs.Four.{at, four}
 use Rattle.model.specs.declared.Way.{Way}
@@ -18,55 +17,16 @@ use Rattle.model.specs.Linear.{noLinear, linear}
 use Rattle.model.specs.Product.{way, grown, raisedAt}
 use Rattle.words.specs.Lengths.{Lengths}
 
+-- for the crates above, which go by such rows too
+
 -- which way, where neither is a constant and a line is looked for
 abbrev pub lineWay : Block → Block → Way
 lineWay a b = cond (linear a .yes) (way 4 (linear a)) (cond (linear b .yes) (way 5 (linear b)) (way 6 noLinear))
 
--- what a row of places becomes, where it is shifted up by s
-abbrev pub raisedRow : Float → ℕ → List Float → ℕ → Float
-raisedRow m s a k = cond (ltb k s) zeroF (mul binary64 (getD a (k - s) nan) m)
-
--- rows of `width` places that become rows of `step` places, by place
-abbrev pub raisedFlat : Float → ℕ → ℕ → ℕ → List Float → ℕ → Float
-raisedFlat m s width step a p = raisedRow m s (drop (p / step * width) a) (p % step)
-
--- under a linear factor, c and m: what is shifted there added to +0.0, then c times the row, as far as its `width` places reach. First the three parts
--- of such a row: up to s, where +0.0 is shifted to; up to the width, where a is shifted and b stays; past it
-abbrev pub linedFirst : Float → List Float → ℕ → Float
-linedFirst c a k = add binary64 (add binary64 zeroF zeroF) (mul binary64 c (getD a k nan))
-
-abbrev pub linedMiddle : Float → List Float → Float → List Float → ℕ → Float
-linedMiddle m a c b k = add binary64 (add binary64 zeroF (mul binary64 (getD a k nan) m)) (mul binary64 c (getD b k nan))
-
-abbrev pub linedLast : Float → List Float → ℕ → Float
-linedLast m a k = add binary64 zeroF (mul binary64 (getD a k nan) m)
-
-abbrev pub linedRow : Float → Float → ℕ → ℕ → List Float → ℕ → Float
-linedRow c m s width a k =
-    cond (ltb k width) (add binary64 (add binary64 zeroF (raisedRow m s a k)) (mul binary64 c (getD a k nan))) (add binary64 zeroF (raisedRow m s a k))
-
-abbrev pub linedFlat : Float → Float → ℕ → ℕ → ℕ → List Float → ℕ → Float
-linedFlat c m s width step a p = linedRow c m s width (drop (p / step * width) a) (p % step)
-
--- and at an index of the result
+-- under a linear factor, c and m, at an index of the result: what is shifted there added to +0.0, then c times the block, as far as it reaches
 abbrev pub linedAt : ℕ → Float → Float → Block → List ℕ → Float
 linedAt v c m b i =
     cond (inside (b .lengths) i) (add binary64 (add binary64 zeroF (raisedAt v m b i)) (mul binary64 c (readAt b i))) (add binary64 zeroF (raisedAt v m b i))
-
--- a row of w places that becomes one of n
-pub record LinedRow (s w n : ℕ) : Type 0 where
-  pub small : s ≤ w
-  pub reach : w ≤ n
-  pub most : n ≤ w + s
-
--- as many such rows as there are in both buffers
-pub record Rows (s width step ma mt : ℕ) : Type 0 where
-  pub turns : ℕ
-  pub full : mt ≡ turns * step
-  pub room : turns * width ≤ ma
-  pub small : s ≤ step
-  pub most : step ≤ width + s
-  pub pos : 0 < step
 
 -- r the lengths n with one row more in v, or as many
 pub record Raising (n : List ℕ) (v : ℕ) (r : List ℕ) (ma mt : ℕ) : Type 0 where

@@ -1,11 +1,11 @@
-// A right factor that leaves the left operand's header as it is: the same variables and limits, and in each variable one row, or all rows of the
-// left operand stored. Then no limit cuts, the left operand's word is the answer's, and a constant or a linear factor takes one pass.
+// A right factor that leaves the left operand's header as it is (crate kept_headers): no limit cuts, the left operand's word is the answer's, and a
+// constant or a linear factor takes one pass.
 use crate::kernel::choose;
-use crate::kernel::line_rows;
-use crate::kernel::scale;
 use gates::stored_of;
+use kept_headers::keeps_header;
+use linear_rows::line_rows;
+use linear_rows::scale;
 use model::Answer;
-use model::Header;
 use model::Linear;
 use model::Way;
 use words::places::strides_of;
@@ -13,7 +13,6 @@ use words::word::header_of;
 use words::word::is_good;
 ghost use mathlib.Core.Path.{_≡_};
 ghost use mathlib.Core.List.{_++_};
-ghost use mathlib.Core.Bool.{true};
 ghost use Prim.Native.Nat.{_*_};
 ghost use lib.ListN.{length, take, drop};
 ghost use Rattle.model.specs.Header.{count, stored};
@@ -22,29 +21,7 @@ ghost use Rattle.model.specs.Refusals.{zeros};
 ghost use Rattle.model.specs.Poly.{block};
 ghost use Rattle.model.specs.declared.Answer.the-variants.{Done};
 ghost use Rattle.words.specs.Lengths.{Lengths};
-ghost use Rattle.product.specs.Own.{KeepsLength, Keeps, Light, Owns, Shortens, ShortBlock, ShortRoom, shortPlaces};
-
-// In one variable: l and n are the left operand's limit and length, limit and m the right one's.
-fn keeps_length(l: usize, n: usize, limit: usize, m: usize) -> bool
-    ensures { λ r. ⌜ (r ≡ true → KeepsLength l n limit m) ⌝ }
-{
-    (limit == l) & (1 <= m) & ((m == 1) | ((n == l) & (m <= l)))
-}
-
-// Whether a product by y has the header x.
-fn keeps_header(x: Header, y: Header) -> bool
-    ensures { λ r. ⌜ (r ≡ true → Keeps x y) ⌝ }
-{
-    let l = x.limits;
-    let n = x.lengths;
-    let k = y.limits;
-    let m = y.lengths;
-    (x.vars == y.vars)
-        & keeps_length(l[0], n[0], k[0], m[0])
-        & keeps_length(l[1], n[1], k[1], m[1])
-        & keeps_length(l[2], n[2], k[2], m[2])
-        & keeps_length(l[3], n[3], k[3], m[3])
-}
+ghost use Rattle.product.specs.Own.{Light, Owns, Shortens, ShortBlock, ShortRoom, shortPlaces};
 
 // No short way.
 fn long_way() -> Way

@@ -12,8 +12,8 @@ use Rattle.lists.specs.Table.{table, Filled, table-same}
 use Rattle.lists.specs.Walk.{walk, walk-more}
 use Rattle.model.specs.Readings.{oneF}
 use Rattle.blocks.specs.Fill.{filled-rest}
-use Rattle.product.specs.Room.{Rows}
-use Rattle.product.specs.Raise.{row-fits, rows-more}
+use Rattle.linear_rows.specs.Rows.{Rows}
+use Rattle.linear_rows.specs.Raised.{row-fits, rows-more}
 
 -- m to the k, by running products from 1.0
 abbrev pub power : Float → ℕ → Float

@@ -13,7 +13,8 @@ use Rattle.model.specs.Places.{strides, index}
 use Rattle.model.specs.Limits.{cutTo}
 use Rattle.model.specs.Poly.{block, readAt}
 use Rattle.model.specs.Substitute.{powered}
-use Rattle.product.specs.Room.{Rows, Raising}
+use Rattle.linear_rows.specs.Rows.{Rows}
+use Rattle.product.specs.Room.{Raising}
 use Rattle.product.specs.Raise.{raise-rows, raise-small, row-of}
 use Rattle.row_powers.specs.Powers.{power, byPart, Whole}
 use Rattle.substitution.specs.Room.{Cuts}

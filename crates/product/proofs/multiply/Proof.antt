@@ -1,6 +1,6 @@
 use native.Mathlib.Omega.{arith}
 use mathlib.Core.Path.{refl, _∙_}
-use Rattle.product.specs.Short.{short-room, short-answer, short-out, short-scratch}
+use Rattle.product.specs.Owned.{short-room, short-answer, short-out, short-scratch}
 use borrow.Author.Needs.{needs}
 use Rattle.product.proofs.multiply.Statement.{statement}
 use Rattle.product.proofs.multiply.Tie as tie

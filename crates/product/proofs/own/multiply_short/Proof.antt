@@ -1,4 +1,4 @@
-use Rattle.product.specs.Short.{short-written, short-cleared}
+use Rattle.product.specs.Owned.{short-written, short-cleared}
 use native.Mathlib.Omega.{arith}
 use mathlib.Core.Path.{_≡_, refl, sym, ap, _∙_}
 use lib.Seq.{length-take-le}

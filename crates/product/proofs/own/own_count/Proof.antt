@@ -3,8 +3,9 @@ use mathlib.Core.Path.{_≡_, refl}
 use Prim.Native.Nat.{_%_, _^_}
 use lib.Dec.{eqb}
 use lib.Bits.{and-mask}
+use borrow.Author.Tests.{not-false}
 use native.Mathlib.Omega.{arith}
-use Rattle.product.specs.Short.{not-false, tested-good, tested-ruled, tested-owns}
+use Rattle.product.specs.Owned.{tested-good, tested-ruled, tested-owns}
 use borrow.Author.Needs.{needs}
 use Rattle.product.proofs.own.own_count.Statement.{statement}
 use Rattle.product.proofs.own.own_count.Tie as tie

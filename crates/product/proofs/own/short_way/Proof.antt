@@ -1,4 +1,4 @@
-use Rattle.product.specs.Short.{owned-right, owned-full-a, owned-full-b, owned-lens, owned-shortens}
+use Rattle.product.specs.Owned.{owned-right, owned-full-a, owned-full-b, owned-lens, owned-shortens}
 use mathlib.Core.Path.{refl, sym}
 use lib.Seq.{length-take-le}
 use borrow.Author.Needs.{needs}

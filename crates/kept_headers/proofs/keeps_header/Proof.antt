@@ -1,8 +1,8 @@
-use Rattle.product.specs.Short.{keeps-all}
+use Rattle.kept_headers.specs.Kept.{keeps-all}
 use borrow.Author.Tests.{eqb-true}
 use borrow.Author.Needs.{needs}
-use Rattle.product.proofs.own.keeps_header.Statement.{statement}
-use Rattle.product.proofs.own.keeps_header.Tie as tie
+use Rattle.kept_headers.proofs.keeps_header.Statement.{statement}
+use Rattle.kept_headers.proofs.keeps_header.Tie as tie
 
 array-read-keeps-length : tie.Need-array-read-keeps-length
 array-read-keeps-length c = search needs

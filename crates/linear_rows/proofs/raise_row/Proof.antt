@@ -1,4 +1,4 @@
-use Rattle.product.specs.Raise.{row-start, row-more}
+use Rattle.linear_rows.specs.Raised.{row-start, row-more}
 use native.Mathlib.Omega.{arith}
 use mathlib.Core.Path.{_≡_, refl, sym, ap, _∙_}
 use mathlib.Core.List.{_++_}
@@ -7,9 +7,9 @@ use lib.ListN.{length, drop, length-drop, length-append}
 use lib.Seq.{length-take-le}
 use Rattle.lists.specs.Table.{table, Filled, filled-more}
 use Rattle.blocks.specs.Fill.{filled-all}
-use Rattle.product.specs.Room.{raisedRow}
-use Rattle.product.proofs.kernel.raise_row.Statement.{statement}
-use Rattle.product.proofs.kernel.raise_row.Tie as tie
+use Rattle.linear_rows.specs.Rows.{raisedRow}
+use Rattle.linear_rows.proofs.raise_row.Statement.{statement}
+use Rattle.linear_rows.proofs.raise_row.Tie as tie
 
 abbrev Inv-loop : tie.InvT-loop
 Inv-loop a m s to₀ n k₀ to k = (s ≤ k) × ((k ≤ n) × ((n ≡ length to₀) × Filled k (raisedRow m s a) to₀ to))

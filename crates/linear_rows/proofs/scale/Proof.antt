@@ -4,8 +4,8 @@ use Prim.Native.Nat.{ℕ, _-_, _≤_}
 use Rattle.lists.specs.Table.{table, Filled, filled-none, filled-more}
 use Rattle.blocks.specs.Fill.{filled-all}
 use Rattle.model.specs.Product.{scaledAt}
-use Rattle.product.proofs.kernel.scale.Statement.{statement}
-use Rattle.product.proofs.kernel.scale.Tie as tie
+use Rattle.linear_rows.proofs.scale.Statement.{statement}
+use Rattle.linear_rows.proofs.scale.Tie as tie
 
 abbrev Inv-loop : tie.InvT-loop
 Inv-loop c a to₀ n k₀ to k = (k ≤ n) × Filled k (scaledAt c a) to₀ to

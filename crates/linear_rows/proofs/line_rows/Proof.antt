@@ -4,10 +4,11 @@ use Prim.Native.Nat.{_+_, _-_, _≤_}
 use lib.ListN.{length, length-take, length-drop}
 use Rattle.lists.specs.Table.{Filled, filled-none}
 use Rattle.blocks.specs.Fill.{filled-all}
-use Rattle.product.specs.Room.{linedFlat}
-use Rattle.product.specs.Raise.{Along, along-first, along-next, row-fits, lined-row-is, rows-more}
-use Rattle.product.proofs.kernel.line_rows.Statement.{statement}
-use Rattle.product.proofs.kernel.line_rows.Tie as tie
+use Rattle.linear_rows.specs.Rows.{linedFlat}
+use Rattle.linear_rows.specs.Raised.{Along, along-first, along-next, row-fits, rows-more}
+use Rattle.linear_rows.specs.Lined.{lined-row-is}
+use Rattle.linear_rows.proofs.line_rows.Statement.{statement}
+use Rattle.linear_rows.proofs.line_rows.Tie as tie
 
 abbrev Inv-loop : tie.InvT-loop
 Inv-loop a c m s width step to₀ from₀ at₀ to from at = Along width step from at × ((at ≤ length to₀) × Filled at (linedFlat c m s width step a) to₀ to)

@@ -4,15 +4,15 @@ use Prim.Native.Nat.{_≤_, _-_}
 use lib.ListN.{length}
 use Rattle.lists.specs.Table.{Filled, filled-none, filled-more}
 use Rattle.blocks.specs.Fill.{filled-all}
-use Rattle.product.specs.Room.{linedFirst}
-use Rattle.product.proofs.kernel.line_first.Statement.{statement}
-use Rattle.product.proofs.kernel.line_first.Tie as tie
+use Rattle.linear_rows.specs.Rows.{linedLast}
+use Rattle.linear_rows.proofs.line_last.Statement.{statement}
+use Rattle.linear_rows.proofs.line_last.Tie as tie
 
 abbrev Inv-loop : tie.InvT-loop
-Inv-loop c a to₀ n k₀ to k = (k ≤ n) × ((n ≡ length to₀) × Filled k (linedFirst c a) to₀ to)
+Inv-loop m a to₀ n k₀ to k = (k ≤ n) × ((n ≡ length to₀) × Filled k (linedLast m a) to₀ to)
 
 abbrev μ-loop : tie.MeasureT-loop
-μ-loop c a to₀ n k₀ to k = n - k
+μ-loop m a to₀ n k₀ to k = n - k
 
 loop-holds : tie.Need-loop-holds Inv-loop μ-loop
 loop-holds c = (omega arith, (refl, filled-none))
@@ -44,8 +44,8 @@ same-length c = c .before .loop .inv .1 .1 .len
 returns : tie.Need-returns Inv-loop μ-loop
 returns c = filled-all (c .before .loop .inv .1 .1) (omega arith) (omega arith)
 
-pub line-first-spec : {M : Type 1} → statement M
-line-first-spec =
+pub line-last-spec : {M : Type 1} → statement M
+line-last-spec =
     tie.close
     (tie.spec
     Inv-loop

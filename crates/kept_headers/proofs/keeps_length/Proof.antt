@@ -1,6 +1,6 @@
-use Rattle.product.specs.Short.{keeps-length}
-use Rattle.product.proofs.own.keeps_length.Statement.{statement}
-use Rattle.product.proofs.own.keeps_length.Tie as tie
+use Rattle.kept_headers.specs.Kept.{keeps-length}
+use Rattle.kept_headers.proofs.keeps_length.Statement.{statement}
+use Rattle.kept_headers.proofs.keeps_length.Tie as tie
 
 returns : tie.Need-returns
 returns c = keeps-length (c .args .l) (c .args .n) (c .args .limit) (c .args .m)

@@ -1,11 +1,11 @@
 use Prim.Native.Nat.{ℕ, _+_, _-_, _≤_}
 use lib.ListN.{length}
-use Rattle.product.specs.Lined.{part-length, mid-length, first-is, middle-is, last-is, row-lined}
+use Rattle.linear_rows.specs.Lined.{part-length, mid-length, first-is, middle-is, last-is, row-lined}
 use native.Mathlib.Omega.{arith}
 use mathlib.Core.Path.{_≡_, refl, sym, ap, _∙_}
 use borrow.Author.Needs.{needs}
-use Rattle.product.proofs.kernel.line_row.Statement.{statement}
-use Rattle.product.proofs.kernel.line_row.Tie as tie
+use Rattle.linear_rows.proofs.line_row.Statement.{statement}
+use Rattle.linear_rows.proofs.line_row.Tie as tie
 
 reach-in : {x y z : ℕ} → y ≡ z → x ≤ z → x ≤ y
 reach-in e h = omega arith

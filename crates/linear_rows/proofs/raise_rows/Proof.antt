@@ -1,4 +1,4 @@
-use Rattle.product.specs.Raise.{Along, along-first, along-next, row-fits, row-is, rows-more}
+use Rattle.linear_rows.specs.Raised.{Along, along-first, along-next, row-fits, row-is, rows-more}
 use native.Mathlib.Omega.{arith}
 use mathlib.Core.Path.{_≡_, refl}
 use Prim.Native.Nat.{_+_, _-_, _≤_}
@@ -6,9 +6,9 @@ use lib.ListN.{length, length-take, length-drop}
 use Rattle.lists.specs.Four.{at}
 use Rattle.lists.specs.Table.{Filled, filled-none}
 use Rattle.blocks.specs.Fill.{filled-all}
-use Rattle.product.specs.Room.{raisedFlat}
-use Rattle.product.proofs.kernel.raise_rows.Statement.{statement}
-use Rattle.product.proofs.kernel.raise_rows.Tie as tie
+use Rattle.linear_rows.specs.Rows.{raisedFlat}
+use Rattle.linear_rows.proofs.raise_rows.Statement.{statement}
+use Rattle.linear_rows.proofs.raise_rows.Tie as tie
 
 abbrev Inv-loop : tie.InvT-loop
 Inv-loop a m s width step to₀ from₀ at₀ to from at = Along width step from at × ((at ≤ length to₀) × Filled at (raisedFlat m s width step a) to₀ to)

@@ -4,9 +4,9 @@ use Prim.Native.Nat.{_≤_, _-_}
 use lib.ListN.{length}
 use Rattle.lists.specs.Table.{Filled, filled-none, filled-more}
 use Rattle.blocks.specs.Fill.{filled-all}
-use Rattle.product.specs.Room.{linedMiddle}
-use Rattle.product.proofs.kernel.line_middle.Statement.{statement}
-use Rattle.product.proofs.kernel.line_middle.Tie as tie
+use Rattle.linear_rows.specs.Rows.{linedMiddle}
+use Rattle.linear_rows.proofs.line_middle.Statement.{statement}
+use Rattle.linear_rows.proofs.line_middle.Tie as tie
 
 abbrev Inv-loop : tie.InvT-loop
 Inv-loop m a c b to₀ n k₀ to k = (k ≤ n) × ((n ≡ length to₀) × Filled k (linedMiddle m a c b) to₀ to)
