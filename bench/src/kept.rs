@@ -101,7 +101,7 @@ fn smaller(a: &Header, b: &Header, v: usize) -> usize {
     }
 }
 
-/// The product to the front of `out`; its lengths.
+/// The product to the front of `out`; its lengths. The choice of the way repeats plain.rs's: sharing it was tried, and made plain slower by half.
 #[inline(always)]
 fn product(x: Block, y: Block, limits: &[usize; 4], out: &mut [f64]) -> [usize; 4] {
     match (x.coeffs, y.coeffs) {

@@ -125,7 +125,7 @@ module _ (h : Header) {n : ℕ} (e : n ≡ stored h) (old : List Float) {o : Lis
 
 module _ {w u mo ms : ℕ} {a b : List Float} {c : Way} (s : Shortens w a u b mo ms c) where
   ready : PairReady Product w (length a) u (length b) mo ms
-  ready = pair-ready Product w (length a) u (length b) mo ms (ap (λ (x : Refusal). x .number) (s .owns .gate))
+  ready = owned (s .owns)
 
   abbrev x : Header
   x = headerOf w
