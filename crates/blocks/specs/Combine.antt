@@ -19,9 +19,9 @@ use Rattle.model.specs.Refusals.{zeros, zeroF}
 use Rattle.model.specs.Negate.{negatedAt}
 use Rattle.model.specs.Readings.{first}
 use Rattle.model.specs.Add.{join, joinAt, firstJoined, turned, joined, placeJoined}
-use Rattle.words.specs.Lengths.{Lengths, count-is, count-pos, lengths-pos, is-inside}
-use Rattle.words.specs.Places.{index-inside}
-use Rattle.words.specs.Spans.{count-one}
+use Rattle.shape_words.specs.Lengths.{Lengths, count-is, count-pos, lengths-pos, is-inside}
+use Rattle.shape_words.specs.Places.{index-inside}
+use Rattle.shape_words.specs.Spans.{count-one}
 use Rattle.blocks.specs.Rows.{Inner, Joining}
 use Rattle.blocks.specs.Same.{sameLengths, Same, same-is, same-place, same-count}
 

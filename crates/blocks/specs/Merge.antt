@@ -17,8 +17,8 @@ use Rattle.model.specs.Header.{count}
 use Rattle.model.specs.Places.{place, index, inside}
 use Rattle.model.specs.Poly.{block, readAt}
 use Rattle.model.specs.Add.{joinAt}
-use Rattle.words.specs.Lengths.{Sizes, Inside, count-is, inside-is, is-inside, sizes-low}
-use Rattle.words.specs.Places.{horner, place-index, index-within, index-back}
+use Rattle.shape_words.specs.Lengths.{Sizes, Inside, count-is, inside-is, is-inside, sizes-low}
+use Rattle.shape_words.specs.Places.{horner, place-index, index-within, index-back}
 use Rattle.blocks.specs.Rows.{Inner, Cutting, Joining, CuttingRows, JoiningRows}
 
 -- the last two variables as one

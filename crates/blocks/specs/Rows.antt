@@ -15,8 +15,8 @@ use Rattle.model.specs.Header.{count, span}
 use Rattle.model.specs.Places.{place, index, inside}
 use Rattle.model.specs.Poly.{Block, block, readAt}
 use Rattle.model.specs.Add.{join, joinAt}
-use Rattle.words.specs.Lengths.{Lengths, Sizes, Inside, RowAt, count-is, inside-four, inside-at}
-use Rattle.words.specs.Places.{place-lt, index-within, place-index, horner}
+use Rattle.shape_words.specs.Lengths.{Lengths, Sizes, Inside, RowAt, count-is, inside-four, inside-at}
+use Rattle.shape_words.specs.Places.{place-lt, index-within, place-index, horner}
 
 -- a block with the lengths n holds one with the lengths c
 pub record Inner (n c : List ℕ) : Type 0 where

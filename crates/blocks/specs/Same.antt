@@ -15,8 +15,8 @@ use Rattle.lists.specs.Table.{table, table-same, table-take}
 use Rattle.model.specs.Header.{count}
 use Rattle.model.specs.Places.{place, index}
 use Rattle.model.specs.Poly.{block, readAt}
-use Rattle.words.specs.Lengths.{count-is}
-use Rattle.words.specs.Places.{horner, place-index}
+use Rattle.shape_words.specs.Lengths.{count-is}
+use Rattle.shape_words.specs.Places.{horner, place-index}
 
 unfoldable pub sameLengths : List ℕ → List ℕ → Bool
 sameLengths n m = ((eqb (at n 0) (at m 0) && eqb (at n 1) (at m 1)) && eqb (at n 2) (at m 2)) && eqb (at n 3) (at m 3)

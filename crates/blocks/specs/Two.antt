@@ -12,7 +12,7 @@ use Rattle.model.specs.Header.{count}
 use Rattle.model.specs.Places.{index}
 use Rattle.model.specs.Limits.{cutTo}
 use Rattle.model.specs.Poly.{Block, block, readAt, cut}
-use Rattle.words.specs.Lengths.{Lengths}
+use Rattle.shape_words.specs.Lengths.{Lengths}
 use Rattle.blocks.specs.Rows.{Inner, Cutting}
 
 -- the places of a block with the lengths n that lie inside the lengths c

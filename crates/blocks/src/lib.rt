@@ -14,7 +14,7 @@ ghost use Rattle.model.specs.Add.{joined as joinedPlaces};
 ghost use Rattle.blocks.specs.Combine.{Combining, lineSum};
 ghost use Rattle.blocks.specs.Two.{Two, Holds, cutPlaces};
 ghost use Rattle.lists.specs.Four.{at};
-ghost use Rattle.words.specs.Lengths.{Sizes};
+ghost use Rattle.shape_words.specs.Lengths.{Sizes};
 ghost use Rattle.blocks.specs.Rows.{Cutting, Joining, CuttingRows, JoiningRows, lineJoined, alongRow};
 ghost use Rattle.blocks.specs.Same.{sameLengths};
 ghost use Rattle.blocks.specs.Merge.{merge, Merged};
@@ -124,10 +124,10 @@ fn load_rows(a: &[f64], n: [usize; 4], c: [usize; 4], to: &mut [f64])
     let mut at = 0;
     let mut i = [0usize; 4];
     while at < to.len() {
-        let from = words::places::place_of(n, i);
+        let from = shape_words::places::place_of(n, i);
         copy(&a[from..from + width], &mut to[at..at + width]);
         at += width;
-        let next = words::places::next_row(c, i);
+        let next = shape_words::places::next_row(c, i);
         i = next;
     }
 }
@@ -152,8 +152,8 @@ fn join_row(minus: bool, a: &[f64], n: [usize; 4], i: [usize; 4], to: &mut [f64]
     requires { ⌜ Sizes n ⌝ ∗ ⌜ (count n ≤ length (now a)) × (at n 3 ≤ length (now to)) ⌝ ∗ ⌜ at i 3 ≡ 0 ⌝ }
     ensures { λ _. ⌜ now (to .exit) ≡ table (length (now (to .entry))) (λ k. joinAt minus (getD (now (to .entry)) k nan) (block n (now (a .entry))) (alongRow i k)) ⌝ }
 {
-    if words::places::is_inside(n, i) {
-        let from = words::places::place_of(n, i);
+    if shape_words::places::is_inside(n, i) {
+        let from = shape_words::places::place_of(n, i);
         let width = n[3];
         join_line(minus, &a[from..from + width], to);
     }
@@ -170,7 +170,7 @@ fn join_rows(minus: bool, a: &[f64], n: [usize; 4], r: [usize; 4], to: &mut [f64
     while at < to.len() {
         join_row(minus, a, n, i, &mut to[at..at + width]);
         at += width;
-        let next = words::places::next_row(r, i);
+        let next = shape_words::places::next_row(r, i);
         i = next;
     }
 }
@@ -280,8 +280,8 @@ pub fn load_two(
     requires { ⌜ Two la ca lb cb n (length (now a)) (length (now b)) (length (now work)) ⌝ }
     ensures { λ _. ⌜ Holds n (cutPlaces la ca (now (a .entry))) (cutPlaces lb cb (now (b .entry))) (now (work .exit)) ⌝ }
 {
-    let na = words::places::count_of(ca);
+    let na = shape_words::places::count_of(ca);
     load(a, la, ca, &mut work[..na]);
-    let nb = words::places::count_of(cb);
+    let nb = shape_words::places::count_of(cb);
     load(b, lb, cb, &mut work[n..n + nb]);
 }

@@ -16,9 +16,9 @@ use Rattle.lists.specs.Table.{table, Filled, length-front, table-same}
 use Rattle.lists.specs.Walk.{walk-same}
 use Rattle.model.specs.Refusals.{zeroF}
 use Rattle.blocks.specs.Fill.{part-table}
-use Rattle.linear_rows.specs.Raised.{Along}
+use Rattle.product_linear.specs.Raised.{Along}
 use Rattle.change.specs.Room.{PartRoom}
-use Rattle.row_sums.specs.Sums.{sumAt, frontAt}
+use Rattle.change_sums.specs.Sums.{sumAt, frontAt}
 
 -- the row m plus the sum of those before it, and the rows after it
 abbrev pub keptAt : ℕ → ℕ → List Float → ℕ → Float

@@ -10,8 +10,8 @@ use lib.ListN.{set}
 use Rattle.lists.specs.Four.{at}
 use Rattle.model.specs.Header.{count, span}
 use Rattle.model.specs.Places.{strides, place, index}
-use Rattle.words.specs.Lengths.{Lengths, Inside}
-use Rattle.words.specs.Places.{horner, place-index, index-inside}
+use Rattle.shape_words.specs.Lengths.{Lengths, Inside}
+use Rattle.shape_words.specs.Places.{horner, place-index, index-inside}
 
 -- lengths that agree but in v
 abbrev pub Others : ℕ → List ℕ → List ℕ → Type 0

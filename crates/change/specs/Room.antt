@@ -6,7 +6,7 @@ use Rattle.model.specs.declared.Header.{Header}
 use Rattle.model.specs.declared.Family.the-variants.{Shift}
 use Rattle.model.specs.Header.{limit, stored, noHeader}
 use Rattle.model.specs.Announced.{announced}
-use Rattle.words.specs.Rules.{Ruled}
+use Rattle.shape_words.specs.Rules.{Ruled}
 
 -- a polynomial under h, and room for what a shift by n in v announces
 pub record Shifted (h r : Header) (v n ma mt : ℕ) : Type 0 where

@@ -22,18 +22,18 @@ use Rattle.model.specs.Announced.{lessIn, single, announced}
 use Rattle.model.specs.Refusals.{zeroF}
 use Rattle.model.specs.Poly.{poly, blockOf}
 use Rattle.model.specs.Shifts.{inRow, rowSum, shiftDownPoly}
-use Rattle.words.specs.Rules.{Ruled, Regular, ruled-at}
-use Rattle.words.specs.Lengths.{lengths-of}
+use Rattle.shape_words.specs.Rules.{Ruled, Regular, ruled-at}
+use Rattle.shape_words.specs.Lengths.{lengths-of}
 use Rattle.shape.specs.Announced.{single-regular}
 use Rattle.shape.specs.Keeps.{Keeps}
 use Rattle.readings.specs.Kept.{full-keeps}
-use Rattle.linear_rows.specs.Rows.{Rows}
+use Rattle.product_linear.specs.Rows.{Rows}
 use Rattle.product.specs.Room.{Raising}
 use Rattle.product.specs.Raise.{raise-rows, raise-small}
 use Rattle.change.specs.Room.{Shifted}
 use Rattle.change.specs.Room.{PartRoom}
 use Rattle.change.specs.Parts.{Others, Sits, sits}
-use Rattle.row_sums.specs.Sums.{sumAt}
+use Rattle.change_sums.specs.Sums.{sumAt}
 use Rattle.change.specs.Drop.{keptAt, droppedFlat}
 
 pub shift-regular : (v n : ℕ) {h : Header} → Ruled h → Regular (announced (Shift v n) h noHeader)

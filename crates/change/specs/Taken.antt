@@ -25,13 +25,13 @@ use Rattle.model.specs.Refusals.{zeroF}
 use Rattle.model.specs.Constructed.{wholeF}
 use Rattle.model.specs.Poly.{Poly, poly, blockOf}
 use Rattle.model.specs.Shifts.{inRow, rowsFrom, derivativeFactor, derivativePoly, coefficientFactor, expansionPoly}
-use Rattle.words.specs.Rules.{Ruled, ruled-at}
+use Rattle.shape_words.specs.Rules.{Ruled, ruled-at}
 use Rattle.shape.specs.Keeps.{Keeps}
 use Rattle.readings.specs.Kept.{ones-keeps, full-keeps}
 use Rattle.change.specs.Room.{Shifted}
-use Rattle.row_factors.specs.Stripes.{Scaling}
+use Rattle.change_factors.specs.Stripes.{Scaling}
 use Rattle.change.specs.Shift.{shift-regular, shifted-row, shift-rows, shift-small, shift-sits, shift-read}
-use Rattle.row_factors.specs.Scale.{factorialF, startF, nextF, factorF, rowBy, scaledFlat, scaledPoly}
+use Rattle.change_factors.specs.Scale.{factorialF, startF, nextF, factorF, rowBy, scaledFlat, scaledPoly}
 
 -- the model's step at the row k
 abbrev stepBy : Bool → ℕ → ℕ → Poly → ℕ → Float → Float

@@ -4,8 +4,8 @@ use model::Answer;
 use model::Family;
 use model::Header;
 use shape::announce::announced_of;
-use words::word::header_of;
-use words::word::pack;
+use shape_words::word::header_of;
+use shape_words::word::pack;
 ghost use mathlib.Core.Path.{_≡_};
 ghost use Prim.Native.Nat.{_+_, _*_, _≤_};
 ghost use lib.ListN.{length};
@@ -17,17 +17,17 @@ ghost use Rattle.model.specs.Poly.{poly, held};
 ghost use Rattle.model.specs.Answers.{answered, outAfter};
 ghost use Rattle.model.specs.Gates.{announcedOne};
 ghost use Rattle.model.specs.Shifts.{shiftDownPoly, shiftGate};
-ghost use Rattle.linear_rows.specs.Rows.{Rows};
+ghost use Rattle.product_linear.specs.Rows.{Rows};
 ghost use Rattle.change.specs.Room.{Shifted, PartRoom};
 ghost use Rattle.change.specs.Drop.{keptAt, droppedAt, droppedFlat};
-ghost use Rattle.row_factors.specs.Scale.{scaledPoly};
+ghost use Rattle.change_factors.specs.Scale.{scaledPoly};
 
 // The rows from m on, the first of them with the sum of those before it.
 fn kept_rows(a: &[f64], s: usize, m: usize, to: &mut [f64])
     requires { ⌜ (s ≤ length (now to)) × (m * s + length (now to) ≡ length (now a)) ⌝ }
     ensures { λ _. ⌜ now (to .exit) ≡ table (length (now (to .entry))) (keptAt s m (now (a .entry))) ⌝ }
 {
-    let next = row_sums::front_row(a, m, &mut to[..s]);
+    let next = change_sums::front_row(a, m, &mut to[..s]);
     blocks::copy(&a[next..], &mut to[s..]);
 }
 
@@ -37,7 +37,7 @@ fn drop_part(all: bool, a: &[f64], s: usize, m: usize, to: &mut [f64])
     ensures { λ _. ⌜ now (to .exit) ≡ table (length (now (to .entry))) (droppedAt all s m (now (a .entry))) ⌝ }
 {
     if all {
-        row_sums::sum_rows(a, m, to);
+        change_sums::sum_rows(a, m, to);
         return;
     }
     kept_rows(a, s, m, to);
@@ -64,7 +64,7 @@ pub fn shift_rows(a: &[f64], h: Header, r: Header, v: usize, n: usize, to: &mut 
 {
     let l = h.lengths;
     let c = r.lengths;
-    let strides = words::places::strides_of(l);
+    let strides = shape_words::places::strides_of(l);
     let s = strides[v];
     if l[v] <= n + 1 {
         drop_parts(true, a, s, l[v], l[v] * s, c[v] * s, to);
@@ -105,12 +105,12 @@ pub fn take_rows(
         return shortest(r);
     }
     let c = r.lengths;
-    let strides = words::places::strides_of(l);
+    let strides = shape_words::places::strides_of(l);
     let s = strides[v];
-    row_factors::scale_rows(
+    change_factors::scale_rows(
         plain,
         a,
-        row_factors::first_factor(plain, n),
+        change_factors::first_factor(plain, n),
         n,
         s,
         l[v] * s,

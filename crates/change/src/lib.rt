@@ -6,8 +6,8 @@ use model::Answer;
 use model::Family;
 use model::Header;
 use shape::announce::announced_of;
-use words::word::header_of;
-use words::word::pack;
+use shape_words::word::header_of;
+use shape_words::word::pack;
 ghost use mathlib.Core.Path.{_≡_};
 ghost use Rattle.model.specs.Shifts.{derivativeAnswer, derivativeOut, expansionAnswer, expansionOut, shiftDownAnswer, shiftDownOut};
 

@@ -25,9 +25,9 @@ use Rattle.model.specs.Refusals.{ask, noRefusal, fits, roomy, answerBy, readBy,
 use Rattle.model.specs.Poly.{Poly}
 use Rattle.model.specs.Answers.{answered, outAfter}
 use Rattle.model.specs.Gates.{full, readGate, noMissing, indexGate, tailGate, oneGate, workGate, inGate, pairGate, goodLimit, goodLimits, withGate, varWithGate, varHeader, varGate, announcedOne, announcedPair}
-use Rattle.words.specs.Rules.{Good, Regular, none-regular}
-use Rattle.words.specs.Words.{good-word}
-use Rattle.words.specs.Lengths.{Inside, inside-is}
+use Rattle.shape_words.specs.Rules.{Good, Regular, none-regular}
+use Rattle.shape_words.specs.Words.{good-word}
+use Rattle.shape_words.specs.Lengths.{Inside, inside-is}
 use Rattle.gates.specs.Given.{good-limit, good-limits, given-same, zero-regular, var-regular}
 use Rattle.shape.specs.Announced.{announced-regular}
 

@@ -10,7 +10,7 @@ use Rattle.lists.specs.Test.{and-left, and-right, or-right, decide, of-both}
 use Rattle.lists.specs.Four.{at, four, at-four, each}
 use Rattle.model.specs.Header.{header, limit, limitOrOne, zeroWith, twoAtMost, varWith}
 use Rattle.model.specs.Gates.{goodLimit, goodLimits}
-use Rattle.words.specs.Rules.{Regular, regular-four}
+use Rattle.shape_words.specs.Rules.{Regular, regular-four}
 use Rattle.shape.specs.Limits.{Range}
 
 pub good-limit : (l : ℕ) → goodLimit l ≡ true → Range l

@@ -4,10 +4,10 @@ use model::Header;
 use model::Refusal;
 use shape::announce::announced_of;
 use shape::announce::product_header;
-use words::places::count_of;
-use words::places::is_inside;
-use words::word::header_of;
-use words::word::is_good;
+use shape_words::places::count_of;
+use shape_words::places::is_inside;
+use shape_words::word::header_of;
+use shape_words::word::is_good;
 ghost use mathlib.Core.Path.{_≡_};
 ghost use Prim.Native.Nat.{_*_};
 ghost use lib.Dec.{leb};
@@ -15,7 +15,7 @@ ghost use Rattle.model.specs.Header.{stored};
 ghost use Rattle.model.specs.Gates.{readGate, noMissing, indexGate, tailGate, oneGate, workGate, inGate, goodLimit, goodLimits, withGate, varWithGate, varGate};
 ghost use Rattle.model.specs.Refusals.{ask, noRefusal, fits, roomy};
 ghost use Rattle.model.specs.declared.Family.the-variants.{Product};
-ghost use Rattle.words.specs.Rules.{Ruled};
+ghost use Rattle.shape_words.specs.Rules.{Ruled};
 ghost use Rattle.gates.specs.Open.{shut, Roomed, Opens};
 
 // The stored count of a header.

@@ -1,9 +1,9 @@
 // The program `limits`: reads a sheet on standard input and prints, in plain text, every limit before any figure.
-// No contract can say what is read or printed. `plain::answer` says what is printed for a text, as much of it as is read here decides (told-front), and it is
+// No contract can say what is read or printed. `report::answer` says what is printed for a text, as much of it as is read here decides (told-front), and it is
 // printed whole (told-whole).
 use libc::STDIN_FILENO;
 use libc::STDOUT_FILENO;
-use text::line::sheet_memory;
+use sheet_text::line::sheet_memory;
 ghost use mathlib.Core.Path.{_≡_};
 ghost use lib.ListN.{replicate};
 
@@ -18,6 +18,6 @@ fn main() {
     let mut text = sheet_memory();
     let mut output = answer_memory();
     let got = io::read_full(STDIN_FILENO, &mut text);
-    let n = plain::answer(&text[..got], &mut output);
+    let n = report::answer(&text[..got], &mut output);
     io::write_all(STDOUT_FILENO, &output[..n]);
 }

@@ -18,8 +18,8 @@ use Rattle.model.specs.Readings.{oneF}
 use Rattle.model.specs.Poly.{Block, block}
 use Rattle.model.specs.Product.{constantBlock}
 use Rattle.model.specs.Power.{squared}
-use Rattle.words.specs.Lengths.{Lengths}
-use Rattle.exact.specs.Sits.{Sits}
+use Rattle.shape_words.specs.Lengths.{Lengths}
+use Rattle.laws_exact.specs.Sits.{Sits}
 use Rattle.product.specs.Room.{Under, Stands}
 use Rattle.product.specs.Ways.{under-lengths, sits-under, count-less}
 use Rattle.product.specs.Times.{stands-padded}

@@ -17,11 +17,11 @@ use Rattle.model.specs.Announced.{announced, single}
 use Rattle.model.specs.Refusals.{zeros, padded}
 use Rattle.model.specs.Poly.{Poly, poly, block, blockOf, polyOf, held}
 use Rattle.model.specs.Power.{powerPoly}
-use Rattle.words.specs.Rules.{Ruled, Regular, ruled-at}
-use Rattle.words.specs.Lengths.{lengths-of}
+use Rattle.shape_words.specs.Rules.{Ruled, Regular, ruled-at}
+use Rattle.shape_words.specs.Lengths.{lengths-of}
 use Rattle.shape.specs.Announced.{single-limits}
 use Rattle.gates.specs.Gate.{WorkReady}
-use Rattle.exact.specs.PowerKeeps.{power-keeps}
+use Rattle.laws_exact.specs.PowerKeeps.{power-keeps}
 use Rattle.product.specs.Room.{Under}
 use Rattle.power.specs.Room.{powerBlock, powerShape, Powers}
 

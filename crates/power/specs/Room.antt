@@ -15,7 +15,7 @@ use Rattle.model.specs.Readings.{oneF}
 use Rattle.model.specs.Poly.{Block, block}
 use Rattle.model.specs.Product.{constantBlock, multiplied}
 use Rattle.model.specs.Power.{squared}
-use Rattle.words.specs.Lengths.{Lengths}
+use Rattle.shape_words.specs.Lengths.{Lengths}
 use Rattle.product.specs.Room.{Caps, Under}
 
 -- the value of `pow` as a block under the limits l

@@ -26,8 +26,8 @@ fn times_front(
     requires { ⌜ Step limits la lb pa pb n (length (now work)) (length (now out)) ⌝ }
     ensures { λ r. ⌜ Made (multiplied limits (lain pa la (now (work .entry))) (lain pb lb (now (work .entry)))) (2 * n) (now (work .entry)) (now (work .exit)) (now (out .exit)) r ⌝ }
 {
-    let ea = pa + words::places::count_of(la);
-    let eb = pb + words::places::count_of(lb);
+    let ea = pa + shape_words::places::count_of(la);
+    let eb = pb + shape_words::places::count_of(lb);
     product::kernel::times(work, pa, ea, la, pb, eb, lb, 2 * n, limits, out)
 }
 
@@ -47,7 +47,7 @@ fn times_to(
     ensures { λ r. ⌜ Placed (multiplied limits (lain pa la (now (work .entry))) (lain pb lb (now (work .entry)))) to n (now (work .entry)) (now (work .exit)) r ⌝ }
 {
     let r = times_front(work, pa, la, pb, lb, n, limits, out);
-    let z = words::places::count_of(r);
+    let z = shape_words::places::count_of(r);
     product::kernel::keep(out, z, work, to);
     r
 }
@@ -114,7 +114,7 @@ fn power_front(
         return [1, 1, 1, 1];
     }
     if e == 1 {
-        let z = words::places::count_of(la);
+        let z = shape_words::places::count_of(la);
         product::kernel::keep(work, z, out, 0);
         return la;
     }
@@ -135,7 +135,7 @@ pub fn power_loaded(
     ensures written { λ r. ⌜ now (out .exit) ≡ padded n (powerBlock e limits (lain 0 la (now (work .entry))) .places) ⌝ }
 {
     let r = power_front(work, la, e, limits, n, out);
-    let z = words::places::count_of(r);
+    let z = shape_words::places::count_of(r);
     blocks::clear(&mut out[z..n]);
     r
 }

@@ -19,8 +19,8 @@ use Rattle.model.specs.Readings.{oneF}
 use Rattle.model.specs.Poly.{Block, block, readAt}
 use Rattle.model.specs.Add.{joinAt, placeJoined, joined, joinedBlock}
 use Rattle.model.specs.Product.{constantBlock, scaled, scaledAt, grown, raised, raisedAt, chosen, plainProduct, linearProduct, productOf}
-use Rattle.words.specs.Lengths.{inside-is, is-inside}
-use Rattle.words.specs.Places.{place-lt, place-index, index-inside}
+use Rattle.shape_words.specs.Lengths.{inside-is, is-inside}
+use Rattle.shape_words.specs.Places.{place-lt, place-index, index-inside}
 use Rattle.blocks.specs.Combine.{way-both}
 use Rattle.product.specs.Room.{linedAt, RaisesTo, Put, Stands}
 use Rattle.product.specs.Ways.{count-less, grown-under, grown-in, put-stands, raises-whole}

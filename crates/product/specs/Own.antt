@@ -18,9 +18,9 @@ use Rattle.model.specs.Readings.{oneF}
 use Rattle.model.specs.Gates.{pairGate, announcedPair}
 use Rattle.model.specs.Poly.{Block, block}
 use Rattle.model.specs.Product.{scaledAt, chosen}
-use Rattle.words.specs.Rules.{Good}
-use Rattle.words.specs.Lengths.{Lengths}
-use Rattle.kept_headers.specs.Kept.{Keeps}
+use Rattle.shape_words.specs.Rules.{Good}
+use Rattle.shape_words.specs.Lengths.{Lengths}
+use Rattle.product_kept.specs.Kept.{Keeps}
 use Rattle.product.specs.Room.{linedAt}
 
 -- the way of two blocks is that by a constant or a linear factor on the right, c neither zero nor one

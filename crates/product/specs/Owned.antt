@@ -23,13 +23,13 @@ use Rattle.model.specs.Refusals.{zeros, noRefusal, leaves, cleared}
 use Rattle.model.specs.Gates.{full, pairGate, announcedPair}
 use Rattle.model.specs.Poly.{Poly, poly, polyOf, held, block}
 use Rattle.model.specs.Product.{multiplied, productPoly, productAnswer, productOut, productScratch}
-use Rattle.words.specs.Rules.{Ruled, Good, ruled-at, header-good}
-use Rattle.words.specs.Lengths.{Lengths, lengths-of}
-use Rattle.words.specs.Words.{good-word, pack-unpack}
-use Rattle.kept_headers.specs.Kept.{KeepsLength, Keeps, keeps-ruled, keeps-announced}
+use Rattle.shape_words.specs.Rules.{Ruled, Good, ruled-at, header-good}
+use Rattle.shape_words.specs.Lengths.{Lengths, lengths-of}
+use Rattle.shape_words.specs.Words.{good-word, pack-unpack}
+use Rattle.product_kept.specs.Kept.{KeepsLength, Keeps, keeps-ruled, keeps-announced}
 use Rattle.gates.specs.Gate.{PairReady, pair-ready}
 use Rattle.blocks.specs.Entry.{done-answer, done-full}
-use Rattle.exact.specs.Sits.{Sits}
+use Rattle.laws_exact.specs.Sits.{Sits}
 use Rattle.product.specs.Room.{Caps}
 use Rattle.product.specs.Own.{Light, Owns, Shortens, ShortRoom, shortPlaces}
 use Rattle.product.specs.Short.{short-var, short-value}

@@ -19,9 +19,9 @@ use Rattle.model.specs.Places.{strides, place, index, inside}
 use Rattle.model.specs.Refusals.{zeroF}
 use Rattle.model.specs.Poly.{block, readAt}
 use Rattle.model.specs.Product.{raisedAt}
-use Rattle.words.specs.Lengths.{Inside, count-is, count-pos, count-most, lengths-pos, inside-at, inside-four, inside-is, is-inside}
-use Rattle.words.specs.Places.{horner, place-index, index-inside}
-use Rattle.linear_rows.specs.Rows.{raisedFlat, linedFlat, Rows}
+use Rattle.shape_words.specs.Lengths.{Inside, count-is, count-pos, count-most, lengths-pos, inside-at, inside-four, inside-is, is-inside}
+use Rattle.shape_words.specs.Places.{horner, place-index, index-inside}
+use Rattle.product_linear.specs.Rows.{raisedFlat, linedFlat, Rows}
 use Rattle.product.specs.Room.{linedAt, Raising}
 
 -- for the crates above, which go by such rows too

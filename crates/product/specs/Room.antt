@@ -15,7 +15,7 @@ use Rattle.model.specs.Places.{inside}
 use Rattle.model.specs.Poly.{Block, readAt}
 use Rattle.model.specs.Linear.{noLinear, linear}
 use Rattle.model.specs.Product.{way, grown, raisedAt}
-use Rattle.words.specs.Lengths.{Lengths}
+use Rattle.shape_words.specs.Lengths.{Lengths}
 
 -- for the crates above, which go by such rows too
 

@@ -22,9 +22,9 @@ use Rattle.model.specs.Poly.{Block, block}
 use Rattle.model.specs.Add.{joinedBlock}
 use Rattle.model.specs.Linear.{linear}
 use Rattle.model.specs.Product.{isConstant, isZero, constantBlock, scaled, scaledAt, grown, raised, chosen, linearProduct, productOf, multiplied}
-use Rattle.kept_headers.specs.Kept.{KeepsLength}
-use Rattle.exact.specs.Sits.{Sits}
-use Rattle.exact.specs.Ways.{linear-is, line-two}
+use Rattle.product_kept.specs.Kept.{KeepsLength}
+use Rattle.laws_exact.specs.Sits.{Sits}
+use Rattle.laws_exact.specs.Ways.{linear-is, line-two}
 use Rattle.product.specs.Room.{linedAt, Caps, Raising, RaisesTo}
 use Rattle.product.specs.Ways.{sits-under, chosen-five, product-five, product-plain, plain-3}
 use Rattle.product.specs.Lined.{neither, by-scale, lined-block}

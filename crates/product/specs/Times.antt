@@ -22,16 +22,16 @@ use Rattle.model.specs.Announced.{announced, paired}
 use Rattle.model.specs.Refusals.{zeroF, zeros, padded}
 use Rattle.model.specs.Poly.{Block, block, held, readAt, cut}
 use Rattle.model.specs.Product.{isZero, constantBlock, productOf, multiplied, productPoly}
-use Rattle.words.specs.Rules.{Ruled, ruled-at}
-use Rattle.words.specs.Lengths.{Lengths, lengths-of, lengths-pos, count-pos, count-most}
-use Rattle.words.specs.Places.{place-index}
+use Rattle.shape_words.specs.Rules.{Ruled, ruled-at}
+use Rattle.shape_words.specs.Lengths.{Lengths, lengths-of, lengths-pos, count-pos, count-most}
+use Rattle.shape_words.specs.Places.{place-index}
 use Rattle.gates.specs.Gate.{PairReady}
 use Rattle.blocks.specs.Rows.{Inner}
 use Rattle.blocks.specs.Same.{sameLengths, same-is, same-count, cut-all}
 use Rattle.blocks.specs.Two.{Two, Holds, cutPlaces, cut-is}
-use Rattle.exact.specs.Sits.{Sits, cut-at}
-use Rattle.exact.specs.Running.{multiplied-fits}
-use Rattle.exact.specs.ProductKeeps.{product-keeps}
+use Rattle.laws_exact.specs.Sits.{Sits, cut-at}
+use Rattle.laws_exact.specs.Running.{multiplied-fits}
+use Rattle.laws_exact.specs.ProductKeeps.{product-keeps}
 use Rattle.product.specs.Room.{Under, Room, Times, Whole, Put, Stands, Made}
 use Rattle.product.specs.Ways.{under-lengths, inner-of, count-less, shape-under, shape-left, shape-right}
 

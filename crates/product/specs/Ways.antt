@@ -26,11 +26,11 @@ use Rattle.model.specs.Linear.{noLinear, linear}
 use Rattle.model.specs.Add.{joined, joinedBlock}
 use Rattle.model.specs.General.{general}
 use Rattle.model.specs.Product.{isConstant, isOne, way, justC, chosen, scaled, grown, raised, raisedAt, constantBlock, plainProduct, linearProduct, productOf}
-use Rattle.words.specs.Lengths.{Lengths, count-is}
+use Rattle.shape_words.specs.Lengths.{Lengths, count-is}
 use Rattle.blocks.specs.Rows.{Inner}
-use Rattle.general.specs.Rows.{Multiplying}
+use Rattle.product_general.specs.Rows.{Multiplying}
 use Rattle.blocks.specs.Combine.{Combining}
-use Rattle.exact.specs.Sits.{Sits, sum-at}
+use Rattle.laws_exact.specs.Sits.{Sits, sum-at}
 use Rattle.product.specs.Room.{lineWay, Caps, Under, RaisesTo, Raising, Plain, Joins, Put, Stands, Made}
 
 -- ---- lengths

@@ -10,7 +10,7 @@ use borrow.Author.Tests.{eqb-true}
 use Rattle.lists.specs.Test.{and-left, and-right}
 use Rattle.lists.specs.Four.{at}
 use Rattle.model.specs.Header.{count}
-use Rattle.words.specs.Lengths.{count-is}
+use Rattle.shape_words.specs.Lengths.{count-is}
 
 one-left : (a b : ℕ) → a * b ≡ 1 → a ≡ 1
 one-left zero b h = absurd (omega (arith, zero-mul b))

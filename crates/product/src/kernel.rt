@@ -1,10 +1,10 @@
 // The product of two blocks, with its shortcuts. `product` and `linear_product` call each other; the stage falls at the product by a constant.
 // The blocks lie in a lent buffer, used as a stack: what lies below `spare` stays as it was. The result goes to the front of `out`.
-use linear_rows::line_rows;
-use linear_rows::raise_rows;
-use linear_rows::scale;
 use model::Linear;
 use model::Way;
+use product_linear::line_rows;
+use product_linear::raise_rows;
+use product_linear::scale;
 ghost use mathlib.Core.Path.{_≡_};
 ghost use mathlib.Core.Bool.{false};
 ghost use Prim.Native.Nat.{_+_, _-_, _*_, _≤_, _<_};
@@ -18,7 +18,7 @@ ghost use Rattle.model.specs.Refusals.{zeroF, padded};
 ghost use Rattle.model.specs.Poly.{block};
 ghost use Rattle.model.specs.Add.{joinedBlock};
 ghost use Rattle.model.specs.Product.{isZero, justC, constantBlock, scaled, grown, raisedAt, raised, chosen, plainProduct, linearProduct, productOf, multiplied};
-ghost use Rattle.words.specs.Lengths.{Lengths};
+ghost use Rattle.shape_words.specs.Lengths.{Lengths};
 ghost use Rattle.product.specs.Room.{lineWay, Raising, RaisesTo, linedAt, Plain, Joins, Room, LineRoom, Whole, LineWhole, Times, Put, Stands, Made};
 
 // A constant alone.
@@ -110,7 +110,7 @@ fn raise(a: &[f64], n: [usize; 4], v: usize, m: f64, r: [usize; 4], to: &mut [f6
     requires { ⌜ Raising n v r (length (now a)) (length (now to)) ⌝ }
     ensures { λ _. ⌜ now (to .exit) ≡ table (count r) (λ k. raisedAt v m (block n (now (a .entry))) (index r k)) ⌝ }
 {
-    let strides = words::places::strides_of(n);
+    let strides = shape_words::places::strides_of(n);
     let s = strides[v];
     raise_rows(a, m, s, n[v] * s, r[v] * s, to);
 }
@@ -128,7 +128,7 @@ fn raise_to(
 {
     let v = line.variable;
     let r = grown_to(limits, v, n);
-    let z = words::places::count_of(r);
+    let z = shape_words::places::count_of(r);
     raise(a, n, v, line.m, r, &mut out[..z]);
     r
 }
@@ -180,8 +180,8 @@ fn plain(
         return scaled_to(c, a, la, out);
     }
     let r = shape::limits::sum_shape(limits, la, lb);
-    let z = words::places::count_of(r);
-    general::general(a, la, b, lb, r, &mut out[..z]);
+    let z = shape_words::places::count_of(r);
+    product_general::general(a, la, b, lb, r, &mut out[..z]);
     r
 }
 
@@ -191,7 +191,7 @@ pub fn add_blocks(a: &[f64], n: [usize; 4], b: &[f64], m: [usize; 4], out: &mut 
     ensures { λ r. ⌜ Put (joinedBlock false (block n (now (a .entry))) (block m (now (b .entry)))) (now (out .entry)) (now (out .exit)) r ⌝ }
 {
     let r = shape::limits::max_shape(n, m);
-    let z = words::places::count_of(r);
+    let z = shape_words::places::count_of(r);
     blocks::combine(false, a, n, b, m, r, &mut out[..z]);
     r
 }
@@ -254,14 +254,14 @@ fn linear_product(
     if c == 0.0 {
         return r;
     }
-    let z = words::places::count_of(r);
+    let z = shape_words::places::count_of(r);
     keep(out, z, work, spare);
     let q = spare + z;
     work[q] = c;
     let t = q + 1;
     let one = [1, 1, 1, 1];
     let k = product(work, p, e, n, q, t, one, t, limits, stage - 1, out);
-    let y = words::places::count_of(k);
+    let y = shape_words::places::count_of(k);
     keep(out, y, work, t);
     let u = t + y;
     add_blocks(&work[spare..q], r, &work[t..u], k, out)
@@ -311,7 +311,7 @@ fn line_up(a: &[f64], n: [usize; 4], v: usize, c: f64, m: f64, r: [usize; 4], to
     requires { ⌜ Raising n v r (length (now a)) (length (now to)) ⌝ ∗ ⌜ at n v ≤ at r v ⌝ }
     ensures { λ _. ⌜ now (to .exit) ≡ table (count r) (λ k. linedAt v c m (block n (now (a .entry))) (index r k)) ⌝ }
 {
-    let strides = words::places::strides_of(n);
+    let strides = shape_words::places::strides_of(n);
     let s = strides[v];
     line_rows(a, c, m, s, n[v] * s, r[v] * s, to);
 }
@@ -329,7 +329,7 @@ fn line_to(
 {
     let v = line.variable;
     let r = grown_to(limits, v, n);
-    let z = words::places::count_of(r);
+    let z = shape_words::places::count_of(r);
     line_up(a, n, v, line.c, line.m, r, &mut out[..z]);
     r
 }
@@ -407,8 +407,8 @@ fn multiply_front(
         return product_whole(a, ca, b, cb, limits, out, work);
     }
     blocks::load_two(a, la, ca, b, lb, cb, n, work);
-    let na = words::places::count_of(ca);
-    let end = n + words::places::count_of(cb);
+    let na = shape_words::places::count_of(ca);
+    let end = n + shape_words::places::count_of(cb);
     product(work, 0, na, ca, n, end, cb, 2 * n, limits, 1, out)
 }
 
@@ -428,7 +428,7 @@ pub fn multiply_into(
     ensures written { λ r. ⌜ now (out .exit) ≡ padded n (multiplied limits (block la (now (a .entry))) (block lb (now (b .entry))) .places) ⌝ }
 {
     let r = multiply_front(a, la, b, lb, limits, n, out, work);
-    let z = words::places::count_of(r);
+    let z = shape_words::places::count_of(r);
     blocks::clear(&mut out[z..n]);
     r
 }

@@ -4,7 +4,7 @@ mod own;
 
 use model::Answer;
 use model::Header;
-use words::word::pack;
+use shape_words::word::pack;
 ghost use mathlib.Core.Path.{_≡_};
 ghost use Rattle.model.specs.Product.{productAnswer, productOut, productScratch};
 

@@ -2,15 +2,15 @@
 // constant or a linear factor takes one pass.
 use crate::kernel::choose;
 use gates::stored_of;
-use kept_headers::keeps_header;
-use linear_rows::line_rows;
-use linear_rows::scale;
 use model::Answer;
 use model::Linear;
 use model::Way;
-use words::places::strides_of;
-use words::word::header_of;
-use words::word::is_good;
+use product_kept::keeps_header;
+use product_linear::line_rows;
+use product_linear::scale;
+use shape_words::places::strides_of;
+use shape_words::word::header_of;
+use shape_words::word::is_good;
 ghost use mathlib.Core.Path.{_≡_};
 ghost use mathlib.Core.List.{_++_};
 ghost use Prim.Native.Nat.{_*_};
@@ -20,7 +20,7 @@ ghost use Rattle.model.specs.Word.{headerOf};
 ghost use Rattle.model.specs.Refusals.{zeros};
 ghost use Rattle.model.specs.Poly.{block};
 ghost use Rattle.model.specs.declared.Answer.the-variants.{Done};
-ghost use Rattle.words.specs.Lengths.{Lengths};
+ghost use Rattle.shape_words.specs.Lengths.{Lengths};
 ghost use Rattle.product.specs.Own.{Light, Owns, Shortens, ShortBlock, ShortRoom, shortPlaces};
 
 // No short way.

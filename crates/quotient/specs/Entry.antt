@@ -13,8 +13,8 @@ use Rattle.model.specs.Limits.{cutTo}
 use Rattle.model.specs.Announced.{announced, paired}
 use Rattle.model.specs.Poly.{block, held}
 use Rattle.model.specs.Quotient.{quotientShape, divided, quotientPoly}
-use Rattle.words.specs.Rules.{Ruled, ruled-at}
-use Rattle.words.specs.Lengths.{lengths-of}
+use Rattle.shape_words.specs.Rules.{Ruled, ruled-at}
+use Rattle.shape_words.specs.Lengths.{lengths-of}
 use Rattle.gates.specs.Gate.{PairReady}
 use Rattle.quotient.specs.Room.{Divides}
 use Rattle.quotient.specs.Into.{into-lengths}

@@ -19,11 +19,11 @@ use Rattle.model.specs.Places.{strides, offset, place, index, inside}
 use Rattle.model.specs.Poly.{Block, block}
 use Rattle.model.specs.Add.{joinAt}
 use Rattle.model.specs.Quotient.{taken, lessened, quotientAt}
-use Rattle.words.specs.Lengths.{Lengths, inside-is}
+use Rattle.shape_words.specs.Lengths.{Lengths, inside-is}
 use Rattle.blocks.specs.Rows.{Joining}
-use Rattle.general.specs.Index.{inRow, split-at}
-use Rattle.general.specs.Product.{row-in}
-use Rattle.general.specs.Pairs.{fromOn}
+use Rattle.product_general.specs.Index.{inRow, split-at}
+use Rattle.product_general.specs.Product.{row-in}
+use Rattle.product_general.specs.Pairs.{fromOn}
 use Rattle.quotient_levels.specs.Grows.{grow-add, grow-same, length-grown}
 use Rattle.quotient_levels.specs.Level.{takenAt, levelAt, levelOf, taken-row, lessened-same}
 use Rattle.quotient.specs.Room.{Adding}

@@ -19,10 +19,10 @@ use Rattle.model.specs.Poly.{block}
 use Rattle.model.specs.Negate.{negatedAt}
 use Rattle.model.specs.Add.{joinAt}
 use Rattle.model.specs.Quotient.{recurred}
-use Rattle.general.specs.Index.{inRow}
-use Rattle.general.specs.Product.{span-more, stride-at}
+use Rattle.product_general.specs.Index.{inRow}
+use Rattle.product_general.specs.Product.{span-more, stride-at}
 use Rattle.quotient_levels.specs.Grows.{length-grown}
-use Rattle.lessening.specs.Laid.{Laid, laid-none, laid-mid, laid-append, laid-above, laid-part, laid-under, laid-front}
+use Rattle.quotient_lessening.specs.Laid.{Laid, laid-none, laid-mid, laid-append, laid-above, laid-part, laid-under, laid-front}
 use Rattle.quotient_levels.specs.Level.{takenAt, levelOf}
 use Rattle.quotient_levels.specs.Room.{Dividing, Room, RowRoom}
 use Rattle.quotient.specs.Room.{First, Adding}

@@ -20,12 +20,12 @@ use Rattle.model.specs.Limits.{cutTo}
 use Rattle.model.specs.Poly.{Block, block, readAt, cut}
 use Rattle.model.specs.Readings.{oneF, first}
 use Rattle.model.specs.Quotient.{dividedAt, recurred, quotientShape, quotientOf, divided}
-use Rattle.words.specs.Lengths.{Lengths, lengths-pos, count-pos}
-use Rattle.words.specs.Spans.{count-one}
+use Rattle.shape_words.specs.Lengths.{Lengths, lengths-pos, count-pos}
+use Rattle.shape_words.specs.Spans.{count-one}
 use Rattle.shape.specs.Under.{count-under}
 use Rattle.blocks.specs.Rows.{Inner}
 use Rattle.blocks.specs.Two.{Two, Holds, cutPlaces, cut-is}
-use Rattle.lessening.specs.Laid.{Laid, laid-part}
+use Rattle.quotient_lessening.specs.Laid.{Laid, laid-part}
 use Rattle.quotient_levels.specs.Room.{Dividing, Room}
 use Rattle.quotient.specs.Room.{First, Recurring, Divides, loadedQuotient}
 use Rattle.quotient.specs.Firsts.{length-recurred}

@@ -14,8 +14,8 @@ ghost use Rattle.model.specs.Poly.{block};
 ghost use Rattle.model.specs.Readings.{oneF};
 ghost use Rattle.model.specs.Add.{joinAt};
 ghost use Rattle.model.specs.Quotient.{dividedAt, recurred, divided};
-ghost use Rattle.general.specs.Index.{inRow};
-ghost use Rattle.lessening.specs.Laid.{Laid};
+ghost use Rattle.product_general.specs.Index.{inRow};
+ghost use Rattle.quotient_lessening.specs.Laid.{Laid};
 ghost use Rattle.quotient_levels.specs.Room.{Dividing, Room, RowRoom};
 ghost use Rattle.quotient.specs.Room.{Adding, First, Recurring, Divides, loadedQuotient};
 ghost use Rattle.quotient.specs.First.{firstAt};
@@ -43,7 +43,7 @@ fn add_dividend(xs: &[f64], lx: [usize; 4], r: [usize; 4], k: usize, row: &mut [
     }
     let n = [1, lx[1], lx[2], lx[3]];
     let m = [1, r[1], r[2], r[3]];
-    let from = k * words::places::count_of(n);
+    let from = k * shape_words::places::count_of(n);
     blocks::join_block(false, &xs[from..], n, m, row);
 }
 
@@ -118,8 +118,8 @@ pub fn recur(
     ensures { λ _. ⌜ now (out .exit) ≡ recurred (block lx (take nx (now (work .entry)))) (block ly (part (length (now (out .entry))) (length (now (out .entry)) + ny) (now (work .entry)))) r ⌝ }
 {
     let n = out.len();
-    let sy = words::places::strides_of(ly);
-    let sr = words::places::strides_of(r);
+    let sy = shape_words::places::strides_of(ly);
+    let sr = shape_words::places::strides_of(r);
     let q = 2 * n;
     let p = 3 * n;
     each_first(work, lx, nx, p, q, n, n + ny, ly, sy, r, sr, out);
@@ -178,7 +178,7 @@ pub fn divide_into(
     let ca = shape::limits::cut_to(limits, la);
     let cb = shape::limits::cut_to(limits, lb);
     blocks::load_two(a, la, ca, b, lb, cb, n, work);
-    let na = words::places::count_of(ca);
-    let nb = words::places::count_of(cb);
+    let na = shape_words::places::count_of(ca);
+    let nb = shape_words::places::count_of(cb);
     divide_loaded(work, ca, na, cb, nb, r, out);
 }

@@ -3,7 +3,7 @@ pub mod kernel;
 
 use model::Answer;
 use model::Family;
-use words::word::pack;
+use shape_words::word::pack;
 ghost use mathlib.Core.Path.{_≡_};
 ghost use Rattle.model.specs.Quotient.{quotientAnswer, quotientOut, quotientScratch};
 

@@ -16,9 +16,9 @@ use Rattle.model.specs.Places.{index}
 use Rattle.model.specs.Refusals.{zeroF}
 use Rattle.model.specs.General.{lo, productAt}
 use Rattle.model.specs.Quotient.{taken, lessened}
-use Rattle.words.specs.Lengths.{Lengths}
-use Rattle.general.specs.Index.{inRow, split-at}
-use Rattle.general.specs.Product.{stepAt, product-same}
+use Rattle.shape_words.specs.Lengths.{Lengths}
+use Rattle.product_general.specs.Index.{inRow, split-at}
+use Rattle.product_general.specs.Product.{stepAt, product-same}
 use Rattle.quotient_levels.specs.Grows.{grow-add, grow-same, length-grown}
 
 -- what the rows before the row k of the variable v take from its place i

@@ -15,12 +15,12 @@ use Rattle.model.specs.Places.{index}
 use Rattle.model.specs.Refusals.{zeroF}
 use Rattle.model.specs.General.{lo, term}
 use Rattle.model.specs.Quotient.{lessened}
-use Rattle.words.specs.Lengths.{count-pos}
-use Rattle.general.specs.Index.{inRow}
-use Rattle.general.specs.Product.{span-more}
+use Rattle.shape_words.specs.Lengths.{count-pos}
+use Rattle.product_general.specs.Index.{inRow}
+use Rattle.product_general.specs.Product.{span-more}
 use Rattle.product_lines.specs.Fours.{Summing}
 use Rattle.quotient_levels.specs.Grows.{length-grown}
-use Rattle.lessening.specs.Laid.{Laid, laid-none, laid-set, laid-append, laid-part, laid-under}
+use Rattle.quotient_lessening.specs.Laid.{Laid, laid-none, laid-set, laid-append, laid-part, laid-under}
 use Rattle.quotient_levels.specs.Level.{levelAt, levelOf, row-at, passed, lessened-zeros}
 use Rattle.quotient_levels.specs.Room.{Single, Line}
 use Rattle.quotient_levels.specs.Taken.{first-zero, taken-sum, summing}

@@ -4,10 +4,10 @@ use mathlib.Core.List.{List}
 use mathlib.Core.Path.{_≡_}
 use Rattle.lists.specs.Four.{at}
 use Rattle.model.specs.Header.{span, count}
-use Rattle.words.specs.Lengths.{Lengths}
+use Rattle.shape_words.specs.Lengths.{Lengths}
 use Rattle.blocks.specs.Rows.{Inner}
-use Rattle.general.specs.Index.{inRow}
-use Rattle.general.specs.Rows.{Strided}
+use Rattle.product_general.specs.Index.{inRow}
+use Rattle.product_general.specs.Rows.{Strided}
 
 -- ly and r the lengths of the divisor and of the result, sy and sr their strides
 pub record Dividing (ly sy r sr : List ℕ) : Type 0 where

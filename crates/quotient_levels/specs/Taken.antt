@@ -14,13 +14,13 @@ use Rattle.model.specs.Header.{span}
 use Rattle.model.specs.Places.{index}
 use Rattle.model.specs.Refusals.{zeroF, zeros}
 use Rattle.model.specs.General.{lo, term, productAt}
-use Rattle.words.specs.Lengths.{lengths-pos, sizes-of}
-use Rattle.words.specs.Spans.{span-ones, ones-of-span}
+use Rattle.shape_words.specs.Lengths.{lengths-pos, sizes-of}
+use Rattle.shape_words.specs.Spans.{span-ones, ones-of-span}
 use Rattle.blocks.specs.Rows.{at-first}
-use Rattle.general.specs.Index.{inRow}
-use Rattle.general.specs.Product.{stepAt, stride-at, row-in, first-in}
-use Rattle.general.specs.Rows.{Strided, Rowing}
-use Rattle.general.specs.Pairs.{Paired, paired-end, fromOn}
+use Rattle.product_general.specs.Index.{inRow}
+use Rattle.product_general.specs.Product.{stepAt, stride-at, row-in, first-in}
+use Rattle.product_general.specs.Rows.{Strided, Rowing}
+use Rattle.product_general.specs.Pairs.{Paired, paired-end, fromOn}
 use Rattle.product_lines.specs.Fours.{Summing}
 use Rattle.quotient_levels.specs.Room.{Dividing, Taking, Single}
 use Rattle.quotient_levels.specs.Level.{takenAt}

@@ -7,9 +7,9 @@ ghost use Rattle.lists.specs.Four.{at};
 ghost use Rattle.lists.specs.Table.{table};
 ghost use Rattle.lists.specs.Walk.{walk};
 ghost use Rattle.lists.specs.Part.{part};
-ghost use Rattle.general.specs.Index.{inRow};
-ghost use Rattle.general.specs.Rows.{Strided};
-ghost use Rattle.lessening.specs.Laid.{Laid};
+ghost use Rattle.product_general.specs.Index.{inRow};
+ghost use Rattle.product_general.specs.Rows.{Strided};
+ghost use Rattle.quotient_lessening.specs.Laid.{Laid};
 ghost use Rattle.quotient_levels.specs.Level.{takenAt, leftAt, levelOf, passed};
 ghost use Rattle.quotient_levels.specs.Room.{Dividing, Taking, Room, RowRoom, Line};
 
@@ -37,7 +37,7 @@ fn taken_by_rows(
     while j < k {
         let p = j * s;
         let q = (k - j) * t;
-        general::rows(&done[p..], r, sr, &ys[q..], ly, sy, r, sr, w, row);
+        product_general::rows(&done[p..], r, sr, &ys[q..], ly, sy, r, sr, w, row);
         j += 1;
     }
 }
@@ -87,7 +87,7 @@ fn gather(
     let at = k * sr[v];
     let end = q + at;
     taken_row(&work[q..end], &work[b..f], ly, sy, r, sr, v, k, row);
-    lessening::lessen(row, work, p + at, e);
+    quotient_lessening::lessen(row, work, p + at, e);
 }
 
 // c after the variables past v, in each of which its place has the number 0.

@@ -17,13 +17,13 @@ use Rattle.model.specs.Announced.{announced}
 use Rattle.model.specs.Refusals.{zeroF}
 use Rattle.model.specs.Poly.{Poly, poly}
 use Rattle.model.specs.Readings.{taylorPolynomial, coefficientsOfTerm, oneF}
-use Rattle.words.specs.Rules.{GoodVar, Ruled, Regular, ruled-at}
+use Rattle.shape_words.specs.Rules.{GoodVar, Ruled, Regular, ruled-at}
 use Rattle.shape.specs.Under.{under-same}
 use Rattle.shape.specs.Keeps.{Keeps}
 use Rattle.model.specs.Constructed.{constant, variable}
 use lib.Seq.{length-take-le}
-use Rattle.short_blocks.specs.Short.{zero-count, var-count}
-use Rattle.row_terms.specs.Term.{termHeader, term-regular, order-regular, term-past, term-row}
+use Rattle.readings_short.specs.Short.{zero-count, var-count}
+use Rattle.readings_row.specs.Term.{termHeader, term-regular, order-regular, term-past, term-row}
 
 -- a header with all lengths 1
 ones-var : {v k l n : ℕ} → GoodVar v k l n → GoodVar v k l 1

@@ -16,8 +16,8 @@ use Rattle.model.specs.Header.{count}
 use Rattle.model.specs.Places.{strides, offset}
 use Rattle.model.specs.Poly.{Block, block}
 use Rattle.model.specs.Linear.{noLinear, linearPlace, zerosBut, linearIn, lineOf, linearFrom}
-use Rattle.words.specs.Lengths.{Lengths}
-use Rattle.words.specs.Places.{place-lt}
+use Rattle.shape_words.specs.Lengths.{Lengths}
+use Rattle.shape_words.specs.Places.{place-lt}
 
 module _ (a : List Float) (s : ℕ) where
   pub zeros-none : zerosBut a s 0 ≡ true

@@ -14,8 +14,8 @@ use Rattle.model.specs.Word.{headerOf}
 use Rattle.model.specs.Places.{place, inside}
 use Rattle.model.specs.Refusals.{zeroF}
 use Rattle.model.specs.Poly.{blockOf, held, coefficientAt}
-use Rattle.words.specs.Lengths.{Lengths, count-is, count-pos, lengths-of, inside-is}
-use Rattle.words.specs.Places.{place-lt}
+use Rattle.shape_words.specs.Lengths.{Lengths, count-is, count-pos, lengths-of, inside-is}
+use Rattle.shape_words.specs.Places.{place-lt}
 use Rattle.gates.specs.Gate.{ReadReady}
 
 -- what the loop of a sum does with each place

@@ -9,8 +9,8 @@ use model::Header;
 use model::LinearReading;
 use model::Reading;
 use shape::announce::announced_of;
-use words::word::header_of;
-use words::word::pack;
+use shape_words::word::header_of;
+use shape_words::word::pack;
 ghost use mathlib.Core.Path.{_≡_};
 ghost use lib.ListN.{length};
 ghost use Rattle.model.specs.Header.{ones, noHeader, zeroWith, varWith};
@@ -26,7 +26,7 @@ pub fn zero(out: &mut [f64]) -> Answer
     ensures answer { λ r. ⌜ r ≡ answered (withGate 0 ones (length (now (out .entry)))) (constant noHeader zeroF) ⌝ }
     ensures written { λ r. ⌜ now (out .exit) ≡ outAfter (withGate 0 ones (length (now (out .entry)))) noHeader (constant noHeader zeroF) (now (out .entry)) ⌝ }
 {
-    short_blocks::constant_with(0.0, 0, [1, 1, 1, 1], out)
+    readings_short::constant_with(0.0, 0, [1, 1, 1, 1], out)
 }
 
 // 1.0, with no variables: refusal 5.
@@ -34,7 +34,7 @@ pub fn one(out: &mut [f64]) -> Answer
     ensures answer { λ r. ⌜ r ≡ answered (withGate 0 ones (length (now (out .entry)))) (constant noHeader oneF) ⌝ }
     ensures written { λ r. ⌜ now (out .exit) ≡ outAfter (withGate 0 ones (length (now (out .entry)))) noHeader (constant noHeader oneF) (now (out .entry)) ⌝ }
 {
-    short_blocks::constant_with(1.0, 0, [1, 1, 1, 1], out)
+    readings_short::constant_with(1.0, 0, [1, 1, 1, 1], out)
 }
 
 // c, with no variables: refusal 5.
@@ -42,7 +42,7 @@ pub fn from_u32(c: u32, out: &mut [f64]) -> Answer
     ensures answer { λ r. ⌜ r ≡ answered (withGate 0 ones (length (now (out .entry)))) (constant noHeader (wholeF c)) ⌝ }
     ensures written { λ r. ⌜ now (out .exit) ≡ outAfter (withGate 0 ones (length (now (out .entry)))) noHeader (constant noHeader (wholeF c)) (now (out .entry)) ⌝ }
 {
-    short_blocks::constant_with(c as f64, 0, [1, 1, 1, 1], out)
+    readings_short::constant_with(c as f64, 0, [1, 1, 1, 1], out)
 }
 
 // +0.0 under the first `vars` of the limits: refusals 1, 5.
@@ -50,7 +50,7 @@ pub fn zero_with(vars: usize, limits: [usize; 4], out: &mut [f64]) -> Answer
     ensures answer { λ r. ⌜ r ≡ answered (withGate vars limits (length (now (out .entry)))) (constant (zeroWith vars limits) zeroF) ⌝ }
     ensures written { λ r. ⌜ now (out .exit) ≡ outAfter (withGate vars limits (length (now (out .entry)))) (zeroWith vars limits) (constant (zeroWith vars limits) zeroF) (now (out .entry)) ⌝ }
 {
-    short_blocks::constant_with(0.0, vars, limits, out)
+    readings_short::constant_with(0.0, vars, limits, out)
 }
 
 // c under the first `vars` of the limits: refusals 1, 5.
@@ -58,7 +58,7 @@ pub fn from_u32_with(c: u32, vars: usize, limits: [usize; 4], out: &mut [f64]) -
     ensures answer { λ r. ⌜ r ≡ answered (withGate vars limits (length (now (out .entry)))) (constant (zeroWith vars limits) (wholeF c)) ⌝ }
     ensures written { λ r. ⌜ now (out .exit) ≡ outAfter (withGate vars limits (length (now (out .entry)))) (zeroWith vars limits) (constant (zeroWith vars limits) (wholeF c)) (now (out .entry)) ⌝ }
 {
-    short_blocks::constant_with(c as f64, vars, limits, out)
+    readings_short::constant_with(c as f64, vars, limits, out)
 }
 
 // x + v under the first `vars` of the limits: refusals 1, 3, 5.
@@ -76,7 +76,7 @@ pub fn var_with_degrees_p1(
     if refusal.number != 0 {
         return Answer::Refused(refusal);
     }
-    short_blocks::write_short(Header::var_with_degrees_p1(v, vars, limits), x, out)
+    readings_short::write_short(Header::var_with_degrees_p1(v, vars, limits), x, out)
 }
 
 // x + v, every variable up to v under one limit: refusals 1, 3, 5.
@@ -88,7 +88,7 @@ pub fn var(v: usize, x: f64, limit: usize, out: &mut [f64]) -> Answer
     if refusal.number != 0 {
         return Answer::Refused(refusal);
     }
-    short_blocks::write_short(
+    readings_short::write_short(
         Header::var_with_degrees_p1(v, v + 1, [limit, limit, limit, limit]),
         x,
         out,
@@ -113,10 +113,10 @@ pub fn coefficient(head: u64, a: &[f64], index: [usize; 4]) -> Reading
     }
     let h = header_of(head);
     let lengths = h.lengths;
-    if !words::places::is_inside(lengths, index) {
+    if !shape_words::places::is_inside(lengths, index) {
         return Reading::Done(0.0);
     }
-    let k = words::places::place_of(lengths, index);
+    let k = shape_words::places::place_of(lengths, index);
     Reading::Done(a[k])
 }
 
@@ -201,6 +201,6 @@ pub fn coefficients_of_term(head: u64, a: &[f64], v: usize, order: usize, out: &
     let r = announced_of(Family::Term(v), h, Header::none());
     let given = stored_of(h);
     let count = stored_of(r);
-    let x = row_terms::take_term(&a[..given], h, r, v, order, &mut out[..count]);
+    let x = readings_row::take_term(&a[..given], h, r, v, order, &mut out[..count]);
     Answer::Done(pack(x))
 }

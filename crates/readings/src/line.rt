@@ -7,7 +7,7 @@ ghost use lib.Dec.{leb};
 ghost use Rattle.model.specs.Header.{count};
 ghost use Rattle.model.specs.Poly.{block};
 ghost use Rattle.model.specs.Linear.{zerosBut, linear};
-ghost use Rattle.words.specs.Lengths.{Lengths};
+ghost use Rattle.shape_words.specs.Lengths.{Lengths};
 
 // Whether every place but the first and the one at s holds a zero.
 fn zeros_but(a: &[f64], s: usize) -> bool
@@ -39,7 +39,7 @@ pub fn linear_of(a: &[f64], n: [usize; 4]) -> Linear
     requires { ⌜ Lengths n ⌝ ∗ ⌜ length (now a) ≡ count n ⌝ }
     ensures { λ r. ⌜ r ≡ linear (block n (now (a .entry))) ⌝ }
 {
-    let s = words::places::strides_of(n);
+    let s = shape_words::places::strides_of(n);
     let mut left = 4;
     while 0 < left {
         let v = 4 - left;

@@ -2,7 +2,7 @@
 // No contract can say what is read or printed. `sheet::answer` says what is printed for a text, and that as much of it as is read here decides (sheet-front).
 use libc::STDIN_FILENO;
 use libc::STDOUT_FILENO;
-use text::line::sheet_memory;
+use sheet_text::line::sheet_memory;
 
 fn main() {
     let mut text = sheet_memory();

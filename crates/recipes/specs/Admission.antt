@@ -17,12 +17,12 @@ use Rattle.model.specs.Refusals.{refusedBy, noRefusal, zeros, cleared}
 use Rattle.model.specs.Recipe.{inputHeads, announcedPlaces, announcedSteps, total, largest}
 use Rattle.model.specs.Check.{orElse, checkRefusal}
 use Rattle.model.specs.Run.{lentRefusal}
-use Rattle.words.specs.Lengths.{lengths-of, count-most}
-use Rattle.kinds.specs.Known.{Known}
-use Rattle.judging.specs.Asks.{or-first, or-next}
-use Rattle.judging.specs.Judging.{heads}
-use Rattle.judging.specs.Judged.{Judged}
-use Rattle.judging.specs.Answered.{Passed, passed}
+use Rattle.shape_words.specs.Lengths.{lengths-of, count-most}
+use Rattle.recipes_kinds.specs.Known.{Known}
+use Rattle.recipes_check.specs.Asks.{or-first, or-next}
+use Rattle.recipes_check.specs.Judging.{heads}
+use Rattle.recipes_check.specs.Judged.{Judged}
+use Rattle.recipes_check.specs.Answered.{Passed, passed}
 use Rattle.recipes.specs.Running.{Admitted}
 
 -- c, p, w and s the lengths of coefficients, pool, words and scratch

@@ -13,8 +13,8 @@ use Rattle.model.specs.Recipe.{announcedSteps, total, largest}
 use Rattle.model.specs.Check.{checkRefusal}
 use Rattle.model.specs.Run.{stepValues, laid, lentRefusal, runRefusal, runBy, runAnswer, runPool, runWords, runScratch}
 use Rattle.gates.specs.Gate.{leaves-no, leaves-yes}
-use Rattle.judging.specs.Asks.{or-none}
-use Rattle.demands.specs.Never.{Lent, lent-enough, run-refusal}
+use Rattle.recipes_check.specs.Asks.{or-none}
+use Rattle.recipes_laws.specs.Never.{Lent, lent-enough, run-refusal}
 use Rattle.recipes.specs.Running.{Admitted}
 use Rattle.recipes.specs.Admission.{Admits}
 

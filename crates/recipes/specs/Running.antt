@@ -24,22 +24,22 @@ use Rattle.model.specs.Recipe.{headAt, announcedStep, inputHeads, announcedPlac
 use Rattle.model.specs.Check.{namedBefore, formed, checkRefusal}
 use Rattle.model.specs.Reasons.{no-kind}
 use Rattle.model.specs.Run.{inputValues, noValue, valueAt, stepValue, values, stepValues, laid}
-use Rattle.words.specs.Rules.{Ruled, Regular}
-use Rattle.words.specs.Words.{unpack-pack}
-use Rattle.words.specs.Lengths.{lengths-of, count-pos}
+use Rattle.shape_words.specs.Rules.{Ruled, Regular}
+use Rattle.shape_words.specs.Words.{unpack-pack}
+use Rattle.shape_words.specs.Lengths.{lengths-of, count-pos}
 use Rattle.shape.specs.Keeps.{Keeps}
 use Rattle.shape.specs.Under.{count-under}
-use Rattle.kinds.specs.Known.{head-at, small-variable, step-regular}
-use Rattle.operands.specs.Lent.{Lent}
-use Rattle.steps.specs.Ready.{valueOf, Known, Ready, Placed}
-use Rattle.judging.specs.Judging.{heads}
-use Rattle.judging.specs.Judged.{accepts}
-use Rattle.demands.specs.Formed.{formed-tests, formed-right}
-use Rattle.demands.specs.Exact.{length-known}
-use Rattle.demands.specs.EachKind.{by-kind}
-use Rattle.demands.specs.Follows.{length-inputs, follows-known}
-use Rattle.demands.specs.Ahead.{Clear, ahead-at, clear-at, ready-at, keeps-at, announced-at, length-announced, step-largest}
-use Rattle.demands.specs.Passed.{StepReady, inLimit}
+use Rattle.recipes_kinds.specs.Known.{head-at, small-variable, step-regular}
+use Rattle.recipes_operands.specs.Lent.{Lent}
+use Rattle.recipes_steps.specs.Ready.{valueOf, Known, Ready, Placed}
+use Rattle.recipes_check.specs.Judging.{heads}
+use Rattle.recipes_check.specs.Judged.{accepts}
+use Rattle.recipes_laws.specs.Formed.{formed-tests, formed-right}
+use Rattle.recipes_laws.specs.Exact.{length-known}
+use Rattle.recipes_laws.specs.EachKind.{by-kind}
+use Rattle.recipes_laws.specs.Follows.{length-inputs, follows-known}
+use Rattle.recipes_laws.specs.Ahead.{Clear, ahead-at, clear-at, ready-at, keeps-at, announced-at, length-announced, step-largest}
+use Rattle.recipes_laws.specs.Passed.{StepReady, inLimit}
 use Rattle.recipes.specs.Standing.{lyingAt, Named, StepIn, constant-value, Begun, total-more, At, at-lying, at-lies, at-later, at-new, input-at}
 
 -- ---- operands of a step that is right

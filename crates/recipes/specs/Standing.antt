@@ -22,11 +22,11 @@ use Rattle.model.specs.Constructed.{constant, wholeF}
 use Rattle.model.specs.Poly.{Poly, poly, held}
 use Rattle.model.specs.Recipe.{inputHeads, headAt, total}
 use Rattle.model.specs.Run.{inputValues, operations, noValue, valueAt}
-use Rattle.words.specs.Lengths.{lengths-of, count-most}
-use Rattle.kinds.specs.Known.{Known, head-at}
-use Rattle.judging.specs.Counts.{word-ruled}
-use Rattle.operands.specs.Lent.{source, lying, Lies}
-use Rattle.steps.specs.Ready.{valueOf, Placed, Ready}
+use Rattle.shape_words.specs.Lengths.{lengths-of, count-most}
+use Rattle.recipes_kinds.specs.Known.{Known, head-at}
+use Rattle.recipes_check.specs.Counts.{word-ruled}
+use Rattle.recipes_operands.specs.Lent.{source, lying, Lies}
+use Rattle.recipes_steps.specs.Ready.{valueOf, Placed, Ready}
 
 -- the value of the place q, by its word and its start; k inputs
 abbrev pub lyingAt : ℕ → List ℕ → List ℕ → List Float → List Float → ℕ → Poly

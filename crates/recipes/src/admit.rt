@@ -1,11 +1,11 @@
 // Whether a recipe is run, and the run of one that is admitted.
 use crate::running::note_starts;
 use crate::running::run_steps;
-use judging::judge;
-use judging::largest_of;
-use judging::note_inputs;
-use judging::total_of;
 use model::Refusal;
+use recipes_check::judge;
+use recipes_check::largest_of;
+use recipes_check::note_inputs;
+use recipes_check::total_of;
 ghost use mathlib.Core.Path.{_≡_};
 ghost use mathlib.Core.List.{map, _++_};
 ghost use Prim.Native.Nat.{_≤_};

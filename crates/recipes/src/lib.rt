@@ -4,11 +4,11 @@ mod running;
 
 use admit::admit;
 use admit::run_admitted;
-use judging::judge;
-use judging::largest_of;
-use judging::total_of;
 use model::CheckAnswer;
 use model::RunAnswer;
+use recipes_check::judge;
+use recipes_check::largest_of;
+use recipes_check::total_of;
 ghost use mathlib.Core.Path.{_≡_};
 ghost use Rattle.model.specs.Check.{checkAnswer};
 ghost use Rattle.model.specs.Run.{runAnswer, runPool, runWords, runScratch};

@@ -1,13 +1,13 @@
 // The steps of a run, one after the other. `known` holds a header word a place: the true one of every place that has its value, the announced one of the others.
 // `starts` says where each value begins, an input's among the coefficients, a step's in the pool.
 use gates::stored_of;
-use kinds::step::step_of;
 use model::Header;
 use model::Step;
-use steps::perform::constant_to;
-use steps::perform::perform;
-use words::word::header_of;
-use words::word::pack;
+use recipes_kinds::step::step_of;
+use recipes_steps::perform::constant_to;
+use recipes_steps::perform::perform;
+use shape_words::word::header_of;
+use shape_words::word::pack;
 ghost use mathlib.Core.Path.{_≡_};
 ghost use mathlib.Core.List.{map, _++_};
 ghost use Prim.Native.Nat.{_+_, _≤_};
@@ -17,9 +17,9 @@ ghost use Rattle.model.specs.Word.{headerOf, wordOf};
 ghost use Rattle.model.specs.Refusals.{padded};
 ghost use Rattle.model.specs.Recipe.{inputHeads, announcedSteps, total};
 ghost use Rattle.model.specs.Run.{stepValues, laid};
-ghost use Rattle.kinds.specs.Known.{Known};
-ghost use Rattle.operands.specs.Lent.{Lent};
-ghost use Rattle.steps.specs.Ready.{valueOf};
+ghost use Rattle.recipes_kinds.specs.Known.{Known};
+ghost use Rattle.recipes_operands.specs.Lent.{Lent};
+ghost use Rattle.recipes_steps.specs.Ready.{valueOf};
 ghost use Rattle.recipes.specs.Standing.{lyingAt, StepIn, Begun};
 ghost use Rattle.recipes.specs.Running.{Admitted, Running};
 

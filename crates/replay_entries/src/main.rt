@@ -64,7 +64,7 @@ fn construct_with(op: u64, x: [u64; 7], out: &mut [f64]) {
         show_answer(readings::from_u32_with(c, x[1] as usize, l, out));
     } else {
         let l = four(x[3], x[4], x[5], x[6]);
-        let c = bits::float_of(x[1]);
+        let c = sheet_bits::float_of(x[1]);
         show_answer(readings::var_with_degrees_p1(x[0] as usize, c, x[2] as usize, l, out));
     }
 }
@@ -78,7 +78,7 @@ fn construct(op: u64, x: [u64; 7], out: &mut [f64]) {
     } else if op == 13 {
         show_answer(readings::var_at_zero(x[0] as usize, x[1] as usize, out));
     } else if op == 14 {
-        let c = bits::float_of(x[1]);
+        let c = sheet_bits::float_of(x[1]);
         show_answer(readings::var(x[0] as usize, c, x[2] as usize, out));
     } else if op == 16 {
         show_answer(readings::zero(out));
@@ -121,7 +121,7 @@ fn combine(
 
 // A polynomial that is made from another and its value at the constant term.
 fn expand(op: u64, head: u64, a: &[f64], x: [u64; 7], out: &mut [f64], scratch: &mut [f64]) {
-    let value = bits::float_of(x[0]);
+    let value = sheet_bits::float_of(x[0]);
     if op == 7 {
         show_answer(series::exp(head, a, value, out, scratch));
     } else {

@@ -18,7 +18,7 @@ fn show_word(w: u64) {
 pub fn show_all(xs: &[f64]) {
     let mut k = 0;
     while k < xs.len() {
-        show_word(bits::word_of(xs[k]));
+        show_word(sheet_bits::word_of(xs[k]));
         k += 1;
     }
 }
@@ -43,7 +43,7 @@ pub fn show_reading(r: Reading) {
     match r {
         Reading::Done(x) => {
             io::write_all(STDOUT_FILENO, b"done");
-            show_word(bits::word_of(x));
+            show_word(sheet_bits::word_of(x));
         }
         Reading::Refused(e) => show_refusal(e),
     }
@@ -54,8 +54,8 @@ pub fn show_linear(r: LinearReading) {
         LinearReading::Done(l) => {
             io::write_all(STDOUT_FILENO, b"done");
             show_number(l.yes as u64);
-            show_word(bits::word_of(l.c));
-            show_word(bits::word_of(l.m));
+            show_word(sheet_bits::word_of(l.c));
+            show_word(sheet_bits::word_of(l.m));
             show_number(l.variable as u64);
         }
         LinearReading::Refused(e) => show_refusal(e),

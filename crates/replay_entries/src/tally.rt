@@ -8,7 +8,7 @@ pub fn cleared(xs: &[f64]) -> usize
 {
     let mut k = 0;
     while k < xs.len() {
-        if bits::word_of(xs[k]) != 0 {
+        if sheet_bits::word_of(xs[k]) != 0 {
             return k;
         }
         k += 1;
@@ -22,7 +22,7 @@ pub fn untouched(xs: &[f64]) -> usize
 {
     let mut k = 0;
     while k < xs.len() {
-        if bits::word_of(xs[xs.len() - 1 - k]) != 4607182418800017409 {
+        if sheet_bits::word_of(xs[xs.len() - 1 - k]) != 4607182418800017409 {
             return k;
         }
         k += 1;

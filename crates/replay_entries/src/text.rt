@@ -101,7 +101,7 @@ pub fn fill(text: &[u8], at: usize, to: &mut [f64])
     let n = to.len();
     let mut k = 0;
     while k < n {
-        to[k] = bits::float_of(word_at(text, at + 17 * k));
+        to[k] = sheet_bits::float_of(word_at(text, at + 17 * k));
         k += 1;
     }
 }

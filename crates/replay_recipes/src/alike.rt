@@ -22,10 +22,10 @@ pub fn alike_floats(xs: &[f64], at: usize) -> usize
     requires { ⌜ at < length (now xs) ⌝ }
     ensures { λ r. ⌜ Alike (bitsIn (now (xs .entry))) (length (now (xs .entry))) at r ⌝ }
 {
-    let first = bits::word_of(xs[at]);
+    let first = sheet_bits::word_of(xs[at]);
     let mut k = at + 1;
     while k < xs.len() {
-        if bits::word_of(xs[k]) != first {
+        if sheet_bits::word_of(xs[k]) != first {
             return k;
         }
         k += 1;

@@ -13,11 +13,11 @@ use libc::STDOUT_FILENO;
 use shape::limits::least;
 use sheet_reading::fill_floats;
 use sheet_reading::fill_words;
+use sheet_text::line::word_at;
 use show::show_check;
 use show::show_floats;
 use show::show_run;
 use show::show_words;
-use text::line::word_at;
 ghost use mathlib.Core.Path.{_≡_};
 ghost use lib.ListN.{length};
 

@@ -34,7 +34,7 @@ pub fn show_floats(xs: &[f64]) {
     let mut k = 0;
     while k < xs.len() {
         let end = alike_floats(xs, k);
-        show_places(bits::word_of(xs[k]), end - k);
+        show_places(sheet_bits::word_of(xs[k]), end - k);
         k = end;
     }
 }

@@ -5,12 +5,12 @@ use libc::STDOUT_FILENO;
 use model::Family;
 use model::Header;
 use shape::announce::announced_of;
-use words::word::header_of;
-use words::word::is_good;
-use words::word::pack;
+use shape_words::word::header_of;
+use shape_words::word::is_good;
+use shape_words::word::pack;
 ghost use mathlib.Core.Path.{_≡_};
 ghost use Rattle.model.specs.Announced.{announced};
-ghost use Rattle.words.specs.Rules.{Regular};
+ghost use Rattle.shape_words.specs.Rules.{Regular};
 ghost use Rattle.replay_shapes.specs.Told.{headerOrNone};
 
 // Twelve shapes, from no variables to four.

@@ -6,7 +6,7 @@
 use libc::STDIN_FILENO;
 use libc::STDOUT_FILENO;
 use shape::limits::least;
-use text::line::word_at;
+use sheet_text::line::word_at;
 ghost use mathlib.Core.Path.{_≡_};
 ghost use lib.ListN.{length};
 

@@ -1,4 +1,4 @@
-pub mod Puts
-pub mod Before
-pub mod Columns
+pub mod Tells
+pub mod Front
+pub mod Traces
 pub mod Long

@@ -1,204 +1,189 @@
--- What is said of limits keeps to 80 columns and is under 25,000 bytes long, for 64 places whose headers keep the rules. The widest line of a place is that of a
--- `taylor_expansion_of_coeff` in four variables, whose n has two digits since it is below a limit.
-use Prim.Native.Nat.{ℕ, zero, suc, _+_, _-_, _≤_, _<_}
-use mathlib.Core.Bool.{Bool, true, _&&_, _||_, not, cond}
-use mathlib.Core.List.{List, _++_}
-use mathlib.Core.Path.{_≡_, refl, ap}
+-- Whatever the sheet, what `limits` prints keeps to 80 columns and fits the 65,536 bytes that its program has.
+use Prim.Native.Nat.{ℕ, zero, suc, _+_, _-_, _*_, _≤_, _<_}
+use Prim.Native.String.{String}
+use mathlib.Core.Bool.{Bool, true, _&&_}
+use mathlib.Core.List.{List, [], _∷_, _++_}
+use mathlib.Core.Path.{_≡_, refl, sym, ap, _∙_}
 use native.Mathlib.Omega.{arith}
-use lib.Dec.{leb, ltb, eqb}
-use lib.ListN.{length}
-use borrow.Author.Tests.{ltb-false, leb-true, eqb-true, eqb-false}
+use lib.Dec.{leb, ltb}
+use lib.Ieee.{Float, ofBits, binary64}
+use lib.ListN.{length, getD, take, drop, length-append}
+use lib.Seq.{getD-drop, take-all}
+use borrow.Author.Tests.{ltb-true, leb-true, eqb-true, eqb-false}
 use Rattle.lists.specs.Bytes.{bytes}
-use Rattle.lists.specs.Every.{every}
-use Rattle.lists.specs.Test.{decide, and-left, and-right, or-right}
-use Rattle.model.specs.declared.Header.{Header}
-use Rattle.model.specs.declared.Uses.{Uses}
-use Rattle.model.specs.Header.{limit, len}
-use Rattle.model.specs.Steps.{stepOf, rows, usesOf}
-use Rattle.model.specs.Printed.{decimal}
-use Rattle.model.specs.Trace.{usesIn, stepWord, has, limitAt, isCut, cutOperand, decider, furthest, isWhole}
-use Rattle.model.specs.Report.{pairText, shapeText, kindNames, kindText, fieldsText, stepText, whatText, placeKindText, cutFromText, cutToText, endsAtText, placeText, cutLine, cutText, cutsText, furtherText, endLine, endText, verdictText, limitsText}
-use Rattle.words.specs.Rules.{Regular, ruled-at}
-use Rattle.kinds.specs.Known.{Known, small-kind, small-variable}
-use Rattle.trace.specs.Ends.{Ordered}
-use Rattle.trace.specs.Furthest.{furthest-before}
-use Rattle.trace.specs.Small.{a-small, b-small, cut-small, decider-small}
-use Rattle.report.specs.Before.{lineOne, lineTwo}
-use Rattle.report.specs.Columns.{inColumns, columnAfter, Piece, piece, piece-up, piece-then, piece-either, piece-when, piece-if, piece-joined, piece-named, small-piece, one-digit, two-digits, tell-two, Rest, newline-rest, rest-up, rest-then, rest-broken, Lines, lines, written, lines-up, lines-then, lines-either, lines-if, lines-joined}
+use Rattle.lists.specs.Grow.{over, take-over}
+use Rattle.lists.specs.Table.{length-table}
+use Rattle.lists.specs.Test.{decide, and-left, and-right}
+use Rattle.model.specs.declared.Refusal.{Refusal}
+use Rattle.model.specs.Header.{stored}
+use Rattle.model.specs.Word.{headerOf, wordOf}
+use Rattle.model.specs.Refusals.{isNone}
+use Rattle.model.specs.Check.{checkRefusal}
+use Rattle.model.specs.Recipe.{inputHeads, headAt, announcedPlaces, announcedSteps, total, largest}
+use Rattle.model.specs.Run.{noValue, valueAt, values, stepValues}
+use Rattle.model.specs.Printed.{refusedWord, space, refusedText}
+use Rattle.model.specs.Report.{tell, when}
+use Rattle.model.specs.Sentence.{placeMeanings, sheetMeanings, meaning, refusalReport}
+use Rattle.model.specs.Sheet.{inputCount, stepCount, sheetHeaders, sheetCoefficients, sheetSteps, wordOn, coefficientCount, ownRefusal, recipeRefusal, readRefusal, sheetRefusal, lastValue}
+use Rattle.model.specs.Told.{limitsFirst, toldText}
+use Rattle.shape_words.specs.Words.{unpack-pack}
+use Rattle.shape.specs.Under.{count-under}
+use Rattle.shape.specs.Keeps.{Keeps}
+use Rattle.recipes_check.specs.Asks.{or-none, or-next}
+use Rattle.recipes_check.specs.Judged.{Accepts, accepts, places-known}
+use Rattle.recipes_laws.specs.Ahead.{announced-at, step-largest}
+use Rattle.recipes_laws.specs.Values.{follows-all}
+use Rattle.sheet.specs.Opened.{steps-many}
+use Rattle.sheet.specs.Running.{passed, steps-largest}
+use Rattle.report_lines.specs.Puts.{Printed}
+use Rattle.report_lines.specs.Columns.{inColumns, columnAfter, columns-append, columns-earlier, Piece, piece, piece-then, piece-columns, number-piece, tell-two, newline-rest, rest-then, Lines, lines}
+use Rattle.report_lines.specs.Long.{limits-lines}
+use Rattle.report_figures.specs.Lines.{word-lengths}
+use Rattle.report_figures.specs.Long.{figures-lines}
+use Rattle.report.specs.Tells.{told-refused, told-done}
+use Rattle.report.specs.Traces.{check-none, few, sheet-ordered, sheet-short}
 
--- ---- what a step is: 35 columns at most
+-- n bytes at most, in 80 columns
+record Kept (n : ℕ) (t : List ℕ) : Type 0 where
+  most : length t ≤ n
+  keeps : inColumns 0 t ≡ true
 
--- n has two digits in a `taylor_expansion_of_coeff`
-abbrev pub Short : ℕ → Type 0
-Short w = stepOf w .kind ≡ 8 → stepOf w .n < 100
+kept-behind : {a b : ℕ} {s t : List ℕ} → Lines a s → Kept b t → Kept (a + b) (s ++ t)
+kept-behind {s = s} {t = t} p q = record { most = omega (arith, length-append s t, p .most, q .most); keeps = columns-append 0 s t (p .keeps) (rw (p .ends) (q .keeps)) }
 
--- the columns of the fields that are used, n having so many digits
-abbrev fieldColumns : Uses → ℕ → ℕ
-fieldColumns u m = cond (u .a) 3 0 + (cond (u .b) 3 0 + (cond (u .variable) 3 0 + cond (u .n) (2 + m) 0))
+-- ---- a refusal
 
-fields-piece : (w m : ℕ) → Piece m (decimal (stepOf w .n)) → Piece (fieldColumns (usesIn w) m) (fieldsText w)
-unfolding fieldsText bytes
-fields-piece w m p =
-    piece-then (piece-when (usesIn w .a) (tell-two " " (stepOf w .a) (piece 1 (bytes " ") refl) (omega (arith, a-small w))))
-    (piece-then (piece-when (usesIn w .b) (tell-two " " (stepOf w .b) (piece 1 (bytes " ") refl) (omega (arith, b-small w))))
-    (piece-then (piece-when (usesIn w .variable) (piece-then (piece 2 (bytes " v") refl) (one-digit (stepOf w .variable) (omega (arith, small-variable w)))))
-    (piece-when (usesIn w .n) (piece-then (piece 2 (bytes " n") refl) p))))
+refused-lines : (r : Refusal) → Lines 50 (refusedText r)
+unfolding refusedText
+refused-lines r =
+    lines (omega arith)
+    (rest-then (piece 8 refusedWord refl) (rest-then (number-piece (r .number)) (rest-then (piece 1 space refl) (rest-then (number-piece (r .place)) newline-rest))))
 
--- a kind's name, and its fields
-abbrev stepColumns : ℕ → ℕ → ℕ
-stepColumns k m = length (kindText k) + fieldColumns (usesOf k) m
+-- texts that keep to the columns from the column c on
+abbrev allFrom : ℕ → List String → Bool
+allFrom c [] = true
+allFrom c (s ∷ ss) = (leb (length (bytes s)) 130 && inColumns c (bytes s)) && allFrom c ss
 
-name-piece : (k : ℕ) → Piece (length (kindText k)) (kindText k)
-unfolding kindText kindNames bytes
-name-piece k = record { most = omega arith; plain = piece-named 25 kindNames k refl .plain }
+named-from : (c : ℕ) (ss : List String) (k : ℕ) → allFrom c ss ≡ true → (length (bytes (getD ss k "")) ≤ 130) × (inColumns c (bytes (getD ss k "")) ≡ true)
+unfolding bytes inColumns
+named-from c [] k e = (omega arith, refl)
+named-from c (s ∷ ss) zero e =
+    let h = and-left (leb (length (bytes s)) 130 && inColumns c (bytes s)) (allFrom c ss) e in
+    (leb-true _ _ (and-left (leb (length (bytes s)) 130) (inColumns c (bytes s)) h), and-right (leb (length (bytes s)) 130) (inColumns c (bytes s)) h)
+named-from c (s ∷ ss) (suc k) e = named-from c ss k (and-right (leb (length (bytes s)) 130 && inColumns c (bytes s)) (allFrom c ss) e)
 
-every-at : (f : ℕ → Bool) (n p q : ℕ) → every f n p ≡ true → p ≤ q → q < p + n → f q ≡ true
-unfolding every
-every-at f zero p q e a b = absurd (omega arith)
-every-at f (suc n) p q e a b =
-    decide (eqb p q)
-    (λ t. rw (← eqb-true p q t) (and-left (f p) (every f n (suc p)) e))
-    (λ t. let d = eqb-false p q t in every-at f n (suc p) q (and-right (f p) (every f n (suc p)) e) (omega (arith, d)) (omega arith))
+place-from : (n : ℕ) → (length (bytes (getD placeMeanings n "")) ≤ 130) × (inColumns 10 (bytes (getD placeMeanings n "")) ≡ true)
+unfolding placeMeanings bytes inColumns
+place-from n = named-from 10 placeMeanings n refl
 
--- every kind but one has room for an n of ten digits
-abbrev roomy : ℕ → Bool
-roomy k = eqb k 8 || leb (stepColumns k 10) 35
+sheet-from : (n : ℕ) → (length (bytes (getD sheetMeanings n "")) ≤ 130) × (inColumns 0 (bytes (getD sheetMeanings n "")) ≡ true)
+unfolding sheetMeanings bytes inColumns
+sheet-from n = named-from 0 sheetMeanings n refl
 
-kinds-roomy : every roomy 16 0 ≡ true
-unfolding every kindText kindNames bytes rows
-kinds-roomy = refl
+where-piece : (p : ℕ) → p < 64 → Piece 10 (tell "Place " p ++ bytes ": ")
+unfolding bytes
+where-piece p l = piece-then (tell-two "Place " p (piece 6 (bytes "Place ") refl) (omega arith)) (piece 2 (bytes ": ") refl)
 
-widest : stepColumns 8 2 ≤ 35
-unfolding kindText kindNames bytes rows
-widest = leb-true _ _ refl
-
-n-ten : (w : ℕ) → Piece 10 (decimal (stepOf w .n))
-unfolding stepOf
-n-ten w = small-piece 10 _ (omega arith) (omega arith) (omega arith)
-
-step-piece : (w : ℕ) → Short w → Piece 35 (stepText w)
-unfolding stepText
-step-piece w s =
-    let k : ℕ = stepOf w .kind in
-    decide (eqb k 8)
+sentence-kept : (r : Refusal) → Kept 140 (when (ltb (r .place) 64) (tell "Place " (r .place) ++ bytes ": ") ++ meaning (ltb (r .place) 64) (r .number))
+unfolding meaning
+sentence-kept r =
+    decide (ltb (r .place) 64)
     (λ t.
-    let e : k ≡ 8 = eqb-true k 8 t in
-    let f : stepColumns k 2 ≡ stepColumns 8 2 = ap (λ (j : ℕ). stepColumns j 2) e in
-    piece-up (piece-then (name-piece k) (fields-piece w 2 (two-digits (stepOf w .n) (s e)))) (omega (arith, f, widest)))
-    (λ t.
-    let f = leb-true (stepColumns k 10) 35 (or-right (eqb k 8) (leb (stepColumns k 10) 35) (every-at roomy 16 0 k kinds-roomy (omega arith) (omega (arith, small-kind w))) t) in
-    piece-up (piece-then (name-piece k) (fields-piece w 10 (n-ten w))) f)
+    let s : List ℕ = tell "Place " (r .place) ++ bytes ": " in
+    let m : List ℕ = bytes (getD placeMeanings (r .number) "") in
+    let p : Piece 10 s = where-piece (r .place) (ltb-true (r .place) 64 t) in
+    let f = place-from (r .number) in
+    let c = piece-columns s 0 (p .plain) (omega (arith, p .most)) in
+    let k : Kept 140 (s ++ m) =
+    record {
+      most = omega (arith, length-append s m, p .most, f .0);
+      keeps = columns-append 0 s m (c .0) (columns-earlier m (columnAfter 0 s) 10 (omega (arith, c .1, p .most)) (f .1));
+    } in
+    rw t k)
+    (λ t. let f = sheet-from (r .number) in rw t (record { most = omega (arith, f .0); keeps = f .1 }))
 
-what-piece : (ss : List ℕ) (inputs p : ℕ) → (inputs ≤ p → Short (stepWord ss inputs p)) → Piece 35 (whatText ss inputs p)
-unfolding whatText bytes
-what-piece ss inputs p s =
-    decide (ltb p inputs)
-    (λ t. rw t (piece 35 (bytes "input") refl))
-    (λ t. rw t (step-piece (stepWord ss inputs p) (s (ltb-false p inputs t))))
+refusal-kept : (r : Refusal) → Kept 190 (refusalReport r)
+unfolding refusalReport
+refusal-kept r = kept-behind (refused-lines r) (sentence-kept r)
 
--- ---- the line of a place: 78 columns at most
+-- ---- a sheet that is not refused
 
-module _ {h : Header} (r : Regular h) where
-  pair-piece : (v : ℕ) → v < 4 → Piece 6 (pairText h v)
-  unfolding pairText bytes
-  pair-piece v l =
-      let g = ruled-at (r .rules) v l in
-      piece-if (ltb v (h .vars))
-      (piece-then (tell-two " " (limit h v) (piece 1 (bytes " ") refl) (omega (arith, g .most))) (tell-two "/" (len h v) (piece 1 (bytes "/") refl) (omega (arith, g .most, g .fit))))
+module _ (t : List ℕ) (z : sheetRefusal t .number ≡ 0) where
+  abbrev hs : List ℕ
+  hs = sheetHeaders t
 
-  shape-rest : Rest 33 34 (shapeText h)
-  unfolding shapeText bytes
-  shape-rest =
-      rest-then (piece-then (piece 7 (bytes "; vars ") refl) (one-digit (h .vars) (omega (arith, r .rules .few))))
-      (rest-then (piece-if (ltb 0 (h .vars)) (piece 1 (bytes ":") refl)) (rest-then (piece-joined (pairText h) 6 4 pair-piece) newline-rest))
+  abbrev ss : List ℕ
+  ss = sheetSteps t
 
--- ---- cuts and ends
+  abbrev cs : List Float
+  cs = sheetCoefficients t
 
-kind-place-piece : (inputs d : ℕ) → d < 64 → Piece 16 (placeKindText inputs d)
-unfolding placeKindText bytes
-kind-place-piece inputs d l = piece-then (tell-two "place " d (piece 6 (bytes "place ") refl) (omega arith)) (piece-either (ltb d inputs) (piece 8 (bytes " (input)") refl) (piece 8 (bytes " (step)") refl))
+  accepts-it : Accepts hs ss
+  accepts-it = accepts hs ss (check-none t z)
 
-module _ (known : List Header) (ss : List ℕ) (inputs : ℕ) (g : Known known) where
-  limit-small : (v p : ℕ) → v < 4 → limitAt known v p < 100
-  limit-small v p l = omega (arith, ruled-at (g .at p .rules) v l .most)
+  small-steps : largest (announcedSteps hs ss) ≤ 256
+  unfolding sheetRefusal recipeRefusal
+  small-steps =
+      let a = or-none (checkRefusal hs ss) _ (or-none (readRefusal t) _ z .1) in
+      let b = or-none (ownRefusal hs ss) _ (a .1) in
+      steps-largest (passed hs ss (ap (λ (x : Refusal). x .number) (or-next (checkRefusal hs ss) (ownRefusal hs ss) (a .0)) ∙ b .0))
 
-  place-lines : (p : ℕ) → p < 64 → (inputs ≤ p → Short (stepWord ss inputs p)) → Lines 79 (placeText known ss inputs p)
-  unfolding placeText bytes
-  place-lines p l s =
-      lines (omega arith)
-      (rest-then (tell-two "place " p (piece 6 (bytes "place ") refl) (omega arith)) (rest-then (piece 2 (bytes ": ") refl) (rest-then (what-piece ss inputs p s) (shape-rest (g .at p)))))
+  full : total (inputHeads hs) ≤ length cs
+  unfolding sheetCoefficients coefficientCount
+  full = omega (arith, length-table (λ j. ofBits binary64 (wordOn t (1 + inputCount t + j))) (coefficientCount t))
 
-  module _ (p v : ℕ) (l : p < 64) (k : v < 4) where
-    abbrev operand : ℕ
-    operand = cutOperand known v (stepWord ss inputs p) p
+  abbrev last : ℕ
+  last = length ss - 1
 
-    cut-from : Piece 43 (cutFromText p v (limitAt known v operand) operand)
-    unfolding cutFromText bytes
-    cut-from =
-        piece-then (tell-two "place " p (piece 6 (bytes "place ") refl) (omega arith))
-        (piece-then (tell-two " variable " v (piece 10 (bytes " variable ") refl) (omega arith))
-        (piece-then (tell-two ": cut from " (limitAt known v operand) (piece 11 (bytes ": cut from ") refl) (limit-small v operand k))
-        (tell-two " (place " operand (piece 8 (bytes " (place ") refl) (omega (arith, cut-small known v (stepWord ss inputs p) p)))))
+  last-in : last < length ss
+  last-in = omega (arith, accepts-it .sizes .some)
 
-    cut-to : Rest 27 28 (cutToText (limitAt known v p) inputs (decider known v ss inputs p))
-    unfolding cutToText bytes
-    cut-to =
-        rest-then (tell-two ") to " (limitAt known v p) (piece 5 (bytes ") to ") refl) (limit-small v p k))
-        (rest-then (piece 4 (bytes " by ") refl) (rest-then (kind-place-piece inputs (decider known v ss inputs p) (decider-small known v ss inputs p l)) newline-rest))
+  -- the last value keeps what its step announced
+  keep : Keeps (headAt (announcedPlaces hs ss) (length hs + last)) (lastValue t)
+  unfolding lastValue stepValues
+  keep =
+      let e : valueAt (values hs cs ss) (length hs + last) ≡ lastValue t =
+      sym (getD-drop (length hs) (values hs cs ss) last noValue) ∙ ap (λ (n : ℕ). getD (drop (length hs) (values hs cs ss)) (n - 1) noValue) (steps-many t) in
+      rw e at (follows-all hs cs ss {m = 8 * largest (announcedSteps hs ss)} (check-none t z) full (omega arith) .keeps (length hs + last))
 
-    cut-lines : Lines 71 (cutText known ss inputs p v)
-    unfolding cutText cutLine
-    cut-lines = lines-if (not (ltb p inputs) && isCut known v (stepWord ss inputs p) p) (lines (omega arith) (rest-then cut-from cut-to))
+  last-few : stored (headerOf (wordOf (lastValue t .head))) ≤ 256
+  last-few =
+      let l : stored (headAt (announcedPlaces hs ss) (length hs + last)) ≤ largest (announcedSteps hs ss) =
+      rw (announced-at hs ss last last-in) (step-largest hs ss last last-in) in
+      rw (unpack-pack (lastValue t .head) (keep .regular)) (omega (arith, count-under (keep .under), l, small-steps))
 
-    module _ {m : ℕ} (o : Ordered ss inputs m) (q : p < m) where
-      abbrev far : ℕ
-      far = furthest known v ss inputs p
+  first-lines : Lines 25000 (limitsFirst t)
+  unfolding limitsFirst
+  first-lines =
+      limits-lines (announcedPlaces hs ss) ss (inputCount t) (places-known hs ss (accepts-it .inputs)) (inputCount t + stepCount t)
+      (omega (arith, accepts-it .sizes .some, steps-many t)) (few t z) (sheet-ordered t z)
+      (λ p a l e. let n = sheet-short t z p a l (record { from = omega (arith, e); to = omega (arith, e) }) in omega arith)
 
-      further-rest : Rest 1 24 (furtherText known ss inputs p v ++ bytes "\n")
-      unfolding furtherText bytes
-      further-rest =
-          decide (ltb (limitAt known v p) (limitAt known v far))
-          (λ t.
-          rw t
-          (rest-broken {k = 21} {n = 22} (omega arith)
-          (rest-then
-          (piece-then (tell-two "  place " far (piece 8 (bytes "  place ") refl) (omega (arith, furthest-before known v ss inputs o p q)))
-          (tell-two " went to " (limitAt known v far) (piece 9 (bytes " went to ") refl) (limit-small v far k)))
-          newline-rest)))
-          (λ t. rw t (rest-up newline-rest (omega arith) (omega arith)))
+  done-kept : Kept 44000 (toldText t)
+  done-kept =
+      let f = figures-lines (headerOf (wordOf (lastValue t .head))) (lastValue t .coeffs) (word-lengths (wordOf (lastValue t .head))) last-few in
+      rw (told-done t z) (kept-behind first-lines (record { most = f .most; keeps = f .keeps }))
 
-      ends-at : Piece 62 (endsAtText v (limitAt known v p) inputs (decider known v ss inputs p))
-      unfolding endsAtText bytes
-      ends-at =
-          piece-then (tell-two "variable " v (piece 9 (bytes "variable ") refl) (omega arith))
-          (piece-then (tell-two " of the answer ends at " (limitAt known v p) (piece 23 (bytes " of the answer ends at ") refl) (limit-small v p k))
-          (piece-then (piece 5 (bytes ", as ") refl)
-          (piece-then (kind-place-piece inputs (decider known v ss inputs p) (decider-small known v ss inputs p l)) (piece 5 (bytes " does") refl))))
+-- ---- the laws
 
-      end-lines : Lines 86 (endText known ss inputs p v)
-      unfolding endText endLine
-      end-lines = lines-if (has known v p) (lines (omega arith) (rest-then ends-at further-rest))
+told-kept : (t : List ℕ) → Kept 44000 (toldText t)
+told-kept t =
+    decide (isNone (sheetRefusal t))
+    (λ a. done-kept t (eqb-true _ _ a))
+    (λ a.
+    let k = refusal-kept (sheetRefusal t) in
+    rw (told-refused t refl (eqb-false (sheetRefusal t .number) 0 a)) (record { most = omega (arith, k .most); keeps = k .keeps }))
 
-  cuts-lines : (p : ℕ) → p < 64 → Lines 284 (cutsText known ss inputs p)
-  unfolding cutsText
-  cuts-lines p l = lines-joined (cutText known ss inputs p) 71 4 (λ v k. cut-lines p v l k)
+module _ (t : List ℕ) where
+  pub told-columns : inColumns 0 (toldText t) ≡ true
+  told-columns = told-kept t .keeps
 
-  verdict-lines : (p : ℕ) → Lines 70 (verdictText known ss inputs p)
-  unfolding verdictText bytes inColumns columnAfter
-  verdict-lines p = lines-either (isWhole known ss inputs p) (written 70 _ refl refl) (written 70 _ refl refl)
+  pub told-fits : length (toldText t) ≤ 65536
+  told-fits = omega (arith, told-kept t .most)
 
-  heads : (Lines 80 lineOne) × (Lines 80 lineTwo)
-  unfolding bytes inColumns columnAfter
-  heads = (written 80 lineOne refl refl, written 80 lineTwo refl refl)
-
-  -- all of it
-  pub limits-lines : (n : ℕ) → 1 ≤ n → n ≤ 64 → Ordered ss inputs n → ((p : ℕ) → inputs ≤ p → p < n → Short (stepWord ss inputs p)) → Lines 25000 (limitsText known ss inputs n)
-  unfolding limitsText
-  limits-lines n s f o short =
-      lines-up
-      (lines-then (heads .0)
-      (lines-then (heads .1)
-      (lines-then (lines-joined (placeText known ss inputs) 79 n (λ p l. place-lines p (omega arith) (λ i. short p i l)))
-      (lines-then (lines-joined (cutsText known ss inputs) 284 n (λ p l. cuts-lines p (omega arith)))
-      (lines-then (lines-joined (endText known ss inputs (n - 1)) 86 4 (λ v k. end-lines (n - 1) v (omega arith) k o (omega arith))) (verdict-lines (n - 1)))))))
-      (omega arith)
+  -- so that all of it is printed
+  pub told-whole : {old new : List ℕ} {n : ℕ} → Printed (toldText t) old new n → 65536 ≤ length old → take n new ≡ toldText t
+  told-whole {old} {new} {n} p l =
+      let e : n ≡ length (toldText t) = omega (arith, p .behind, told-fits) in
+      let f : take (length old) (toldText t) ≡ toldText t = take-all (length old) (toldText t) (omega (arith, told-fits)) in
+      ap (take n) (p .is ∙ ap (λ (x : List ℕ). over x old) f) ∙ take-over (toldText t) old n (sym e)

@@ -1,43 +1,39 @@
-// The report of a sheet in plain text: every limit before any figure.
-pub mod cuts;
-pub mod lines;
-pub mod put;
+// The answer of a sheet in plain text, for people: every limit before any figure, or why the sheet is refused.
+mod refusal;
 
-use cuts::put_cuts;
-use cuts::put_ends;
-use cuts::put_verdict;
-use lines::put_places;
-use put::put;
-ghost use mathlib.Core.List.{map};
-ghost use Prim.Native.Nat.{_≤_};
-ghost use Rattle.model.specs.Word.{headerOf};
-ghost use Rattle.model.specs.Report.{limitsText};
-ghost use Rattle.report.specs.Puts.{Puts};
+use refusal::put_refusal_report;
+use report_figures::line::put_figures;
+use report_lines::put_limits;
+use sheet::solve;
+ghost use lib.ListN.{length};
+ghost use mathlib.Core.Path.{_≡_};
+ghost use Rattle.model.specs.Told.{toldText};
+ghost use Rattle.report_lines.specs.Puts.{Printed};
 
-// All that is said of the limits of n places, of which the last is the answer.
-pub fn put_limits(
-    known: &[u64],
-    steps: &[u64],
-    inputs: usize,
-    n: usize,
-    at: usize,
-    to: &mut [u8],
-) -> usize
-    requires { ⌜ (1 ≤ n) × (n ≤ 64) ⌝ }
-    ensures { λ r. ⌜ Puts (limitsText (map headerOf (now (known .entry))) (now (steps .entry)) inputs n) at (now (to .entry)) (now (to .exit)) r ⌝ }
+// Memory for a pool.
+fn floats() -> [f64; 2048]
+    ensures { λ r. ⌜ length r ≡ 2048 ⌝ }
 {
-    let a = put(
-        b"Each place: what it is, its number of variables, and of each variable the\n",
-        at,
-        to,
-    );
-    let b = put(
-        b"limit/stored length. Operands are places, v is a variable, n a number.\n",
-        a,
-        to,
-    );
-    let c = put_places(known, steps, inputs, n, b, to);
-    let d = put_cuts(known, steps, inputs, n, c, to);
-    let e = put_ends(known, steps, inputs, n - 1, d, to);
-    put_verdict(known, steps, inputs, n - 1, e, to)
+    [0.0f64; 2048]
+}
+
+// What is printed for a sheet, as far as `output` reaches; answers how long it is.
+pub fn answer(text: &[u8], output: &mut [u8]) -> usize
+    ensures { λ r. ⌜ Printed (toldText (now (text .entry))) (now (output .entry)) (now (output .exit)) r ⌝ }
+{
+    let mut headers = [0u64; 16];
+    let mut steps = [0u64; 64];
+    let mut known = [0u64; 64];
+    let mut pool = floats();
+    let solved = solve(text, &mut headers, &mut steps, &mut known, &mut pool);
+    let refusal = solved.refusal;
+    if refusal.number != 0 {
+        return put_refusal_report(refusal, 0, output);
+    }
+    let n = solved.inputs + solved.steps;
+    let count = solved.steps;
+    let next = put_limits(&known[..n], &steps[..count], solved.inputs, n, 0, output);
+    let from = solved.from;
+    let end = from + solved.count;
+    put_figures(solved.header, &pool[from..end], next, output)
 }

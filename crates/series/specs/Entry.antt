@@ -16,13 +16,13 @@ use Rattle.model.specs.Word.{headerOf}
 use Rattle.model.specs.Announced.{announced, single, lengthAfter, limitAfter}
 use Rattle.model.specs.Poly.{held}
 use Rattle.model.specs.Series.{seriesShape, expRows, expOf, expPoly, logRows, logOf, logPoly}
-use Rattle.words.specs.Rules.{Regular, ruled-at}
-use Rattle.words.specs.Lengths.{lengths-of}
+use Rattle.shape_words.specs.Rules.{Regular, ruled-at}
+use Rattle.shape_words.specs.Lengths.{lengths-of}
 use Rattle.shape.specs.Under.{Under, count-under}
 use Rattle.blocks.specs.Rows.{Inner}
 use Rattle.gates.specs.Gate.{WorkReady}
-use Rattle.gathering.specs.Whole.{Whole}
-use Rattle.logarithm.specs.LogBlock.{Long}
+use Rattle.series_gathering.specs.Whole.{Whole}
+use Rattle.series_log.specs.LogBlock.{Long}
 
 -- no length becomes smaller
 series-most : {a : Header} → Regular a → (k : ℕ) → k < 4 → len a k ≤ len (announced Series a noHeader) k

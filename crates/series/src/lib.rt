@@ -3,8 +3,8 @@ use model::Answer;
 use model::Family;
 use model::Header;
 use shape::announce::announced_of;
-use words::word::header_of;
-use words::word::pack;
+use shape_words::word::header_of;
+use shape_words::word::pack;
 ghost use mathlib.Core.Path.{_≡_};
 ghost use Rattle.model.specs.Series.{expAnswer, expOut, logAnswer, logOut, seriesScratch};
 
@@ -25,7 +25,7 @@ pub fn exp(word: u64, a: &[f64], head: f64, out: &mut [f64], scratch: &mut [f64]
     let na = gates::stored_of(x);
     let n = gates::stored_of(h);
     let room = 8 * n;
-    exponential::exp_into(
+    series_exp::exp_into(
         head,
         &a[..na],
         lx,
@@ -55,7 +55,7 @@ pub fn log(word: u64, a: &[f64], head: f64, out: &mut [f64], scratch: &mut [f64]
     let na = gates::stored_of(x);
     let n = gates::stored_of(h);
     let room = 8 * n;
-    logarithm::log_into(
+    series_log::log_into(
         head,
         &a[..na],
         lx,

@@ -14,7 +14,7 @@ use Rattle.model.specs.declared.Family.the-variants.{Constant, Same, Sum, Produ
 use Rattle.model.specs.Header.{header, limit, len, noHeader}
 use Rattle.model.specs.Limits.{minDegreesP1}
 use Rattle.model.specs.Announced.{lessIn, limitAfter, lengthAfter, single, paired, announced}
-use Rattle.words.specs.Rules.{GoodVar, Ruled, Regular, ruled-at, regular-four, none-regular}
+use Rattle.shape_words.specs.Rules.{GoodVar, Ruled, Regular, ruled-at, regular-four, none-regular}
 use Rattle.shape.specs.Limits.{Range, min-degrees-at, min-degrees-range, min-degrees-gone}
 
 -- a length of 1 to l

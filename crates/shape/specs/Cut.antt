@@ -15,11 +15,11 @@ use Rattle.model.specs.Places.{place, offset, index, inside}
 use Rattle.model.specs.Limits.{cutTo}
 use Rattle.model.specs.Refusals.{zeroF}
 use Rattle.model.specs.Poly.{Block, readAt, coefficientAt, cut}
-use Rattle.words.specs.Rules.{GoodVar, Ruled, Regular, regular-four, ruled-at}
+use Rattle.shape_words.specs.Rules.{GoodVar, Ruled, Regular, regular-four, ruled-at}
 use Rattle.shape.specs.Limits.{Range}
 use lib.Dec.{lit<}
-use Rattle.words.specs.Lengths.{Lengths, Inside, inside-is, is-inside, inside-four, inside-at}
-use Rattle.words.specs.Places.{place-lt, index-place}
+use Rattle.shape_words.specs.Lengths.{Lengths, Inside, inside-is, is-inside, inside-four, inside-at}
+use Rattle.shape_words.specs.Places.{place-lt, index-place}
 
 cut-at : (l n : List ℕ) (k : ℕ) → k < 4 → at (cutTo l n) k ≡ min (at l k) (at n k)
 unfolding cutTo

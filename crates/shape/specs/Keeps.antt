@@ -9,7 +9,7 @@ use Rattle.model.specs.declared.Header.{Header}
 use Rattle.model.specs.Header.{stored, noHeader, span}
 use Rattle.model.specs.Poly.{Poly}
 use Rattle.model.specs.Constructed.{constant}
-use Rattle.words.specs.Rules.{Regular, Good, none-regular}
+use Rattle.shape_words.specs.Rules.{Regular, Good, none-regular}
 use Rattle.shape.specs.Under.{Under, under-same, count-under}
 
 -- h the announced header

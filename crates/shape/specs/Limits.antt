@@ -11,7 +11,7 @@ use Rattle.lists.specs.Four.{at, four, each}
 use Rattle.model.specs.declared.Header.{Header}
 use Rattle.model.specs.Header.{limit, len}
 use Rattle.model.specs.Limits.{minLimit, minDegreesP1, cutTo}
-use Rattle.words.specs.Rules.{GoodVar, Ruled, ruled-at}
+use Rattle.shape_words.specs.Rules.{GoodVar, Ruled, ruled-at}
 
 -- a number of 1 to 64
 pub record Range (x : ℕ) : Type 0 where

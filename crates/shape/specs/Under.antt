@@ -16,7 +16,7 @@ use Rattle.model.specs.declared.Family.the-variants.{Constant, Same, Sum, Produ
 use Rattle.model.specs.Header.{header, limit, len, noHeader, span, stored}
 use Rattle.model.specs.Limits.{minDegreesP1}
 use Rattle.model.specs.Announced.{limitAfter, lengthAfter, single, paired, announced}
-use Rattle.words.specs.Rules.{Ruled, ruled-at, Regular}
+use Rattle.shape_words.specs.Rules.{Ruled, ruled-at, Regular}
 use Rattle.shape.specs.Limits.{min-degrees-range}
 
 pub record Under (t a : Header) : Type 0 where

@@ -12,8 +12,8 @@ ghost use Prim.Native.Nat.{ℕ, _+_, _-_, _*_, _≤_, min};
 ghost use lib.Dec.{eqb};
 ghost use Rattle.model.specs.declared.Family.the-variants.{Power, Product, Substitution};
 ghost use Rattle.model.specs.Announced.{lessIn, limitAfter, lengthAfter, single, paired, announced};
-ghost use Rattle.words.specs.Rules.{Ruled};
-ghost use Rattle.words.specs.Lengths.{Small};
+ghost use Rattle.shape_words.specs.Rules.{Ruled};
+ghost use Rattle.shape_words.specs.Lengths.{Small};
 
 // x less d where k is the variable v, 1 at least.
 fn less_in(v: usize, d: usize, k: usize, x: usize) -> usize

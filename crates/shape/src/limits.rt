@@ -3,7 +3,7 @@ use model::Header;
 ghost use mathlib.Core.Path.{_≡_};
 ghost use Prim.Native.Nat.{min, max};
 ghost use Rattle.model.specs.Limits.{minLimit, minDegreesP1, cutTo, maxShape, sumShape};
-ghost use Rattle.words.specs.Lengths.{Lengths};
+ghost use Rattle.shape_words.specs.Lengths.{Lengths};
 
 pub fn least(a: usize, b: usize) -> usize
     ensures { λ r. ⌜ r ≡ min a b ⌝ }

@@ -18,8 +18,8 @@ use Rattle.model.specs.Check.{orElse, checkRefusal}
 use Rattle.model.specs.Run.{runRefusal}
 use Rattle.model.specs.Printed.{doneText, refusedText}
 use Rattle.model.specs.Sheet.{wordOn, inputCount, stepCount, sheetHeaders, coefficientCount, sheetCoefficients, sheetSteps, ownRefusal, recipeRefusal, readRefusal, sheetRefusal, lastValue, sheetOutput}
-use Rattle.kinds.specs.Known.{Known}
-use Rattle.judging.specs.Asks.{or-first, or-next}
+use Rattle.recipes_kinds.specs.Known.{Known}
+use Rattle.recipes_check.specs.Asks.{or-first, or-next}
 use Rattle.sheet_reading.specs.Headers.{good-known}
 use Rattle.sheet.specs.Opened.{Opened, opened, opened-good, opened-few, headers-many, steps-many}
 use Rattle.sheet_limits.specs.Limits.{OwnJudged}

@@ -18,7 +18,7 @@ use Rattle.model.specs.Check.{orElse}
 use Rattle.model.specs.Hex.{isDigit, digitOf, byteAt, digitAt, isLine, pushDigit, wordAt}
 use Rattle.model.specs.Printed.{refusedText}
 use Rattle.model.specs.Sheet.{lined, wordOn, inputCount, stepCount, spare, sheetHeaders, coefficientCount, sheetCoefficients, sheetSteps, restCount, headersRefusal, readRefusal, sheetRefusal, lastValue, sheetOutput}
-use Rattle.judging.specs.Asks.{or-first}
+use Rattle.recipes_check.specs.Asks.{or-first}
 use Rattle.sheet_reading.specs.Reading.{Sized, sized, sizesTest, restRefusal, after-sizes, count-small}
 use Rattle.sheet.specs.Opened.{Opened, opened, opened-few}
 use Rattle.sheet.specs.Ended.{output-read}

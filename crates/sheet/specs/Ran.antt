@@ -18,16 +18,16 @@ use Rattle.model.specs.Poly.{Poly}
 use Rattle.model.specs.Recipe.{headAt, inputHeads, announcedPlaces, announcedSteps, total, largest}
 use Rattle.model.specs.Run.{noValue, valueAt, values, stepValues, runBy, runRefusal, runAnswer, runPool, runWords}
 use Rattle.model.specs.Sheet.{wordOn, inputCount, stepCount, coefficientCount, sheetCoefficients, sheetRefusal, lastValue}
-use Rattle.words.specs.Rules.{Ruled}
-use Rattle.words.specs.Words.{unpack-pack}
+use Rattle.shape_words.specs.Rules.{Ruled}
+use Rattle.shape_words.specs.Words.{unpack-pack}
 use Rattle.shape.specs.Keeps.{Keeps}
 use Rattle.shape.specs.Under.{count-under}
-use Rattle.judging.specs.Asks.{or-next, by-refusal}
-use Rattle.demands.specs.Follows.{Follows}
-use Rattle.demands.specs.Never.{run-none}
-use Rattle.demands.specs.Ahead.{announced-at, length-announced, step-largest}
-use Rattle.demands.specs.Values.{follows-all}
-use Rattle.demands.specs.Buffers.{word-kept, coeffs-kept}
+use Rattle.recipes_check.specs.Asks.{or-next, by-refusal}
+use Rattle.recipes_laws.specs.Follows.{Follows}
+use Rattle.recipes_laws.specs.Never.{run-none}
+use Rattle.recipes_laws.specs.Ahead.{announced-at, length-announced, step-largest}
+use Rattle.recipes_laws.specs.Values.{follows-all}
+use Rattle.recipes_laws.specs.Buffers.{word-kept, coeffs-kept}
 use Rattle.sheet.specs.Opened.{headers-many, steps-many}
 use Rattle.sheet.specs.declared.Solved.{Solved}
 use Rattle.sheet.specs.Running.{RunningIn, passed, steps-largest}

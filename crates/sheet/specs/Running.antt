@@ -16,11 +16,11 @@ use Rattle.model.specs.Refusals.{noRefusal}
 use Rattle.model.specs.Recipe.{announcedStep, inputHeads, announcedPlaces, announcedSteps, total, largest}
 use Rattle.model.specs.Check.{orElse, checkRefusal}
 use Rattle.model.specs.Sheet.{sheetHeaders, sheetSteps, ownRefusal, readRefusal}
-use Rattle.words.specs.Lengths.{lengths-of, count-most}
-use Rattle.kinds.specs.Known.{Known}
-use Rattle.judging.specs.Asks.{or-none, ask-none}
-use Rattle.judging.specs.Judged.{Accepts, accepts, places-known}
-use Rattle.demands.specs.Ahead.{length-announced}
+use Rattle.shape_words.specs.Lengths.{lengths-of, count-most}
+use Rattle.recipes_kinds.specs.Known.{Known}
+use Rattle.recipes_check.specs.Asks.{or-none, ask-none}
+use Rattle.recipes_check.specs.Judged.{Accepts, accepts, places-known}
+use Rattle.recipes_laws.specs.Ahead.{length-announced}
 use Rattle.sheet.specs.declared.run.Room.{Room}
 use Rattle.sheet_limits.specs.Limits.{inputs-first, front-heads, back-heads, front-known, back-known}
 

@@ -11,7 +11,7 @@ use Rattle.model.specs.Word.{headerOf, wordOf}
 use Rattle.model.specs.Refusals.{noRefusal}
 use Rattle.model.specs.Recipe.{announcedPlaces}
 use Rattle.model.specs.Sheet.{inputCount, stepCount, sheetHeaders, sheetSteps, sheetRefusal, lastValue}
-use Rattle.kinds.specs.Known.{Known}
+use Rattle.recipes_kinds.specs.Known.{Known}
 use Rattle.sheet.specs.declared.Solved.{Solved}
 
 -- i inputs, n steps, the last value's header word w, its coefficients from the place f on

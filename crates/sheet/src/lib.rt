@@ -9,16 +9,16 @@ use print::put_refusal;
 use run::floats;
 use run::places;
 use run::run_read;
+use shape_words::word::header_of;
 use sheet_reading::input_count;
 use sheet_reading::read;
-use words::word::header_of;
 ghost use mathlib.Core.Path.{_≡_};
 ghost use Prim.Native.Nat.{_≤_};
 ghost use lib.ListN.{length};
 ghost use Rattle.lists.specs.Grow.{over};
 ghost use Rattle.model.specs.Word.{headerOf};
 ghost use Rattle.model.specs.Sheet.{sheetOutput};
-ghost use Rattle.words.specs.Rules.{Ruled};
+ghost use Rattle.shape_words.specs.Rules.{Ruled};
 ghost use Rattle.sheet.specs.Solves.{solvedBy, Buffers, Solves};
 
 // The longest output: `done` and the step count, the header, 256 coefficients.

@@ -1,14 +1,14 @@
 // The texts that the program prints, put to the front of lent memory; each function answers how long its text is.
 use model::Refusal;
-use text::print::put_byte;
-use text::print::put_bytes;
-use text::print::put_decimal;
-use text::print::put_floats;
-use text::print::put_line;
+use sheet_text::print::put_byte;
+use sheet_text::print::put_bytes;
+use sheet_text::print::put_decimal;
+use sheet_text::print::put_floats;
+use sheet_text::print::put_line;
 ghost use Prim.Native.Nat.{_+_, _*_, _≤_};
 ghost use lib.ListN.{length};
 ghost use Rattle.model.specs.Printed.{doneText, refusedText};
-ghost use Rattle.text.specs.Put.{Put};
+ghost use Rattle.sheet_text.specs.Put.{Put};
 
 // One line of `refused`, number, place.
 pub fn put_refusal(r: Refusal, to: &mut [u8]) -> usize

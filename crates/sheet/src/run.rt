@@ -1,9 +1,9 @@
 // Running a recipe that was read off a sheet.
 use crate::Solved;
-use judging::largest_of;
-use judging::total_of;
 use model::RunAnswer;
 use recipes::run;
+use recipes_check::largest_of;
+use recipes_check::total_of;
 use sheet_limits::judge_own;
 use sheet_reading::fill_floats;
 use sheet_reading::fill_words;
@@ -13,7 +13,7 @@ ghost use mathlib.Core.List.{map};
 ghost use Prim.Native.Nat.{_≤_, _<_};
 ghost use lib.ListN.{length};
 ghost use Rattle.model.specs.Word.{headerOf};
-ghost use Rattle.kinds.specs.Known.{Known};
+ghost use Rattle.recipes_kinds.specs.Known.{Known};
 ghost use Rattle.sheet.specs.Running.{Opening, Running, RunningIn, roomOf};
 ghost use Rattle.sheet.specs.Solves.{Lent, Ends, Ended};
 

@@ -17,12 +17,12 @@ use Rattle.model.specs.Refusals.{refusedBy, noRefusal}
 use Rattle.model.specs.Recipe.{announcedStep, inputHeads, announcedPlaces, announcedSteps, total, largest}
 use Rattle.model.specs.Check.{orElse, checkRefusal}
 use Rattle.model.specs.Sheet.{ownRefusal}
-use Rattle.words.specs.Rules.{Regular, none-regular}
-use Rattle.kinds.specs.Known.{Known}
-use Rattle.judging.specs.Asks.{or-first, or-next}
-use Rattle.judging.specs.Answered.{drop-map}
-use Rattle.judging.specs.Judging.{heads}
-use Rattle.judging.specs.Judged.{Judged, accepts, places-known}
+use Rattle.shape_words.specs.Rules.{Regular, none-regular}
+use Rattle.recipes_kinds.specs.Known.{Known}
+use Rattle.recipes_check.specs.Asks.{or-first, or-next}
+use Rattle.recipes_check.specs.Answered.{drop-map}
+use Rattle.recipes_check.specs.Judging.{heads}
+use Rattle.recipes_check.specs.Judged.{Judged, accepts, places-known}
 
 -- places, of which the first k are inputs
 abbrev pub withinLimits : ℕ → List Header → Bool

@@ -1,14 +1,14 @@
 // The check of a sheet's recipe, and after it the program's own limits.
-use judging::judge;
-use judging::largest_of;
-use judging::total_of;
 use model::Refusal;
+use recipes_check::judge;
+use recipes_check::largest_of;
+use recipes_check::total_of;
 ghost use mathlib.Core.Path.{_≡_};
 ghost use mathlib.Core.List.{map};
 ghost use Prim.Native.Nat.{_≤_};
 ghost use lib.ListN.{length};
 ghost use Rattle.model.specs.Word.{headerOf};
-ghost use Rattle.kinds.specs.Known.{Known};
+ghost use Rattle.recipes_kinds.specs.Known.{Known};
 ghost use Rattle.sheet_limits.specs.Limits.{withinLimits, OwnJudged};
 
 // Whether places, of which the first are inputs, keep the limits: each place, all inputs, the pool.

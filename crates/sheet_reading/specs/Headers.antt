@@ -21,10 +21,10 @@ use Rattle.model.specs.Refusals.{refusedAt, refusedBy, noRefusal}
 use Rattle.model.specs.Recipe.{inputHeads, total}
 use Rattle.model.specs.Check.{askAt}
 use Rattle.model.specs.Sheet.{lined, wordOn, headersRefusal}
-use Rattle.words.specs.Rules.{Good, none-regular}
-use Rattle.words.specs.Words.{good-word}
-use Rattle.kinds.specs.Known.{Known, head-at}
-use Rattle.judging.specs.Asks.{ask-none}
+use Rattle.shape_words.specs.Rules.{Good, none-regular}
+use Rattle.shape_words.specs.Words.{good-word}
+use Rattle.recipes_kinds.specs.Known.{Known, head-at}
+use Rattle.recipes_check.specs.Asks.{ask-none}
 
 -- header number i of a text
 abbrev pub headerOn : List ℕ → ℕ → ℕ

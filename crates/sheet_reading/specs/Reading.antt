@@ -17,7 +17,7 @@ use Rattle.model.specs.Refusals.{refusedBy, noRefusal}
 use Rattle.model.specs.Recipe.{inputHeads, total}
 use Rattle.model.specs.Check.{askAt, orElse, rightSizes}
 use Rattle.model.specs.Sheet.{lined, inputCount, stepCount, spare, sheetHeaders, coefficientCount, restCount, headersRefusal, readRefusal}
-use Rattle.judging.specs.Asks.{or-first, or-next}
+use Rattle.recipes_check.specs.Asks.{or-first, or-next}
 use Rattle.sheet_reading.specs.Headers.{HeadersRead, headerOn, GoodHeads, heads-good, total-most}
 
 -- old, new: the buffer of headers before and after

@@ -1,9 +1,9 @@
 // Reading a sheet in order, as far as its words are well formed.
-use judging::total_of;
 use model::Refusal;
-use text::line::is_line;
-use text::line::word_at;
-use words::word::is_good;
+use recipes_check::total_of;
+use shape_words::word::is_good;
+use sheet_text::line::is_line;
+use sheet_text::line::word_at;
 ghost use mathlib.Core.Path.{_≡_};
 ghost use Prim.Native.Nat.{_+_, _≤_};
 ghost use lib.ListN.{length};
@@ -131,7 +131,7 @@ pub fn fill_floats(text: &[u8], from: usize, to: &mut [f64])
     let n = to.len();
     let mut k = 0;
     while k < n {
-        to[k] = bits::float_of(word_at(text, 17 * (from + k)));
+        to[k] = sheet_bits::float_of(word_at(text, 17 * (from + k)));
         k += 1;
     }
 }

@@ -20,14 +20,14 @@ use Rattle.model.specs.Announced.{announced, paired}
 use Rattle.model.specs.Refusals.{zeroF, zeros, padded}
 use Rattle.model.specs.Poly.{Poly, Block, poly, block, polyOf, held}
 use Rattle.model.specs.Substitute.{substitutePoly}
-use Rattle.words.specs.Rules.{Ruled, Regular, ruled-at}
-use Rattle.words.specs.Lengths.{Lengths, lengths-of, count-most}
+use Rattle.shape_words.specs.Rules.{Ruled, Regular, ruled-at}
+use Rattle.shape_words.specs.Lengths.{Lengths, lengths-of, count-most}
 use Rattle.shape.specs.Limits.{min-limit-pos, min-degrees-range}
 use Rattle.shape.specs.Announced.{announced-regular}
 use Rattle.shape.specs.Keeps.{Keeps}
 use Rattle.gates.specs.Gate.{PairReady}
-use Rattle.exact.specs.Sits.{Sits}
-use Rattle.exact.specs.SubstituteKeeps.{lengths-fit, substitute-keeps}
+use Rattle.laws_exact.specs.Sits.{Sits}
+use Rattle.laws_exact.specs.SubstituteKeeps.{lengths-fit, substitute-keeps}
 use Rattle.product.specs.Room.{Stands}
 use Rattle.product.specs.Ways.{count-less}
 use Rattle.substitution_way.specs.Way.{putFor}

@@ -19,20 +19,20 @@ use Rattle.model.specs.Poly.{Block, block, readAt, cut}
 use Rattle.model.specs.Add.{joinedBlock}
 use Rattle.model.specs.Product.{isZero, constantBlock, multiplied}
 use Rattle.model.specs.Substitute.{rowAt, horner}
-use Rattle.words.specs.Lengths.{lengths-pos}
+use Rattle.shape_words.specs.Lengths.{lengths-pos}
 use Rattle.blocks.specs.Two.{cutPlaces, cut-is}
-use Rattle.row_terms.specs.Rows.{Picking}
-use Rattle.exact.specs.Sits.{Sits, cut-at, sum-at, max-at, sits-more}
-use Rattle.exact.specs.Keeps.{joined-sits, joined-under}
-use Rattle.exact.specs.ProductKeeps.{constant-sits, shape-under}
-use Rattle.exact.specs.Running.{multiplied-sits}
-use Rattle.exact.specs.SubstituteKeeps.{row-sits, zero-first}
+use Rattle.readings_row.specs.Rows.{Picking}
+use Rattle.laws_exact.specs.Sits.{Sits, cut-at, sum-at, max-at, sits-more}
+use Rattle.laws_exact.specs.Keeps.{joined-sits, joined-under}
+use Rattle.laws_exact.specs.ProductKeeps.{constant-sits, shape-under}
+use Rattle.laws_exact.specs.Running.{multiplied-sits}
+use Rattle.laws_exact.specs.SubstituteKeeps.{row-sits, zero-first}
 use Rattle.product.specs.Room.{Stands}
 use Rattle.product.specs.Ways.{under-lengths, count-less, under-sits, sits-under}
 use Rattle.product.specs.Times.{cut-none}
 use Rattle.substitution.specs.Room.{rowOf, Puts, turns, Hornering}
-use Rattle.horner_turn.specs.Room.{Turning, timesPut, turnOf, Turned}
-use Rattle.horner_turn.specs.Turn.{block-is, times-sits, turn-small, turn-row}
+use Rattle.substitution_turn.specs.Room.{Turning, timesPut, turnOf, Turned}
+use Rattle.substitution_turn.specs.Turn.{block-is, times-sits, turn-small, turn-row}
 use Rattle.substitution.specs.Sizes.{row-in-la, row-parts, row-under, put-under, put-small}
 
 -- ---- what is put, cut beforehand

@@ -13,10 +13,10 @@ use Rattle.model.specs.Places.{strides, index}
 use Rattle.model.specs.Limits.{cutTo}
 use Rattle.model.specs.Poly.{block, readAt}
 use Rattle.model.specs.Substitute.{powered}
-use Rattle.linear_rows.specs.Rows.{Rows}
+use Rattle.product_linear.specs.Rows.{Rows}
 use Rattle.product.specs.Room.{Raising}
 use Rattle.product.specs.Raise.{raise-rows, raise-small, row-of}
-use Rattle.row_powers.specs.Powers.{power, byPart, Whole}
+use Rattle.substitution_powers.specs.Powers.{power, byPart, Whole}
 use Rattle.substitution.specs.Room.{Cuts}
 
 pos-right : (x y : ℕ) → 0 < x * y → 0 < y

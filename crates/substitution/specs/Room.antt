@@ -13,10 +13,10 @@ use Rattle.model.specs.Announced.{announced}
 use Rattle.model.specs.Poly.{Block}
 use Rattle.model.specs.Add.{joinedBlock}
 use Rattle.model.specs.Substitute.{rowAt}
-use Rattle.words.specs.Rules.{Regular}
-use Rattle.words.specs.Lengths.{Lengths}
+use Rattle.shape_words.specs.Rules.{Regular}
+use Rattle.shape_words.specs.Lengths.{Lengths}
 use Rattle.product.specs.Room.{Caps, Under}
-use Rattle.horner_turn.specs.Room.{timesPut}
+use Rattle.substitution_turn.specs.Room.{timesPut}
 
 -- the lengths of a row of v
 abbrev pub rowOf : List ℕ → ℕ → List ℕ → List ℕ

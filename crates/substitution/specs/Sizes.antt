@@ -13,15 +13,15 @@ use Rattle.model.specs.Places.{index}
 use Rattle.model.specs.Limits.{cutTo}
 use Rattle.model.specs.Poly.{Block, block, readAt, cut}
 use Rattle.model.specs.Substitute.{rowAt, powered, substituted}
-use Rattle.words.specs.Lengths.{Lengths, lengths-pos}
+use Rattle.shape_words.specs.Lengths.{Lengths, lengths-pos}
 use Rattle.blocks.specs.Rows.{Cutting}
-use Rattle.row_terms.specs.Rows.{Picking}
-use Rattle.exact.specs.Sits.{cut-at, cut-sits}
-use Rattle.exact.specs.SubstituteKeeps.{row-sits, substituted-most}
+use Rattle.readings_row.specs.Rows.{Picking}
+use Rattle.laws_exact.specs.Sits.{cut-at, cut-sits}
+use Rattle.laws_exact.specs.SubstituteKeeps.{row-sits, substituted-most}
 use Rattle.product.specs.Room.{Under}
 use Rattle.product.specs.Ways.{under-lengths, inner-of, count-less, sits-under, ones-under}
 use Rattle.substitution.specs.Room.{rowOf, Puts, Cuts}
-use Rattle.horner_turn.specs.Room.{Adding}
+use Rattle.substitution_turn.specs.Room.{Adding}
 
 cut-long : (l n : List ℕ) {v : ℕ} → v < 4 → v < length (cutTo l n)
 unfolding cutTo

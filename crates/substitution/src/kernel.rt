@@ -1,8 +1,8 @@
 // What is put for a variable of a polynomial. Scratch is used in blocks of n places, n the announced count: first what is put, cut to the
 // limits, then the running value of Horner's rule, then one row of the polynomial, then what the product needs.
 use model::Header;
-use row_terms::pick;
-use words::places::count_of;
+use readings_row::pick;
+use shape_words::places::count_of;
 ghost use mathlib.Core.Path.{_≡_};
 ghost use mathlib.Core.Bool.{false};
 ghost use Prim.Native.Nat.{suc, _+_, _*_, _≤_, _<_};
@@ -17,7 +17,7 @@ ghost use Rattle.model.specs.Refusals.{zeroF, padded};
 ghost use Rattle.model.specs.Poly.{block, readAt};
 ghost use Rattle.model.specs.Product.{isZero, constantBlock};
 ghost use Rattle.model.specs.Substitute.{rowAt, powered, horner};
-ghost use Rattle.row_terms.specs.Rows.{Picking};
+ghost use Rattle.readings_row.specs.Rows.{Picking};
 ghost use Rattle.product.specs.Room.{Put, Stands};
 ghost use Rattle.substitution_way.specs.Way.{putFor};
 ghost use Rattle.substitution.specs.Room.{rowOf, Given, Puts, Cuts, turns, Hornering};
@@ -89,9 +89,9 @@ pub fn line_put(
     let c = shape::limits::cut_to(limits, la);
     let z = count_of(c);
     blocks::load(a, la, c, &mut out[..z]);
-    let strides = words::places::strides_of(c);
+    let strides = shape_words::places::strides_of(c);
     let s = strides[v];
-    row_powers::power_parts(m, s, c[v] * s, &mut out[..z]);
+    substitution_powers::power_parts(m, s, c[v] * s, &mut out[..z]);
     c
 }
 
@@ -117,7 +117,7 @@ fn horner_rows(
     while 0 < left {
         left -= 1;
         load_row(a, la, c, v, left, 2 * n, work);
-        let next = horner_turn::turn(work, n, value, b, c, limits, out);
+        let next = substitution_turn::turn(work, n, value, b, c, limits, out);
         value = next;
     }
     value
@@ -141,7 +141,7 @@ fn horner_put(
     let c = row_lengths(limits, v, la);
     let last = highest(la, v);
     load_row(a, la, c, v, last, 2 * n, work);
-    let r = horner_turn::first_turn(work, n, c, out);
+    let r = substitution_turn::first_turn(work, n, c, out);
     if last == 0 {
         return r;
     }

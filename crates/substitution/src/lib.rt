@@ -4,7 +4,7 @@ pub mod kernel;
 use model::Answer;
 use model::Family;
 use model::Header;
-use words::word::pack;
+use shape_words::word::pack;
 ghost use mathlib.Core.Path.{_≡_};
 ghost use Rattle.model.specs.Substitute.{substituteAnswer, substituteOut, substituteScratch};
 

@@ -7,7 +7,7 @@ ghost use Prim.Native.Nat.{_<_};
 ghost use lib.ListN.{length};
 ghost use Rattle.model.specs.Header.{count};
 ghost use Rattle.model.specs.Poly.{block};
-ghost use Rattle.words.specs.Lengths.{Lengths};
+ghost use Rattle.shape_words.specs.Lengths.{Lengths};
 ghost use Rattle.substitution_way.specs.Way.{wayOf};
 
 // Which way b goes for v.

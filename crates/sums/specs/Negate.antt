@@ -16,8 +16,8 @@ use Rattle.model.specs.Word.{headerOf, wordOf}
 use Rattle.model.specs.Announced.{announced, single}
 use Rattle.model.specs.Gates.{announcedOne}
 use Rattle.model.specs.Negate.{negatedAt, negated, negateGate, negateAnswer, negateOut}
-use Rattle.words.specs.Rules.{Regular}
-use Rattle.words.specs.Words.{pack-unpack}
+use Rattle.shape_words.specs.Rules.{Regular}
+use Rattle.shape_words.specs.Words.{pack-unpack}
 use Rattle.gates.specs.Gate.{OneReady, one-ready, answer-no, answer-yes, leaves-no, leaves-yes, written-full}
 
 -- the announced header of a header that keeps the rules is that header

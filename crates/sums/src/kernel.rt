@@ -1,7 +1,7 @@
 // What the entries call.
 use model::Answer;
 use model::Family;
-use words::word::pack;
+use shape_words::word::pack;
 ghost use mathlib.Core.Path.{_≡_};
 ghost use Rattle.model.specs.Add.{sumAnswer, sumOut, sumScratch};
 
@@ -43,7 +43,7 @@ pub fn sum(
     let nb = o.nb;
     let n = o.n;
     let room = 8 * n;
-    cut_sums::sum_into(
+    sums_cut::sum_into(
         minus,
         &a[..na],
         la,

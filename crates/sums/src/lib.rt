@@ -17,8 +17,8 @@ pub fn negate(head: u64, a: &[f64], out: &mut [f64]) -> Answer
     if refusal.number != 0 {
         return Answer::Refused(refusal);
     }
-    let n = gates::stored_of(words::word::header_of(head));
-    negation::negate_into(a, n, out);
+    let n = gates::stored_of(shape_words::word::header_of(head));
+    sums_negation::negate_into(a, n, out);
     Answer::Done(head)
 }
 

@@ -17,7 +17,7 @@ use Rattle.model.specs.declared.RunAnswer.the-variants as run-answer
 use Rattle.model.specs.Refusals.{isNone}
 use Rattle.model.specs.Check.{checkRefusal, checkBy, checkAnswer}
 use Rattle.model.specs.Run.{runRefusal, runBy, runAnswer}
-use Rattle.demands.specs.Never.{check-small, run-small}
+use Rattle.recipes_laws.specs.Never.{check-small, run-small}
 use Rattle.taylor.specs.Face.{wordOfRefusal, wordOfCheck, poolAfter, largestAfter, inputsAfter, wordOfRun}
 use Rattle.taylor.specs.Apart.{refusalFrom, refusal-from}
 

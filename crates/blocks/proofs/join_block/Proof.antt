@@ -1,5 +1,5 @@
 use mathlib.Core.Path.{_∙_}
-use Rattle.words.specs.Lengths.{sizes-of}
+use Rattle.shape_words.specs.Lengths.{sizes-of}
 use Rattle.blocks.specs.Merge.{joining-merged, join-merged}
 use borrow.Author.Needs.{needs}
 use Rattle.blocks.proofs.join_block.Statement.{statement}

@@ -9,7 +9,7 @@ use lib.ListN.{length, take, drop}
 use lib.Ieee.{Float}
 use Rattle.lists.specs.Four.{at}
 use Rattle.lists.specs.Table.{table}
-use Rattle.words.specs.Lengths.{Inside, inside-is}
+use Rattle.shape_words.specs.Lengths.{Inside, inside-is}
 use Rattle.blocks.specs.Rows.{along-fits, lineJoined}
 use Rattle.blocks.specs.ByRow.{row-joined, row-kept}
 use borrow.Author.Needs.{needs}
@@ -18,8 +18,8 @@ use Rattle.blocks.proofs.join_row.Tie as tie
 use Rattle.blocks.proofs.join_row.Reads as reads
 use Rattle.blocks.proofs.join_row.Lts as lts
 use Rattle.blocks.proofs.join_line.Reads as join-line-reads
-use Rattle.words.proofs.places.is_inside.Reads as is-inside-reads
-use Rattle.words.proofs.places.place_of.Reads as place-of-reads
+use Rattle.shape_words.proofs.places.is_inside.Reads as is-inside-reads
+use Rattle.shape_words.proofs.places.place_of.Reads as place-of-reads
 
 within : (c : tie.Then1) → Inside ((c .before .before .before .before) .args .t3) ((c .before .before .before .before) .args .i)
 within c = inside-is _ _ (sym (c .before .is-inside .ensures) ∙ c .if1 .taken)

@@ -11,7 +11,7 @@ use Rattle.model.specs.Header.{count}
 use Rattle.model.specs.Places.{place, index}
 use Rattle.model.specs.Poly.{block, readAt}
 use Rattle.model.specs.Add.{joinAt}
-use Rattle.words.specs.Lengths.{Lengths, RowAt}
+use Rattle.shape_words.specs.Lengths.{Lengths, RowAt}
 use Rattle.blocks.specs.Rows.{JoiningRows, alongRow}
 use Rattle.blocks.specs.ByRow.{ByRow, by-none, by-put, by-end, by-fits, by-len, cut-begins, cut-inside, cut-from, cut-row, join-begins, joined-row}
 use Rattle.blocks.proofs.join_rows.Statement.{statement}
@@ -19,7 +19,7 @@ use Rattle.blocks.proofs.join_rows.Tie as tie
 use Rattle.blocks.proofs.join_rows.Reads as reads
 use Rattle.blocks.proofs.join_rows.Lts as lts
 use Rattle.blocks.proofs.join_row.Reads as join-row-reads
-use Rattle.words.proofs.places.next_row.Reads as next-row-reads
+use Rattle.shape_words.proofs.places.next_row.Reads as next-row-reads
 
 abbrev Inv-loop : tie.InvT-loop
 Inv-loop minus a n to₀ r w p₀ i₀ to p i = (w ≡ at r 3) × ByRow r (λ k. joinAt minus (getD to₀ k nan) (block n a) (index r k)) to₀ to p i

@@ -3,7 +3,7 @@ use mathlib.Core.Path.{_≡_, sym, ap, _∙_}
 use Prim.Native.Nat.{ℕ, _≤_}
 use lib.ListN.{length, take}
 use Rattle.model.specs.Header.{count}
-use Rattle.words.specs.Lengths.{sizes-of}
+use Rattle.shape_words.specs.Lengths.{sizes-of}
 use Rattle.blocks.specs.Same.{Same, same-is, same-count, cut-front}
 use Rattle.blocks.specs.Merge.{cutting-merged, cut-merged}
 use borrow.Author.Needs.{needs}

@@ -12,7 +12,7 @@ use Rattle.blocks.proofs.load_two.Tie as tie
 use Rattle.blocks.proofs.load_two.Reads as reads
 use Rattle.blocks.proofs.load_two.Lts as lts
 use Rattle.blocks.proofs.load.Reads as load-reads
-use Rattle.words.proofs.places.count_of.Reads as count-of-reads
+use Rattle.shape_words.proofs.places.count_of.Reads as count-of-reads
 
 fits-a : (c : tie.After-count-of) → c .count-of .result ≤ length ((c .before .before .before .before) .args .work .now)
 fits-a c =

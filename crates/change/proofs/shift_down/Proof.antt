@@ -9,9 +9,9 @@ use Rattle.model.specs.Word.{headerOf, wordOf}
 use Rattle.model.specs.Gates.{announcedOne}
 use Rattle.model.specs.Poly.{held}
 use Rattle.model.specs.Shifts.{shiftDownPoly, shiftDownAnswer, shiftDownOut}
-use Rattle.words.specs.Rules.{none-regular}
+use Rattle.shape_words.specs.Rules.{none-regular}
 use Rattle.gates.specs.Gate.{InReady, in-ready, entry-refused, entry-done}
-use Rattle.row_terms.specs.Term.{part-written, padded-full}
+use Rattle.readings_row.specs.Term.{part-written, padded-full}
 use Rattle.change.specs.Shift.{shift-down-keeps}
 use borrow.Author.Needs.{needs}
 use Rattle.change.proofs.shift_down.Statement.{statement}

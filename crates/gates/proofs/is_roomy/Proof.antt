@@ -1,5 +1,5 @@
 use native.Mathlib.Omega.{arith}
-use Rattle.words.specs.Lengths.{count-most, lengths-of}
+use Rattle.shape_words.specs.Lengths.{count-most, lengths-of}
 use borrow.Author.Needs.{needs}
 use Rattle.gates.proofs.is_roomy.Statement.{statement}
 use Rattle.gates.proofs.is_roomy.Tie as tie

@@ -1,7 +1,7 @@
 use mathlib.Core.Path.{_≡_, sym, ap, _∙_}
 use Rattle.gates.specs.Gate.{ReadReady, read-ready, read-stop, read-on, one-announced}
 use Rattle.model.specs.Gates.{oneGate, announcedOne}
-use Rattle.words.specs.Rules.{none-regular}
+use Rattle.shape_words.specs.Rules.{none-regular}
 use borrow.Author.Needs.{needs}
 use Rattle.gates.proofs.one_gate.Statement.{statement}
 use Rattle.gates.proofs.one_gate.Tie as tie

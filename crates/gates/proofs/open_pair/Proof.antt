@@ -4,8 +4,8 @@ use borrow.Author.Tests.{not-true, not-false}
 use Rattle.lists.specs.Test.{and-left, and-right}
 use Rattle.model.specs.Word.{headerOf, goodWord}
 use Rattle.model.specs.Gates.{full, announcedPair}
-use Rattle.words.specs.Words.{good-word}
-use Rattle.words.specs.Rules.{Ruled}
+use Rattle.shape_words.specs.Words.{good-word}
+use Rattle.shape_words.specs.Rules.{Ruled}
 use Rattle.gates.specs.Gate.{pair-announced}
 use Rattle.gates.specs.Open.{bad-word, not-full, passed-on}
 use borrow.Author.Needs.{needs}

@@ -5,8 +5,8 @@ use Rattle.lists.specs.Test.{and-left, and-right}
 use Rattle.model.specs.Word.{headerOf, goodWord}
 use Rattle.model.specs.Gates.{full, announcedPair}
 use Rattle.model.specs.declared.Family.the-variants.{Product}
-use Rattle.words.specs.Words.{good-word}
-use Rattle.words.specs.Rules.{Ruled}
+use Rattle.shape_words.specs.Words.{good-word}
+use Rattle.shape_words.specs.Rules.{Ruled}
 use Rattle.gates.specs.Gate.{pair-announced}
 use Rattle.gates.specs.Open.{bad-word, not-full, passed-on}
 use borrow.Author.Needs.{needs}

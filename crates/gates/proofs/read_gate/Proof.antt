@@ -3,7 +3,7 @@ use mathlib.Core.Bool.{true}
 use borrow.Author.Tests.{not-true, not-false}
 use Rattle.model.specs.Word.{goodWord}
 use Rattle.model.specs.Gates.{full, readGate}
-use Rattle.words.specs.Words.{good-word}
+use Rattle.shape_words.specs.Words.{good-word}
 use borrow.Author.Needs.{needs}
 use Rattle.gates.proofs.read_gate.Statement.{statement}
 use Rattle.gates.proofs.read_gate.Tie as tie

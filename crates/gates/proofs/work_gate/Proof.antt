@@ -3,7 +3,7 @@ use borrow.Author.Tests.{not-true, not-false}
 use Rattle.gates.specs.Gate.{OneReady, one-ready, one-stop, one-on, one-announced}
 use Rattle.model.specs.Gates.{workGate, announcedOne}
 use Rattle.model.specs.Refusals.{roomy}
-use Rattle.words.specs.Rules.{none-regular}
+use Rattle.shape_words.specs.Rules.{none-regular}
 use borrow.Author.Needs.{needs}
 use Rattle.gates.proofs.work_gate.Statement.{statement}
 use Rattle.gates.proofs.work_gate.Tie as tie
@@ -15,7 +15,7 @@ use Rattle.model.proofs.Header.none.Reads as Header-none-reads
 use Rattle.model.proofs.Refusal.by.Reads as by-reads
 use Rattle.model.proofs.Refusal.none.Reads as Refusal-none-reads
 use Rattle.shape.proofs.announce.announced_of.Reads as announced-of-reads
-use Rattle.words.proofs.word.header_of.Reads as header-of-reads
+use Rattle.shape_words.proofs.word.header_of.Reads as header-of-reads
 
 ready : (c : tie.Else1) → OneReady ((c .before .before .before) .args .f) ((c .before .before .before) .args .word) ((c .before .before .before) .args .given) ((c .before .before .before) .args .lent)
 ready c = one-ready _ _ _ _ (ap (λ r. r .number) (sym (c .before .before .one-gate .ensures)) ∙ c .if1 .left)

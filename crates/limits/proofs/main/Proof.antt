@@ -9,8 +9,8 @@ use Rattle.limits.proofs.main.Lts as lts
 use Rattle.io.proofs.read_full.Reads as read-full-reads
 use Rattle.io.proofs.write_all.Reads as write-all-reads
 use Rattle.limits.proofs.answer_memory.Reads as answer-memory-reads
-use Rattle.text.proofs.line.sheet_memory.Reads as sheet-memory-reads
-use Rattle.plain.proofs.answer.Reads as answer-reads
+use Rattle.sheet_text.proofs.line.sheet_memory.Reads as sheet-memory-reads
+use Rattle.report.proofs.answer.Reads as answer-reads
 
 sheet-memory-requires : tie.Need-sheet-memory-requires
 sheet-memory-requires c κs = search needs

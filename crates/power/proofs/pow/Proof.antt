@@ -11,7 +11,7 @@ use Rattle.model.specs.Announced.{announced}
 use Rattle.model.specs.Poly.{held}
 use Rattle.model.specs.Gates.{announcedOne}
 use Rattle.model.specs.Power.{powerPoly, powerAnswer, powerOut, powerScratch}
-use Rattle.words.specs.Rules.{Ruled, none-regular}
+use Rattle.shape_words.specs.Rules.{Ruled, none-regular}
 use Rattle.gates.specs.Gate.{WorkReady, work-ready}
 use Rattle.blocks.specs.Entry.{refused-answer, refused-out, refused-scratch, passes, done-answer, done-out, done-scratch}
 use Rattle.power.specs.Entry.{entry-powers, entry-ruled, entry-head, entry-out}

@@ -4,9 +4,9 @@ use Prim.Native.Nat.{ℕ, _+_, _-_, _*_, _≤_, _<_}
 use lib.ListN.{length, length-append, length-drop, drop}
 use lib.Seq.{length-take-le}
 use mathlib.Core.List.{_++_}
-use Rattle.general.specs.Bounds.{row-small}
+use Rattle.product_general.specs.Bounds.{row-small}
 use Rattle.lists.specs.Four.{at}
-use Rattle.lessening.specs.Laid.{Laid}
+use Rattle.quotient_lessening.specs.Laid.{Laid}
 use Rattle.quotient_levels.specs.Room.{Room}
 use Rattle.quotient_levels.specs.Levels.{rowsLaid, level-row, level-top, level-in, level-gather, level-next, level-line, level-several, rows-none, rows-more, rows-all}
 use borrow.Fn.Kinds.{In}

@@ -7,10 +7,10 @@ use Rattle.lists.specs.Four.{at}
 use Rattle.lists.specs.Table.{length-table}
 use Rattle.model.specs.Places.{index}
 use Rattle.model.specs.General.{lo}
-use Rattle.general.specs.Index.{inRow}
-use Rattle.general.specs.Product.{stepAt, stride-at}
-use Rattle.general.specs.Pairs.{Paired, paired-none, paired-more, rows-step}
-use Rattle.general.specs.Bounds.{row-small}
+use Rattle.product_general.specs.Index.{inRow}
+use Rattle.product_general.specs.Product.{stepAt, stride-at}
+use Rattle.product_general.specs.Pairs.{Paired, paired-none, paired-more, rows-step}
+use Rattle.product_general.specs.Bounds.{row-small}
 use Rattle.quotient_levels.specs.Taken.{done-in, divisor-in, taking-rows, taken-end}
 use Rattle.quotient_levels.proofs.taken_by_rows.Statement.{statement}
 use Rattle.quotient_levels.proofs.taken_by_rows.Tie as tie

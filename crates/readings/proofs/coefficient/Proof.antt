@@ -8,7 +8,7 @@ use borrow.Author.Tests.{not-true, not-false}
 use lib.Ieee.{nan}
 use Rattle.model.specs.Places.{place, inside}
 use Rattle.model.specs.Readings.{coefficientAnswer}
-use Rattle.words.specs.Lengths.{inside-is, sizes-of}
+use Rattle.shape_words.specs.Lengths.{inside-is, sizes-of}
 use Rattle.gates.specs.Gate.{IndexReady, index-ready, read-refused, read-done}
 use Rattle.readings.specs.Read.{read-lengths, read-place, coefficient-stored, coefficient-past}
 use borrow.Author.Needs.{needs}

@@ -7,11 +7,11 @@ use Rattle.model.specs.Header.{stored}
 use Rattle.model.specs.Word.{headerOf, wordOf}
 use Rattle.model.specs.Gates.{announcedOne}
 use Rattle.model.specs.Poly.{held}
-use Rattle.words.specs.Rules.{none-regular}
+use Rattle.shape_words.specs.Rules.{none-regular}
 use Rattle.gates.specs.Gate.{InReady, in-ready, entry-refused, entry-done}
 use Rattle.model.specs.declared.Family.the-variants.{Term}
 use Rattle.model.specs.Readings.{coefficientsOfTerm, coefficientsOfTermAnswer, coefficientsOfTermOut}
-use Rattle.row_terms.specs.Term.{part-written}
+use Rattle.readings_row.specs.Term.{part-written}
 use Rattle.readings.specs.Kept.{coefficients-of-term-keeps}
 use borrow.Author.Needs.{needs}
 use Rattle.readings.proofs.coefficients_of_term.Statement.{statement}

@@ -1,4 +1,4 @@
-use Rattle.row_terms.specs.Term.{part-written, padded-full, order-cutting}
+use Rattle.readings_row.specs.Term.{part-written, padded-full, order-cutting}
 use Rattle.lists.specs.Table.{length-table}
 use mathlib.Core.Path.{_≡_, sym, ap, _∙_}
 use lib.ListN.{length}
@@ -8,7 +8,7 @@ use Rattle.model.specs.Header.{stored}
 use Rattle.model.specs.Word.{headerOf, wordOf}
 use Rattle.model.specs.Gates.{announcedOne}
 use Rattle.model.specs.Poly.{held}
-use Rattle.words.specs.Rules.{none-regular}
+use Rattle.shape_words.specs.Rules.{none-regular}
 use Rattle.gates.specs.Gate.{InReady, in-ready, entry-refused, entry-done}
 use Rattle.model.specs.declared.Family.the-variants.{Order}
 use Rattle.model.specs.Readings.{taylorPolynomial, taylorPolynomialAnswer, taylorPolynomialOut}

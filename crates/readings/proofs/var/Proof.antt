@@ -6,7 +6,7 @@ use native.Mathlib.Numerals.{add-one}
 use Rattle.lists.specs.Four.{four}
 use Rattle.model.specs.Gates.{varHeader}
 use Rattle.model.specs.Constructed.{variable}
-use Rattle.short_blocks.specs.Short.{var-count}
+use Rattle.readings_short.specs.Short.{var-count}
 use borrow.Author.Needs.{needs}
 use Rattle.readings.proofs.var.Statement.{statement}
 use Rattle.readings.proofs.var.Tie as tie

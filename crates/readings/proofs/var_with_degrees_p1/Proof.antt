@@ -4,7 +4,7 @@ use lib.ListN.{length}
 use Rattle.gates.specs.Gate.{entry-refused, entry-done, VarWithReady, var-with-ready}
 use Rattle.model.specs.Header.{varWith}
 use Rattle.model.specs.Constructed.{variable}
-use Rattle.short_blocks.specs.Short.{var-count}
+use Rattle.readings_short.specs.Short.{var-count}
 use borrow.Author.Needs.{needs}
 use Rattle.readings.proofs.var_with_degrees_p1.Statement.{statement}
 use Rattle.readings.proofs.var_with_degrees_p1.Tie as tie

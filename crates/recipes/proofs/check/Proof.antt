@@ -2,7 +2,7 @@ use mathlib.Core.Path.{_≡_, ap, _∙_}
 use native.Mathlib.Omega.{arith}
 use lib.ListN.{length, length-take}
 use Rattle.model.specs.Recipe.{total, largest}
-use Rattle.judging.specs.Answered.{Passed, passed, answer-no, answer-yes}
+use Rattle.recipes_check.specs.Answered.{Passed, passed, answer-no, answer-yes}
 use borrow.Author.Needs.{needs}
 use Rattle.recipes.proofs.check.Statement.{statement}
 use Rattle.recipes.proofs.check.Tie as tie

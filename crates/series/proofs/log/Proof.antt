@@ -10,7 +10,7 @@ use Rattle.model.specs.Word.{headerOf, wordOf}
 use Rattle.model.specs.Poly.{held}
 use Rattle.model.specs.Gates.{announcedOne}
 use Rattle.model.specs.Series.{logPoly, logAnswer, logOut, seriesScratch}
-use Rattle.words.specs.Rules.{Ruled, none-regular}
+use Rattle.shape_words.specs.Rules.{Ruled, none-regular}
 use Rattle.gates.specs.Gate.{WorkReady, work-ready}
 use Rattle.blocks.specs.Entry.{refused-answer, refused-out, refused-scratch, passes, done-answer, done-full, done-scratch}
 use Rattle.series.specs.Entry.{entry-whole, entry-long, log-head, log-coeffs}
@@ -23,10 +23,10 @@ use Rattle.blocks.proofs.clear.Reads as clear-reads
 use Rattle.gates.proofs.stored_of.Reads as stored-of-reads
 use Rattle.gates.proofs.work_gate.Reads as work-gate-reads
 use Rattle.model.proofs.Header.none.Reads as none-reads
-use Rattle.logarithm.proofs.log_into.Reads as log-into-reads
+use Rattle.series_log.proofs.log_into.Reads as log-into-reads
 use Rattle.shape.proofs.announce.announced_of.Reads as announced-of-reads
-use Rattle.words.proofs.word.header_of.Reads as header-of-reads
-use Rattle.words.proofs.word.pack.Reads as pack-reads
+use Rattle.shape_words.proofs.word.header_of.Reads as header-of-reads
+use Rattle.shape_words.proofs.word.pack.Reads as pack-reads
 
 ready : (c : tie.Else1) → WorkReady Series ((c .before .before .before .before .before .before) .args .word) (length ((c .before .before .before .before .before .before) .args .a .now)) (length ((c .before .before .before .before .before .before) .args .out .now)) (length ((c .before .before .before .before .before .before) .args .scratch .now))
 ready c = work-ready _ _ _ _ _ (passes (c .before .before .work-gate .ensures) (announcedOne Series ((c .before .before .before .before .before .before) .args .word)) (logPoly ((c .before .before .before .before .before .before) .args .head) (held ((c .before .before .before .before .before .before) .args .word) ((c .before .before .before .before .before .before) .args .a .now))) (c .if1 .left))

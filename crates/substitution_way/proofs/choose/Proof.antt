@@ -1,6 +1,6 @@
 use mathlib.Core.Path.{sym, _∙_}
 use native.Mathlib.Omega.{arith}
-use Rattle.words.specs.Lengths.{count-pos}
+use Rattle.shape_words.specs.Lengths.{count-pos}
 use Rattle.substitution_way.specs.Ways.{way-none, way-zero, way-line, way-horner}
 use borrow.Author.Needs.{needs}
 use Rattle.substitution_way.proofs.choose.Statement.{statement}

@@ -14,8 +14,8 @@ use Rattle.sums.proofs.negate.Reads as reads
 use Rattle.sums.proofs.negate.Lts as lts
 use Rattle.gates.proofs.one_gate.Reads as one-gate-reads
 use Rattle.gates.proofs.stored_of.Reads as stored-of-reads
-use Rattle.words.proofs.word.header_of.Reads as header-of-reads
-use Rattle.negation.proofs.negate_into.Reads as negate-into-reads
+use Rattle.shape_words.proofs.word.header_of.Reads as header-of-reads
+use Rattle.sums_negation.proofs.negate_into.Reads as negate-into-reads
 
 ready : (c : tie.Else1) → OneReady Same ((c .before .before .before .before .before) .args .head) (length ((c .before .before .before .before .before) .args .a .now)) (length ((c .before .before .before .before .before) .args .out .now))
 ready c =

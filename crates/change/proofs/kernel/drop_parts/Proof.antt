@@ -1,4 +1,4 @@
-use Rattle.linear_rows.specs.Raised.{Along, along-first, along-next, row-fits, rows-more}
+use Rattle.product_linear.specs.Raised.{Along, along-first, along-next, row-fits, rows-more}
 use Rattle.change.specs.Drop.{droppedFlat}
 use Rattle.change.specs.Drop.{part-is}
 use native.Mathlib.Omega.{arith}

@@ -1,5 +1,5 @@
 use Rattle.change.specs.Drop.{kept-start, kept-rest}
-use Rattle.linear_rows.specs.Raised.{rows-more}
+use Rattle.product_linear.specs.Raised.{rows-more}
 use Rattle.blocks.specs.Fill.{filled-all}
 use native.Mathlib.Omega.{arith}
 use mathlib.Core.Path.{_≡_, sym}

@@ -8,10 +8,10 @@ use Rattle.model.specs.Header.{stored}
 use Rattle.model.specs.Word.{headerOf, wordOf}
 use Rattle.model.specs.Gates.{announcedOne}
 use Rattle.model.specs.Poly.{held}
-use Rattle.words.specs.Rules.{none-regular}
+use Rattle.shape_words.specs.Rules.{none-regular}
 use Rattle.gates.specs.Gate.{InReady, in-ready, entry-refused, entry-done}
-use Rattle.row_terms.specs.Term.{part-written}
-use Rattle.row_factors.specs.Scale.{scaledPoly}
+use Rattle.readings_row.specs.Term.{part-written}
+use Rattle.change_factors.specs.Scale.{scaledPoly}
 use Rattle.change.specs.Taken.{scaled-keeps}
 use borrow.Author.Needs.{needs}
 use Rattle.change.proofs.kernel.scaled.Statement.{statement}

@@ -4,8 +4,8 @@ use mathlib.Core.Path.{refl, ap}
 use mathlib.Core.List.{List}
 use Prim.Native.Nat.{ℕ}
 use Rattle.lists.specs.Four.{at}
-use Rattle.words.specs.Rules.{ruled-at}
-use Rattle.words.specs.Lengths.{lengths-of}
+use Rattle.shape_words.specs.Rules.{ruled-at}
+use Rattle.shape_words.specs.Lengths.{lengths-of}
 use borrow.Author.Needs.{needs}
 use Rattle.change.proofs.kernel.shift_rows.Statement.{statement}
 use Rattle.change.proofs.kernel.shift_rows.Tie as tie

@@ -10,9 +10,9 @@ use Rattle.lists.specs.Table.{length-table}
 use Rattle.model.specs.Header.{stored}
 use Rattle.model.specs.Refusals.{zeros, padded}
 use Rattle.model.specs.Poly.{Poly, poly}
-use Rattle.words.specs.Rules.{ruled-at}
-use Rattle.words.specs.Lengths.{lengths-of, count-pos}
-use Rattle.row_terms.specs.Term.{padded-zero, padded-full}
+use Rattle.shape_words.specs.Rules.{ruled-at}
+use Rattle.shape_words.specs.Lengths.{lengths-of, count-pos}
+use Rattle.readings_row.specs.Term.{padded-zero, padded-full}
 use borrow.Author.Needs.{needs}
 use Rattle.change.proofs.kernel.take_rows.Statement.{statement}
 use Rattle.change.proofs.kernel.take_rows.Tie as tie

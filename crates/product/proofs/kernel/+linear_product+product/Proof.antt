@@ -20,7 +20,7 @@ use Rattle.product.proofs.kernel.choose.Reads as choose-reads
 use Rattle.product.proofs.kernel.keep.Reads as keep-reads
 use Rattle.product.proofs.kernel.plain.Reads as plain-reads
 use Rattle.product.proofs.kernel.raise_to.Reads as raise-to-reads
-use Rattle.words.proofs.places.count_of.Reads as count-of-reads
+use Rattle.shape_words.proofs.places.count_of.Reads as count-of-reads
 use Rattle.product.proofs.kernel.+linear_product+product.{statement}
 use Rattle.product.proofs.kernel.+linear_product+product.Tie.{close}
 

@@ -2,7 +2,7 @@ use native.Mathlib.Omega.{arith}
 use lib.ListN.{length}
 use borrow.Author.Tests.{eq-eqb, ne-eqb}
 use Rattle.model.specs.Poly.{block}
-use Rattle.words.specs.Lengths.{count-pos}
+use Rattle.shape_words.specs.Lengths.{count-pos}
 use Rattle.product.specs.Ways.{choose-is}
 use borrow.Author.Needs.{needs}
 use Rattle.product.proofs.kernel.choose.Statement.{statement}

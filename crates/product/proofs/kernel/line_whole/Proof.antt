@@ -10,7 +10,7 @@ use Rattle.model.specs.Header.{count}
 use Rattle.model.specs.Readings.{oneF}
 use Rattle.model.specs.Poly.{block}
 use Rattle.model.specs.Product.{constantBlock, productOf, linearProduct}
-use Rattle.words.specs.Lengths.{count-pos}
+use Rattle.shape_words.specs.Lengths.{count-pos}
 use Rattle.product.specs.Ways.{raises-lens}
 use Rattle.product.specs.Line.{whole-room, whole-line}
 use Rattle.product.specs.Lined.{neither, line-raised, line-scaled}

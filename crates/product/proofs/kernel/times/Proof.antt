@@ -2,7 +2,7 @@ use native.Mathlib.Omega.{arith}
 use mathlib.Core.Path.{sym, _∙_}
 use Rattle.lists.specs.Part.{part}
 use Rattle.model.specs.Poly.{block}
-use Rattle.words.specs.Lengths.{count-pos}
+use Rattle.shape_words.specs.Lengths.{count-pos}
 use Rattle.product.specs.Ways.{put-made}
 use Rattle.product.specs.Line.{room-full, room-lens, room-some, room-sits}
 use Rattle.product.specs.Times.{zero-is, zero-put, other-made}

@@ -4,7 +4,7 @@ use mathlib.Core.Path.{_≡_, refl, sym, ap, _∙_}
 use lib.Seq.{length-take-le}
 use Rattle.model.specs.Header.{stored}
 use Rattle.model.specs.Word.{headerOf}
-use Rattle.words.specs.Lengths.{lengths-of}
+use Rattle.shape_words.specs.Lengths.{lengths-of}
 use borrow.Author.Needs.{needs}
 use Rattle.product.proofs.own.multiply_short.Statement.{statement}
 use Rattle.product.proofs.own.multiply_short.Tie as tie

@@ -9,7 +9,7 @@ use Rattle.quotient.proofs.kernel.divide_into.Lts as lts
 use Rattle.blocks.proofs.load_two.Reads as load-two-reads
 use Rattle.quotient.proofs.kernel.divide_loaded.Reads as divide-loaded-reads
 use Rattle.shape.proofs.limits.cut_to.Reads as cut-to-reads
-use Rattle.words.proofs.places.count_of.Reads as count-of-reads
+use Rattle.shape_words.proofs.places.count_of.Reads as count-of-reads
 
 cut-to-requires : tie.Need-cut-to-requires
 cut-to-requires c κs = search needs

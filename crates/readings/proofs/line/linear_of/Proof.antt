@@ -7,7 +7,7 @@ use lib.ListN.{length}
 use Rattle.lists.specs.Four.{at}
 use Rattle.model.specs.Poly.{block}
 use Rattle.model.specs.Linear.{linear, linearFrom, linearIn, lineOf}
-use Rattle.words.specs.Lengths.{count-pos}
+use Rattle.shape_words.specs.Lengths.{count-pos}
 use Rattle.readings.specs.Line.{from-found, from-next, from-end, fits-is, fits-low}
 use Rattle.readings.proofs.line.linear_of.Statement.{statement}
 use Rattle.readings.proofs.line.linear_of.Tie as tie

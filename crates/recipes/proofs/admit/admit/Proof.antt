@@ -4,7 +4,7 @@ use Prim.Native.Nat.{ℕ, _+_, _*_, _≤_}
 use lib.ListN.{length, take, drop, length-take, length-drop, length-append}
 use lib.Seq.{length-take-le}
 use Rattle.model.specs.Recipe.{announcedSteps, total, largest}
-use Rattle.judging.specs.Answered.{Passed, passed}
+use Rattle.recipes_check.specs.Answered.{Passed, passed}
 use borrow.Author.Tests.{not-true, not-false}
 use Rattle.recipes.specs.Admission.{admit-check, admit-2, admit-5, admit-6, admit-none, largest-most}
 use borrow.Author.Needs.{needs}
@@ -14,9 +14,9 @@ use Rattle.recipes.proofs.admit.admit.Reads as reads
 use Rattle.recipes.proofs.admit.admit.Lts as lts
 use Rattle.model.proofs.Refusal.by.Reads as by-reads
 use Rattle.model.proofs.Refusal.none.Reads as none-reads
-use Rattle.judging.proofs.judge.Reads as judge-reads
-use Rattle.judging.proofs.largest_of.Reads as largest-of-reads
-use Rattle.judging.proofs.total_of.Reads as total-of-reads
+use Rattle.recipes_check.proofs.judge.Reads as judge-reads
+use Rattle.recipes_check.proofs.largest_of.Reads as largest-of-reads
+use Rattle.recipes_check.proofs.total_of.Reads as total-of-reads
 
 pass : (c : tie.Else1) → Passed (c .before .before .before .before .before .before .before .before .before .args .headers .now) (c .before .before .before .before .before .before .before .before .before .args .steps .now) (c .before .before .before .before .judge .last .1 .1 .0)
 pass c = passed (c .before .before .before .before .judge .ensures) (c .if1 .left)

@@ -4,7 +4,7 @@ use Prim.Native.Nat.{ℕ, _+_, _*_, _≤_}
 use lib.ListN.{length, take, drop, length-take, length-drop, length-append}
 use lib.Seq.{length-take-le}
 use Rattle.model.specs.Recipe.{announcedSteps, total, largest}
-use Rattle.judging.specs.Answered.{Passed, passed}
+use Rattle.recipes_check.specs.Answered.{Passed, passed}
 use mathlib.Core.List.{_++_}
 use Rattle.model.specs.Refusals.{zeros}
 use Rattle.recipes.specs.Running.{Admitted, running-none}
@@ -15,8 +15,8 @@ use Rattle.recipes.proofs.admit.run_admitted.Tie as tie
 use Rattle.recipes.proofs.admit.run_admitted.Reads as reads
 use Rattle.recipes.proofs.admit.run_admitted.Lts as lts
 use Rattle.blocks.proofs.clear.Reads as clear-reads
-use Rattle.judging.proofs.largest_of.Reads as largest-of-reads
-use Rattle.judging.proofs.note_inputs.Reads as note-inputs-reads
+use Rattle.recipes_check.proofs.largest_of.Reads as largest-of-reads
+use Rattle.recipes_check.proofs.note_inputs.Reads as note-inputs-reads
 use Rattle.recipes.proofs.running.note_starts.Reads as note-starts-reads
 use Rattle.recipes.proofs.running.run_steps.Reads as run-steps-reads
 

@@ -11,9 +11,9 @@ use Rattle.recipes.proofs.running.run_steps.Tie as tie
 use Rattle.recipes.proofs.running.run_steps.Reads as reads
 use Rattle.recipes.proofs.running.run_steps.Lts as lts
 use Rattle.gates.proofs.stored_of.Reads as stored-of-reads
-use Rattle.kinds.proofs.step.step_of.Reads as step-of-reads
+use Rattle.recipes_kinds.proofs.step.step_of.Reads as step-of-reads
 use Rattle.recipes.proofs.running.step_word.Reads as step-word-reads
-use Rattle.words.proofs.word.header_of.Reads as header-of-reads
+use Rattle.shape_words.proofs.word.header_of.Reads as header-of-reads
 
 abbrev Inv-loop : tie.InvT-loop
 Inv-loop headers coefficients steps known₀ starts₀ pool₀ scratch₀ inputs at₀ i₀ known starts pool scratch at i = Running headers coefficients steps known₀ pool₀ i at known starts pool × (length starts ≡ length starts₀) × (length scratch ≡ length scratch₀)

@@ -5,8 +5,8 @@ use lib.ListN.{length, take}
 use Rattle.model.specs.Word.{wordOf}
 use Rattle.model.specs.Refusals.{padded}
 use Rattle.model.specs.Poly.{Poly}
-use Rattle.words.specs.Rules.{none-regular}
-use Rattle.operands.specs.Lent.{kept-as}
+use Rattle.shape_words.specs.Rules.{none-regular}
+use Rattle.recipes_operands.specs.Lent.{kept-as}
 use Rattle.recipes.specs.Standing.{lyingAt, Named, constant-value}
 use borrow.Author.Needs.{needs}
 use Rattle.recipes.proofs.running.step_word.Statement.{statement}
@@ -14,9 +14,9 @@ use Rattle.recipes.proofs.running.step_word.Tie as tie
 use Rattle.recipes.proofs.running.step_word.Reads as reads
 use Rattle.recipes.proofs.running.step_word.Lts as lts
 use Rattle.model.proofs.Header.none.Reads as none-reads
-use Rattle.steps.proofs.perform.constant_to.Reads as constant-to-reads
-use Rattle.steps.proofs.perform.perform.Reads as perform-reads
-use Rattle.words.proofs.word.pack.Reads as pack-reads
+use Rattle.recipes_steps.proofs.perform.constant_to.Reads as constant-to-reads
+use Rattle.recipes_steps.proofs.perform.perform.Reads as perform-reads
+use Rattle.shape_words.proofs.word.pack.Reads as pack-reads
 
 named : (c : tie.Else1) → Named (c .before .before .before .before .before .before .before .args .s) (c .before .before .before .before .before .before .before .args .inputs) (c .before .before .before .before .before .before .before .args .known .now) (c .before .before .before .before .before .before .before .args .starts .now) (length (c .before .before .before .before .before .before .before .args .coefficients .now)) (c .before .before .before .before .before .before .before .args .at) (c .before .before .before .before .before .before .before .args .room)
 named c = c .before .before .before .before .before .before .before .pre .0 .named (c .if1 .left)

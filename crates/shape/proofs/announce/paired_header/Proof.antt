@@ -1,11 +1,11 @@
 use Rattle.model.specs.Announced.{single, paired, announced}
 use borrow.Author.Tests.{eq-eqb, ne-eqb, lt-ltb, le-ltb}
 use native.Mathlib.Omega.{arith}
-use Rattle.words.specs.Lengths.{Small}
+use Rattle.shape_words.specs.Lengths.{Small}
 use Rattle.shape.specs.Limits.{min-limit-pos}
 use Rattle.lists.specs.Four.{at}
 use Prim.Native.Nat.{_≤_}
-use Rattle.words.specs.Rules.{ruled-at}
+use Rattle.shape_words.specs.Rules.{ruled-at}
 use lib.Dec.{lit<}
 use borrow.Author.Needs.{needs}
 use Rattle.shape.proofs.announce.paired_header.Statement.{statement}

@@ -1,6 +1,6 @@
 use Rattle.model.specs.Limits.{sumShape, cutTo}
 use Rattle.model.specs.Announced.{paired, announced}
-use Rattle.words.specs.Lengths.{lengths-of}
+use Rattle.shape_words.specs.Lengths.{lengths-of}
 use Rattle.shape.specs.Cut.{cut-lengths}
 use Rattle.shape.specs.Limits.{min-limit-pos}
 use borrow.Author.Needs.{needs}

@@ -2,9 +2,9 @@ use native.Mathlib.Omega.{arith}
 use mathlib.Core.List.{_++_, append-assoc}
 use Rattle.model.specs.Hex.{hexLine}
 use Rattle.model.specs.Printed.{doneWord, newline, decimal, doneText}
-use Rattle.text.specs.Put.{Put, put-len, put-then}
-use Rattle.text.specs.Texts.{length-line}
-use Rattle.text.specs.Decimal.{decimal-most}
+use Rattle.sheet_text.specs.Put.{Put, put-len, put-then}
+use Rattle.sheet_text.specs.Texts.{length-line}
+use Rattle.sheet_text.specs.Decimal.{decimal-most}
 use borrow.Author.Needs.{needs}
 use Rattle.sheet.proofs.print.put_done.Statement.{statement}
 use Rattle.sheet.proofs.print.put_done.Tie as tie

@@ -1,8 +1,8 @@
 use native.Mathlib.Omega.{arith}
 use mathlib.Core.List.{append-assoc}
 use Rattle.model.specs.Printed.{refusedText}
-use Rattle.text.specs.Put.{put-len, put-then}
-use Rattle.text.specs.Decimal.{decimal-most}
+use Rattle.sheet_text.specs.Put.{put-len, put-then}
+use Rattle.sheet_text.specs.Decimal.{decimal-most}
 use borrow.Author.Needs.{needs}
 use Rattle.sheet.proofs.print.put_refusal.Statement.{statement}
 use Rattle.sheet.proofs.print.put_refusal.Tie as tie

@@ -7,9 +7,9 @@ use lib.Seq.{length-take-le}
 use Rattle.lists.specs.Table.{length-table}
 use Rattle.lists.specs.Part.{Kept}
 use Rattle.model.specs.Header.{count}
-use Rattle.words.specs.Lengths.{lengths-pos}
+use Rattle.shape_words.specs.Lengths.{lengths-pos}
 use Rattle.blocks.specs.Two.{cutPlaces}
-use Rattle.horner_turn.specs.Turn.{front-kept}
+use Rattle.substitution_turn.specs.Turn.{front-kept}
 use Rattle.substitution.specs.Sizes.{row-picks, row-fits, put-lens, put-loads, put-small, puts-adding}
 use Rattle.substitution.specs.Horner.{start-one, start-front, start-room, start-stands}
 use borrow.Author.Needs.{needs}

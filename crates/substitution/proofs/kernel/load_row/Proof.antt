@@ -1,6 +1,6 @@
 use Rattle.lists.specs.Table.{length-table}
 use Rattle.model.specs.Header.{count}
-use Rattle.horner_turn.specs.Turn.{row-kept}
+use Rattle.substitution_turn.specs.Turn.{row-kept}
 use borrow.Author.Needs.{needs}
 use Rattle.substitution.proofs.kernel.load_row.Statement.{statement}
 use Rattle.substitution.proofs.kernel.load_row.Tie as tie

@@ -11,7 +11,7 @@ use Rattle.gates.specs.Open.{told-by, opened-ready, opened-count, opened-fits}
 use Rattle.model.specs.declared.Family.the-variants.{Sum}
 use Rattle.model.specs.Add.{combined, sumAnswer, sumOut, sumScratch}
 use Rattle.blocks.specs.Entry.{refused-answer, refused-out, refused-scratch, done-answer, done-full, done-scratch}
-use Rattle.cut_sums.specs.Summing.{summing, sum-head, sum-coeffs}
+use Rattle.sums_cut.specs.Summing.{summing, sum-head, sum-coeffs}
 use borrow.Author.Needs.{needs}
 use Rattle.sums.proofs.kernel.sum.Statement.{statement}
 use Rattle.sums.proofs.kernel.sum.Tie as tie

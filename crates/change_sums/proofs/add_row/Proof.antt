@@ -1,0 +1,70 @@
+use Rattle.lists.specs.Table.{Filled, filled-none, filled-more}
+use Rattle.blocks.specs.Fill.{filled-all, filled-here}
+use native.Mathlib.Omega.{arith}
+use mathlib.Core.Path.{_≡_, refl, ap}
+use Prim.Native.Nat.{_≤_, _-_}
+use lib.ListN.{length, getD}
+use lib.Ieee.{Float, nan, add, binary64}
+use Rattle.change_sums.proofs.add_row.Statement.{statement}
+use Rattle.change_sums.proofs.add_row.Tie as tie
+
+abbrev Inv-loop : tie.InvT-loop
+Inv-loop row to₀ n k₀ to k = (k ≤ n) × ((n ≡ length to₀) × Filled k (λ k. add binary64 (getD to₀ k nan) (getD row k nan)) to₀ to)
+
+abbrev μ-loop : tie.MeasureT-loop
+μ-loop row to₀ n k₀ to k = n - k
+
+loop-holds : tie.Need-loop-holds Inv-loop μ-loop
+loop-holds c = (omega arith, (refl, filled-none))
+
+mul-to : tie.Need-mul-to Inv-loop μ-loop
+mul-to c = omega arith
+
+slice-read-to : tie.Need-slice-read-to Inv-loop μ-loop
+slice-read-to c = omega arith
+
+mul-to-2 : tie.Need-mul-to-2 Inv-loop μ-loop
+mul-to-2 c = omega arith
+
+shared-slice-read-to : tie.Need-shared-slice-read-to Inv-loop μ-loop
+shared-slice-read-to c = omega arith
+
+mul-to-3 : tie.Need-mul-to-3 Inv-loop μ-loop
+mul-to-3 c = omega arith
+
+slice-write-to : tie.Need-slice-write-to Inv-loop μ-loop
+slice-write-to c = omega arith
+
+add-k : tie.Need-add-k Inv-loop μ-loop
+add-k c = omega arith
+
+loop-less : tie.Need-loop-less Inv-loop μ-loop
+loop-less c = omega arith
+
+loop-again : tie.Need-loop-again Inv-loop μ-loop
+loop-again c = (omega arith, (c .before .before .before .loop .inv .1 .0, filled-more (c .before .before .before .loop .inv .1 .1) (ap (λ (x : Float). add binary64 x (getD (c .before .before .before .before .args .row .now) (c .before .before .before .loop .k) nan)) (filled-here nan (c .before .before .before .loop .inv .1 .1) (omega arith))) (omega arith)))
+
+same-length : tie.Need-same-length Inv-loop μ-loop
+same-length c = c .before .loop .inv .1 .1 .len
+
+returns : tie.Need-returns Inv-loop μ-loop
+returns c = filled-all (c .before .loop .inv .1 .1) (omega arith) (omega arith)
+
+pub add-row-spec : {M : Type 1} → statement M
+add-row-spec =
+    tie.close
+    (tie.spec
+    Inv-loop
+    μ-loop
+    loop-holds
+    mul-to
+    slice-read-to
+    mul-to-2
+    shared-slice-read-to
+    mul-to-3
+    slice-write-to
+    add-k
+    loop-less
+    loop-again
+    same-length
+    returns)

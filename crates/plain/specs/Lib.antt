@@ -1,4 +1,0 @@
-pub mod Tells
-pub mod Front
-pub mod Traces
-pub mod Long

@@ -1,0 +1,53 @@
+use native.Mathlib.Omega.{arith}
+use borrow.Author.Tests.{not-true, not-false}
+use Rattle.model.specs.Check.{rightSizes}
+use Rattle.recipes_check.specs.Judged.{Sizes, sizes, judged-sizes, judged-inputs, ready, judged-steps}
+use borrow.Author.Needs.{needs}
+use Rattle.recipes_check.proofs.judge.Statement.{statement}
+use Rattle.recipes_check.proofs.judge.Tie as tie
+
+size : (c : tie.Else1) → Sizes (c .before .before .before .before .args .headers .now) (c .before .before .before .before .args .steps .now)
+unfolding rightSizes
+size c = sizes _ _ (not-false _ (c .if1 .left))
+
+add-if1 : tie.Need-add-if1
+add-if1 c = search needs
+
+at-requires : tie.Need-at-requires
+at-requires c κs = search needs
+
+returns : tie.Need-returns
+unfolding rightSizes
+returns c = rw (c .at .ensures) (judged-sizes _ _ _ (not-true _ (c .before .if1 .taken)))
+
+inputs-refusal-requires : tie.Need-inputs-refusal-requires
+inputs-refusal-requires c κs = omega (arith, size c .few)
+
+returns-2 : tie.Need-returns-2
+returns-2 c = judged-inputs _ _ (size (c .before .before .before)) _ (c .before .before .inputs-refusal .ensures) (c .if2 .taken)
+
+note-inputs-requires : tie.Need-note-inputs-requires
+note-inputs-requires c κs = omega (arith, size (c .before .before .before .before) .few, c .before .before .before .before .before .before .before .before .pre)
+
+steps-refusal-requires : tie.Need-steps-refusal-requires
+steps-refusal-requires c κs = ready _ _ (size (c .before .before .before .before .before .before .before .before)) (c .before .before .before .before .before .before .before .inputs-refusal .ensures) (c .before .before .before .before .before .if2 .left) ((c .before .before .before .before .before .before .before .before .before .before .before .before) .args .known .now) (c .before .before .before .note-inputs .last .1 .0) (c .before .before .before .before .before .before .before .before .before .before .before .before .pre) (c .before .before .before .note-inputs .ensures)
+
+same-length : tie.Need-same-length
+same-length c = search needs
+
+returns-3 : tie.Need-returns-3
+returns-3 c = judged-steps _ _ (size (c .before .before .before .before .before .before .before .before .before .before .before)) (c .before .before .before .before .before .before .before .before .before .before .inputs-refusal .ensures) (c .before .before .before .before .before .before .before .before .if2 .left) (c .before .before .before .before .before .before .before .before .before .before .before .before .before .before .before .pre) (c .before .before .before .before .before .before .note-inputs .ensures) (c .before .before .steps-refusal .ensures)
+
+pub judge-spec : {M : Type 1} → statement M
+judge-spec =
+    tie.close
+    (tie.spec
+    add-if1
+    at-requires
+    returns
+    inputs-refusal-requires
+    returns-2
+    note-inputs-requires
+    steps-refusal-requires
+    same-length
+    returns-3)

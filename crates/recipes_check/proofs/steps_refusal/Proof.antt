@@ -1,0 +1,108 @@
+use Rattle.recipes_check.specs.Judging.{Judging, judging-none, judging-room, judging-taken, judging-more, judging-stop, judging-end}
+use borrow.Author.Needs.{needs}
+use Prim.Native.Nat.{_-_}
+use mathlib.Core.List.{map}
+use native.Mathlib.Omega.{arith}
+use lib.ListN.{length, take}
+use Rattle.model.specs.Word.{headerOf}
+use Rattle.recipes_kinds.specs.Known.{step-regular}
+use Rattle.recipes_check.specs.Judging.{Judging, judging-none, judging-more, judging-stop, judging-end}
+use Rattle.recipes_check.proofs.steps_refusal.Statement.{statement}
+use Rattle.recipes_check.proofs.steps_refusal.Tie as tie
+
+abbrev Inv-loop : tie.InvT-loop
+Inv-loop steps inputs known₀ i₀ known i = Judging steps (map headerOf (take inputs known₀)) inputs known₀ known i
+
+abbrev μ-loop : tie.MeasureT-loop
+μ-loop steps inputs known₀ i₀ known i = length steps - i
+
+loop-holds : tie.Need-loop-holds Inv-loop μ-loop
+loop-holds c = judging-none _ _ _ (c .before .before .pre .regular)
+
+mul-word : tie.Need-mul-word Inv-loop μ-loop
+mul-word c = search needs
+
+shared-slice-read-word : tie.Need-shared-slice-read-word Inv-loop μ-loop
+shared-slice-read-word c = search needs
+
+add-at : tie.Need-add-at Inv-loop μ-loop
+add-at c = search needs
+
+slice-reshare-prefix-gate : tie.Need-slice-reshare-prefix-gate Inv-loop μ-loop
+slice-reshare-prefix-gate c = omega (arith, judging-room (c .before .before .loop .inv) (c .before .before .before .before .before .pre) (c .before .loop-test .taken))
+
+slice-aggregate-gate : tie.Need-slice-aggregate-gate Inv-loop μ-loop
+slice-aggregate-gate c = judging-taken (c .before .before .before .loop .inv) (c .before .before .before .before .before .before .pre) (c .before .before .loop-test .taken)
+
+gate-requires : tie.Need-gate-requires Inv-loop μ-loop
+gate-requires c κs = (c .before .before .before .loop .inv .regular, omega (arith, judging-taken (c .before .before .before .loop .inv) (c .before .before .before .before .before .before .pre) (c .before .before .loop-test .taken), c .before .before .before .before .before .before .pre .fit))
+
+same-length : tie.Need-same-length Inv-loop μ-loop
+same-length c = c .before .before .before .before .before .before .loop .inv .len
+
+returns : tie.Need-returns Inv-loop μ-loop
+returns c = judging-stop (c .before .before .before .before .before .before .loop .inv) (c .before .before .before .before .before .loop-test .taken) (c .before .before .gate .ensures) (c .if1 .taken)
+
+slice-reshare-prefix-announce : tie.Need-slice-reshare-prefix-announce Inv-loop μ-loop
+slice-reshare-prefix-announce c = omega (arith, judging-room (c .before .before .before .before .before .before .loop .inv) (c .before .before .before .before .before .before .before .before .before .pre) (c .before .before .before .before .before .loop-test .taken))
+
+slice-aggregate-announce : tie.Need-slice-aggregate-announce Inv-loop μ-loop
+slice-aggregate-announce c = judging-taken (c .before .before .before .before .before .before .before .loop .inv) (c .before .before .before .before .before .before .before .before .before .before .pre) (c .before .before .before .before .before .before .loop-test .taken)
+
+announce-requires : tie.Need-announce-requires Inv-loop μ-loop
+announce-requires c κs = c .before .before .before .before .before .before .before .loop .inv .regular
+
+pack-requires : tie.Need-pack-requires Inv-loop μ-loop
+pack-requires c κs = rw (c .announce .ensures) (step-regular _ (c .before .before .before .before .before .before .before .before .loop .inv .regular) .rules)
+
+mul-known : tie.Need-mul-known Inv-loop μ-loop
+mul-known c = search needs
+
+slice-write-known : tie.Need-slice-write-known Inv-loop μ-loop
+slice-write-known c = judging-room (c .before .before .before .before .before .before .before .before .before .loop .inv) (c .before .before .before .before .before .before .before .before .before .before .before .before .pre) (c .before .before .before .before .before .before .before .before .loop-test .taken)
+
+add-i : tie.Need-add-i Inv-loop μ-loop
+add-i c = search needs
+
+loop-less : tie.Need-loop-less Inv-loop μ-loop
+loop-less c = search needs
+
+loop-again : tie.Need-loop-again Inv-loop μ-loop
+loop-again c = judging-more (c .before .before .before .before .before .before .before .before .before .loop .inv) (c .before .before .before .before .before .before .before .before .loop-test .taken) (judging-room (c .before .before .before .before .before .before .before .before .before .loop .inv) (c .before .before .before .before .before .before .before .before .before .before .before .before .pre) (c .before .before .before .before .before .before .before .before .loop-test .taken)) (c .before .before .before .before .before .gate .ensures) (c .before .before .before .if1 .left) (c .before .announce .ensures) (c .pack .ensures)
+
+none-requires : tie.Need-none-requires Inv-loop μ-loop
+none-requires c κs = search needs
+
+same-length-2 : tie.Need-same-length-2 Inv-loop μ-loop
+same-length-2 c = c .before .before .loop .inv .len
+
+returns-2 : tie.Need-returns-2 Inv-loop μ-loop
+returns-2 c = rw (c .none .ensures) (judging-end (c .before .before .loop .inv) (c .before .loop-test .left))
+
+pub steps-refusal-spec : {M : Type 1} → statement M
+steps-refusal-spec =
+    tie.close
+    (tie.spec
+    Inv-loop
+    μ-loop
+    loop-holds
+    mul-word
+    shared-slice-read-word
+    add-at
+    slice-reshare-prefix-gate
+    slice-aggregate-gate
+    gate-requires
+    same-length
+    returns
+    slice-reshare-prefix-announce
+    slice-aggregate-announce
+    announce-requires
+    pack-requires
+    mul-known
+    slice-write-known
+    add-i
+    loop-less
+    loop-again
+    none-requires
+    same-length-2
+    returns-2)

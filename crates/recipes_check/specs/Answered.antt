@@ -1,0 +1,61 @@
+-- The check's answer, from its refusal and the words that the places announce.
+use Prim.Native.Nat.{ℕ, zero, suc, _+_, _-_, _≤_}
+use mathlib.Core.List.{List, [], _∷_, map}
+use mathlib.Core.Path.{_≡_, refl, sym, ap, _∙_}
+use native.Mathlib.Omega.{arith}
+use native.Mathlib.Nat.{zero-add, suc-add}
+use lib.ListN.{length, take, drop}
+use lib.Seq.{take-nil}
+use borrow.Author.Tests.{eq-eqb, ne-eqb}
+use Rattle.lists.specs.All.{all-drop}
+use Rattle.model.specs.declared.Refusal.{Refusal}
+use Rattle.model.specs.declared.CheckAnswer.the-variants.{Accepted, Refused}
+use Rattle.model.specs.Header.{noHeader}
+use Rattle.model.specs.Word.{headerOf}
+use Rattle.model.specs.Recipe.{inputHeads, announcedSteps, total, largest}
+use Rattle.model.specs.Check.{checkRefusal, checkBy, checkAnswer}
+use Rattle.shape_words.specs.Rules.{Regular, none-regular}
+use Rattle.recipes_kinds.specs.Known.{Known}
+use Rattle.recipes_check.specs.Inputs.{inputs-known}
+use Rattle.recipes_check.specs.Judged.{Judged, accepts, places-known}
+
+pub drop-map : {A B : Type 0} (f : A → B) (n : ℕ) (l : List A) → drop n (map f l) ≡ map f (drop n l)
+drop-map f zero l = refl
+drop-map f (suc n) [] = refl
+drop-map f (suc n) (x ∷ l) = drop-map f n l
+
+drop-take : {A : Type 0} (f k : ℕ) (l : List A) → drop f (take (f + k) l) ≡ take k (drop f l)
+drop-take zero k l = rw (zero-add k) refl
+drop-take (suc f) k [] = rw (take-nil (suc f + k), take-nil k) refl
+drop-take (suc f) k (x ∷ l) = rw (suc-add f k) (drop-take f k l)
+
+-- new: the words noted
+pub record Passed (hs ss new : List ℕ) : Type 0 where
+  pub fit : length hs + length ss ≤ 64
+  pub part : map headerOf (take (length hs + length ss - length hs) (drop (length hs) new)) ≡ announcedSteps hs ss
+  pub steps : Known (announcedSteps hs ss)
+  pub inputs : Known (inputHeads hs)
+
+pub passed : {hs ss old new : List ℕ} {r : Refusal} → Judged hs ss old new r → r .number ≡ 0 → Passed hs ss new
+unfolding announcedSteps
+passed {hs} {ss} {old} {new} {r} j z =
+    let k = length hs in
+    let a = accepts hs ss (ap (λ (x : Refusal). x .number) (sym (j .answer)) ∙ z) in
+    let e : k + length ss - k ≡ length ss = omega arith in
+    record {
+      fit = a .sizes .fit;
+      part =
+          ap (λ (n : ℕ). map headerOf (take n (drop k new))) e
+          ∙ (ap (map headerOf) (sym (drop-take k (length ss) new)) ∙ (sym (drop-map headerOf k (take (k + length ss) new)) ∙ ap (drop k) (j .noted z)));
+      steps = all-drop Regular noHeader none-regular k (places-known hs ss (a .inputs));
+      inputs = inputs-known hs (a .inputs);
+    }
+
+pub answer-no : (hs ss : List ℕ) {r : Refusal} → r ≡ checkRefusal hs ss → (r .number ≡ 0 → ⊥) → Refused r ≡ checkAnswer hs ss
+unfolding checkAnswer checkBy
+answer-no hs ss {r} e n = rw (← e) (simp (ne-eqb (r .number) 0 n))
+
+pub answer-yes : (hs ss : List ℕ) {r : Refusal} {x y z : ℕ} → r ≡ checkRefusal hs ss → r .number ≡ 0 → x ≡ total (announcedSteps hs ss)
+    → y ≡ largest (announcedSteps hs ss) → z ≡ total (inputHeads hs) → Accepted x y z ≡ checkAnswer hs ss
+unfolding checkAnswer checkBy
+answer-yes hs ss {r} e n p q u = rw (← e) (simp (eq-eqb (r .number) 0 n, p, q, u))

@@ -1,0 +1,120 @@
+-- The check's refusal, and the words that all places announce where there is none.
+use Prim.Native.Nat.{ℕ, _+_, _≤_}
+use mathlib.Core.Bool.{true, false, _&&_}
+use mathlib.Core.List.{List, [], _∷_, map}
+use mathlib.Core.Path.{_≡_, refl, sym, ap, _∙_}
+use native.Mathlib.Omega.{arith}
+use lib.Dec.{leb}
+use lib.ListN.{length, take}
+use borrow.Author.Tests.{leb-true}
+use Rattle.lists.specs.All.{all-snoc}
+use Rattle.lists.specs.Chain.{chain}
+use Rattle.lists.specs.Grow.{over, length-over, take-over}
+use Rattle.lists.specs.Test.{and-left, and-right}
+use Rattle.model.specs.declared.Header.{Header}
+use Rattle.model.specs.declared.Refusal.{Refusal}
+use Rattle.model.specs.Header.{noHeader}
+use Rattle.model.specs.Word.{headerOf}
+use Rattle.model.specs.Refusals.{refusedAt}
+use Rattle.model.specs.Recipe.{announcedStep, inputHeads, announcedPlaces}
+use Rattle.model.specs.Check.{orElse, rightSizes, inputsRefusal, stepsRefusal, checkRefusal}
+use Rattle.shape_words.specs.Rules.{Regular, none-regular}
+use Rattle.recipes_kinds.specs.Known.{Known, step-regular}
+use Rattle.recipes_check.specs.Inputs.{inputs-known}
+use Rattle.recipes_check.specs.Asks.{or-first, or-next, or-none, ask-none}
+use Rattle.recipes_check.specs.Judging.{heads, Ready, StepsJudged}
+
+pub record Judged (hs ss old new : List ℕ) (r : Refusal) : Type 0 where
+  pub answer : r ≡ checkRefusal hs ss
+  pub len : length new ≡ length old
+  pub noted : r .number ≡ 0 → heads (length hs + length ss) new ≡ announcedPlaces hs ss
+
+-- what the test of sizes says
+pub record Sizes (hs ss : List ℕ) : Type 0 where
+  pub test : rightSizes (length hs) (length ss) ≡ true
+  pub few : length hs ≤ 16
+  pub some : 1 ≤ length ss
+  pub fit : length hs + length ss ≤ 64
+
+module _ (hs ss : List ℕ) where
+  abbrev k : ℕ
+  k = length hs
+
+  abbrev n : ℕ
+  n = length ss
+
+  pub sizes : rightSizes k n ≡ true → Sizes hs ss
+  unfolding rightSizes
+  sizes e =
+      let g = and-left (leb k 16 && leb 1 n) (leb (k + n) 64) e in
+      record {
+        test = e;
+        few = leb-true _ _ (and-left (leb k 16) (leb 1 n) g);
+        some = leb-true _ _ (and-right (leb k 16) (leb 1 n) g);
+        fit = leb-true _ _ (and-right (leb k 16 && leb 1 n) (leb (k + n) 64) e);
+      }
+
+  pub judged-sizes : (old : List ℕ) → rightSizes k n ≡ false → Judged hs ss old old (refusedAt 7 64)
+  unfolding checkRefusal
+  judged-sizes old e = record { answer = simp e; len = refl; noted = λ z. absurd (omega (arith, z)) }
+
+  module _ (s : Sizes hs ss) where
+    after-sizes : checkRefusal hs ss ≡ orElse (inputsRefusal 0 hs) (stepsRefusal (inputHeads hs) ss)
+    unfolding checkRefusal
+    after-sizes = simp (s .test)
+
+    pub judged-inputs : (old : List ℕ) {r : Refusal} → r ≡ inputsRefusal 0 hs → (r .number ≡ 0 → ⊥) → Judged hs ss old old r
+    judged-inputs old {r} e z =
+        record {
+          answer = sym (after-sizes ∙ (ap (λ (x : Refusal). orElse x (stepsRefusal (inputHeads hs) ss)) (sym e) ∙ or-first _ z));
+          len = refl;
+          noted = λ y. absurd (z y);
+        }
+
+    module _ {r : Refusal} (e : r ≡ inputsRefusal 0 hs) (z : r .number ≡ 0) where
+      none : inputsRefusal 0 hs .number ≡ 0
+      none = ap (λ (x : Refusal). x .number) (sym e) ∙ z
+
+      start : (old mid : List ℕ) → mid ≡ over hs old → heads k mid ≡ inputHeads hs
+      start old mid e = ap (map headerOf) (ap (take k) e ∙ take-over hs old k refl)
+
+      -- the inputs' words are noted
+      pub ready : (old mid : List ℕ) → 64 ≤ length old → mid ≡ over hs old → Ready ss k mid
+      ready old mid m f =
+          record {
+            fit = s .fit;
+            room = omega (arith, ap length f ∙ length-over hs old (omega (arith, s .few)));
+            regular = rw (start old mid f) (inputs-known hs none);
+          }
+
+      pub judged-steps : {old mid new : List ℕ} {q : Refusal} → 64 ≤ length old → mid ≡ over hs old → StepsJudged ss (heads k mid) k mid new q → Judged hs ss old new q
+      unfolding announcedPlaces
+      judged-steps {old} {mid} {new} {q} m f j =
+          record {
+            answer = j .answer ∙ (ap (λ (x : List Header). stepsRefusal x ss) (start old mid f) ∙ sym (after-sizes ∙ or-next _ _ none));
+            len = j .len ∙ (ap length f ∙ length-over hs old (omega (arith, s .few)));
+            noted = λ y. j .noted y ∙ ap (λ (x : List Header). chain announcedStep x ss) (start old mid f);
+          }
+
+-- where the check accepts
+pub record Accepts (hs ss : List ℕ) : Type 0 where
+  pub sizes : Sizes hs ss
+  pub inputs : inputsRefusal 0 hs .number ≡ 0
+  pub steps : stepsRefusal (inputHeads hs) ss .number ≡ 0
+
+pub accepts : (hs ss : List ℕ) → checkRefusal hs ss .number ≡ 0 → Accepts hs ss
+unfolding checkRefusal
+accepts hs ss e =
+    let a = ask-none (rightSizes (length hs) (length ss)) 64 (orElse (inputsRefusal 0 hs) (stepsRefusal (inputHeads hs) ss)) (λ z. omega (arith, z)) e in
+    let b = or-none (inputsRefusal 0 hs) (stepsRefusal (inputHeads hs) ss) (a .1) in
+    record { sizes = sizes hs ss (a .0); inputs = b .0; steps = b .1 }
+
+-- what the places announce keeps the rules
+pub chain-known : {known : List Header} → Known known → (ss : List ℕ) → Known (chain announcedStep known ss)
+unfolding chain
+chain-known g [] = g
+chain-known g (w ∷ ss) = chain-known (all-snoc Regular noHeader none-regular g (step-regular w g)) ss
+
+pub places-known : (hs ss : List ℕ) → inputsRefusal 0 hs .number ≡ 0 → Known (announcedPlaces hs ss)
+unfolding announcedPlaces
+places-known hs ss e = chain-known (inputs-known hs e) ss

@@ -1,0 +1,34 @@
+use mathlib.Core.Path.{sym, _∙_}
+use Rattle.recipes_kinds.specs.Known.{head-at, head-past}
+use borrow.Author.Needs.{needs}
+use Rattle.recipes_kinds.proofs.gate.head_at.Statement.{statement}
+use Rattle.recipes_kinds.proofs.gate.head_at.Tie as tie
+
+mul-header-of : tie.Need-mul-header-of
+mul-header-of c = search needs
+
+shared-slice-read-header-of : tie.Need-shared-slice-read-header-of
+shared-slice-read-header-of c = search needs
+
+header-of-requires : tie.Need-header-of-requires
+header-of-requires c κs = search needs
+
+none-requires : tie.Need-none-requires
+none-requires c κs = search needs
+
+returns : tie.Need-returns
+returns c = c .header-of .ensures ∙ sym (head-at ((c .before .before .before .before) .args .known .now) ((c .before .before .before .before) .args .p))
+
+returns-2 : tie.Need-returns-2
+returns-2 c = c .none .ensures ∙ sym (head-past ((c .before .before .before) .args .known .now) ((c .before .before .before) .args .p) (c .before .if1 .left))
+
+pub head-at-spec : {M : Type 1} → statement M
+head-at-spec =
+    tie.close
+    (tie.spec
+    mul-header-of
+    shared-slice-read-header-of
+    header-of-requires
+    none-requires
+    returns
+    returns-2)

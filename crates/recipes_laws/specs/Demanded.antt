@@ -1,0 +1,84 @@
+-- Demand 3 is kept.
+use Prim.Native.Nat.{ℕ}
+use mathlib.Core.List.{List}
+use mathlib.Core.Path.{_≡_, refl, ap}
+use native.Mathlib.Omega.{arith}
+use lib.ListN.{length}
+use lib.Ieee.{Float}
+use borrow.Author.Tests.{eq-eqb, ne-eqb}
+use Rattle.model.specs.declared.Header.{Header}
+use Rattle.model.specs.declared.Refusal.{Refusal}
+use Rattle.model.specs.declared.CheckAnswer.the-variants.{Accepted}
+use Rattle.model.specs.declared.RunAnswer.the-variants.{Done, Refused}
+use Rattle.model.specs.Poly.{Poly}
+use Rattle.model.specs.Recipe.{inputHeads, announcedSteps, total, largest}
+use Rattle.model.specs.Check.{checkRefusal, checkAnswer}
+use Rattle.model.specs.Run.{runBy, runRefusal, runAnswer}
+use Rattle.shape_words.specs.Rules.{Good, header-good}
+use Rattle.shape.specs.Keeps.{Keeps, keeps-good}
+use Rattle.recipes_check.specs.Asks.{by-refusal}
+use Rattle.recipes_check.specs.Answered.{answer-no, answer-yes}
+use Rattle.recipes_laws.specs.Never.{Lent, run-none, run-small}
+use Rattle.recipes_laws.specs.Values.{follows-all, step-computed, inputs-first}
+use Rattle.recipes_laws.specs.Buffers.{word-kept, coeffs-kept}
+use Rattle.recipes_laws.specs.Demand.{AsAnnounced, Finished, Demand3}
+
+announced-of : {h : Header} {v : Poly} → Good h → Keeps h v → AsAnnounced h v
+announced-of g k =
+    let t = keeps-good g k in
+    record { vars = k .under .vars; limits = k .under .limits; lengths = k .under .most; rules = header-good (t .regular .rules) (t .most); full = k .full }
+
+-- what the check answers where it accepts
+record Numbers (hs ss : List ℕ) (places most inputs : ℕ) : Type 0 where
+  none : checkRefusal hs ss .number ≡ 0
+  places-are : total (announcedSteps hs ss) ≡ places
+  most-is : largest (announcedSteps hs ss) ≡ most
+  inputs-are : total (inputHeads hs) ≡ inputs
+
+numbers : (hs ss : List ℕ) (places most inputs : ℕ) → checkAnswer hs ss ≡ Accepted places most inputs → Numbers hs ss places most inputs
+numbers hs ss places most inputs e =
+    by-refusal (checkRefusal hs ss)
+    (λ z.
+    let y : Accepted (total (announcedSteps hs ss)) (largest (announcedSteps hs ss)) (total (inputHeads hs)) ≡ checkAnswer hs ss =
+    answer-yes hs ss {r = checkRefusal hs ss} refl z refl refl refl in
+    record { none = z; places-are = cc; most-is = cc; inputs-are = cc })
+    (λ n. let c = answer-no hs ss {r = checkRefusal hs ss} refl n in let f : _≡_ {A = ℕ} 0 1 = cc in absurd (omega (arith, f)))
+
+module _ (hs : List ℕ) (cs : List Float) (ss : List ℕ) (pool : List Float) (words : List ℕ) (scratch : List Float) where
+  abbrev r : Refusal
+  r = runRefusal hs cs ss pool words scratch
+
+  finished : checkRefusal hs ss .number ≡ 0 → Lent hs ss (length cs) (length pool) (length words) (length scratch) → Finished hs cs ss pool words scratch
+  unfolding runAnswer runBy
+  finished none l =
+      let z : r .number ≡ 0 = ap (λ (x : Refusal). x .number) (run-none hs cs ss pool words scratch none l) in
+      let f = follows-all hs cs ss none (l .coeffs) (l .scratch) in
+      record {
+        done = rw (eq-eqb (r .number) 0 z);
+        inputs = inputs-first hs cs ss none (l .coeffs) (l .scratch);
+        steps = λ i h.
+            record {
+              announced = announced-of (f .good .at _) (f .keeps _);
+              computed = step-computed hs cs ss none (l .coeffs) (l .scratch) i h;
+              word = word-kept hs cs ss f pool words scratch z i h;
+              coeffs = coeffs-kept hs cs ss f pool words scratch z i h;
+            };
+      }
+
+  -- an answer that refuses says the run's refusal
+  refused : (q : Refusal) → runAnswer hs cs ss pool words scratch ≡ Refused q → q ≡ r
+  unfolding runAnswer runBy
+  refused q e =
+      by-refusal r
+      (λ z. let f : Done ≡ Refused q = rw (eq-eqb (r .number) 0 z) at e in let g : _≡_ {A = ℕ} 0 1 = cc in absurd (omega (arith, g)))
+      (λ n. let f : Refused r ≡ Refused q = rw (ne-eqb (r .number) 0 n) at e in cc)
+
+  pub demand-3 : Demand3 hs cs ss pool words scratch
+  demand-3 =
+      record {
+        finishes = λ places most inputs e c p w s.
+            let n = numbers hs ss places most inputs e in
+            finished (n .none)
+            (record { coeffs = omega (arith, n .inputs-are); pool = omega (arith, n .places-are); words = w; scratch = omega (arith, n .most-is) });
+        never-9 = λ q e n. omega (arith, run-small hs cs ss pool words scratch, ap (λ (x : Refusal). x .number) (refused q e));
+      }

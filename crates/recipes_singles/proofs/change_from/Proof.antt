@@ -1,0 +1,45 @@
+use native.Mathlib.Omega.{arith}
+use mathlib.Core.Path.{_≡_, refl, sym, ap, _∙_}
+use mathlib.Core.List.{List}
+use Prim.Native.Nat.{ℕ, _+_, _-_, _*_, _≤_, _<_}
+use lib.ListN.{length, take, drop, length-take, length-drop}
+use lib.Seq.{length-take-le}
+use lib.Ieee.{Float}
+use Rattle.recipes_operands.specs.Lent.{source, length-operand}
+use Rattle.recipes_singles.specs.Change.{changedPoly}
+use Rattle.model.specs.Refusals.{padded}
+use Rattle.model.specs.Header.{stored}
+use Rattle.model.specs.Poly.{poly}
+use borrow.Author.Needs.{needs}
+use Rattle.recipes_singles.proofs.change_from.Statement.{statement}
+use Rattle.recipes_singles.proofs.change_from.Tie as tie
+use Rattle.recipes_singles.proofs.change_from.Reads as reads
+use Rattle.recipes_singles.proofs.change_from.Lts as lts
+use Rattle.gates.proofs.stored_of.Reads as stored-of-reads
+use Rattle.recipes_operands.proofs.operand.Reads as operand-reads
+use Rattle.recipes_singles.proofs.changed.Reads as changed-reads
+
+part-is : (c : tie.After-operand) → c .operand .result .now ≡ take (stored (c .before .before .before .before .before .args .x)) (drop (c .before .before .before .before .before .args .from) (source (c .before .before .before .before .before .args .input) (c .before .before .before .before .before .args .coefficients .now) (c .before .before .before .before .before .args .pool .now)))
+part-is c = c .operand .ensures ∙ ap (λ (k : ℕ). take k (drop (c .before .before .before .before .before .args .from) (source (c .before .before .before .before .before .args .input) (c .before .before .before .before .before .args .coefficients .now) (c .before .before .before .before .before .args .pool .now)))) (c .before .stored-of .ensures)
+
+part-full : (c : tie.After-operand) → length (c .operand .result .now) ≡ stored (c .before .before .before .before .before .args .x)
+part-full c = ap length (part-is c) ∙ length-operand (c .before .before .before .before .before .args .from) (stored (c .before .before .before .before .before .args .x)) (source (c .before .before .before .before .before .args .input) (c .before .before .before .before .before .args .coefficients .now) (c .before .before .before .before .before .args .pool .now)) (c .before .before .before .before .before .pre .1)
+
+stored-of-requires : tie.Need-stored-of-requires
+stored-of-requires c κs = search needs
+
+operand-requires : tie.Need-operand-requires
+operand-requires c κs = search needs
+
+changed-requires : tie.Need-changed-requires
+changed-requires c κs = rw (part-full (c .before)) (c .before .before .before .before .before .before .pre .0)
+
+same-length : tie.Need-same-length
+same-length c = search needs
+
+returns : tie.Need-returns
+returns c = (c .before .before .changed .ensures .0 ∙ ap (λ (a : List Float). changedPoly (c .before .before .before .before .before .before .before .before .before .args .kind) (c .before .before .before .before .before .before .before .before .before .args .v) (c .before .before .before .before .before .before .before .before .before .args .d) (poly (c .before .before .before .before .before .before .before .before .before .args .x) a) .head) (part-is (c .before .before .before .before)), c .before .before .changed .ensures .1 ∙ ap (λ (a : List Float). padded (stored (c .before .before .before .before .before .before .before .before .before .args .h)) (changedPoly (c .before .before .before .before .before .before .before .before .before .args .kind) (c .before .before .before .before .before .before .before .before .before .args .v) (c .before .before .before .before .before .before .before .before .before .args .d) (poly (c .before .before .before .before .before .before .before .before .before .args .x) a) .coeffs)) (part-is (c .before .before .before .before)))
+
+pub change-from-spec : {M : Type 1} → statement M
+change-from-spec =
+    tie.close (tie.spec stored-of-requires operand-requires changed-requires same-length returns)

@@ -1,0 +1,68 @@
+use native.Mathlib.Omega.{arith}
+use mathlib.Core.Path.{_≡_, sym, ap, _∙_}
+use Prim.Native.Nat.{ℕ, _≤_}
+use lib.ListN.{length, take, drop}
+use Rattle.model.specs.Header.{stored}
+use Rattle.recipes_operands.specs.Lent.{source, length-operand}
+use lib.Seq.{length-take-le}
+use Rattle.lists.specs.Table.{length-table}
+use Rattle.model.specs.Header.{count}
+use Rattle.substitution_turn.specs.Turn.{front-kept}
+use borrow.Author.Needs.{needs}
+use Rattle.recipes_steps.proofs.substitute.put_from.Statement.{statement}
+use Rattle.recipes_steps.proofs.substitute.put_from.Tie as tie
+use Rattle.recipes_steps.proofs.substitute.put_from.Reads as reads
+use Rattle.recipes_steps.proofs.substitute.put_from.Lts as lts
+use Rattle.blocks.proofs.load.Reads as load-reads
+use Rattle.gates.proofs.stored_of.Reads as stored-of-reads
+use Rattle.recipes_operands.proofs.operand.Reads as operand-reads
+use Rattle.shape_words.proofs.places.count_of.Reads as count-of-reads
+
+part-is : (c : tie.After-operand) → c .operand .result .now ≡ take (stored (c .before .before .before .before .before .args .y)) (drop (c .before .before .before .before .before .args .yf) (source (c .before .before .before .before .before .args .yi) (c .before .before .before .before .before .args .coefficients .now) (c .before .before .before .before .before .args .pool .now)))
+part-is c = c .operand .ensures ∙ ap (λ (k : ℕ). take k (drop (c .before .before .before .before .before .args .yf) (source (c .before .before .before .before .before .args .yi) (c .before .before .before .before .before .args .coefficients .now) (c .before .before .before .before .before .args .pool .now)))) (c .before .stored-of .ensures)
+
+full : (c : tie.After-operand) → length (take (stored (c .before .before .before .before .before .args .y)) (drop (c .before .before .before .before .before .args .yf) (source (c .before .before .before .before .before .args .yi) (c .before .before .before .before .before .args .coefficients .now) (c .before .before .before .before .before .args .pool .now)))) ≡ stored (c .before .before .before .before .before .args .y)
+full c = length-operand (c .before .before .before .before .before .args .yf) (stored (c .before .before .before .before .before .args .y)) (source (c .before .before .before .before .before .args .yi) (c .before .before .before .before .before .args .coefficients .now) (c .before .before .before .before .before .args .pool .now)) (c .before .before .before .before .before .pre .1 .1 .1)
+
+part-full : (c : tie.After-operand) → length (c .operand .result .now) ≡ stored (c .before .before .before .before .before .args .y)
+part-full c = ap length (part-is c) ∙ full c
+
+small : (c : tie.After-count-of) → c .count-of .result ≤ length (c .before .before .before .before .before .before .before .args .work .now)
+small c = omega (arith, c .count-of .ensures, c .before .before .before .before .before .before .before .pre .1 .0)
+
+stored-of-requires : tie.Need-stored-of-requires
+stored-of-requires c κs = search needs
+
+operand-requires : tie.Need-operand-requires
+operand-requires c κs = search needs
+
+count-of-requires : tie.Need-count-of-requires
+count-of-requires c κs = search needs
+
+slice-relend-prefix-load : tie.Need-slice-relend-prefix-load
+slice-relend-prefix-load c = search needs
+
+slice-aggregate-load : tie.Need-slice-aggregate-load
+slice-aggregate-load c = sym (length-take-le _ _ (small (c .before)))
+
+load-requires : tie.Need-load-requires
+load-requires c κs = rw (part-full (c .before .before .before), length-take-le _ _ (small (c .before)), c .before .count-of .ensures) (c .before .before .before .before .before .before .before .before .pre .0)
+
+same-length : tie.Need-same-length
+same-length c = search needs
+
+returns : tie.Need-returns
+returns c = front-kept (c .before .before .before .before .before .before .before .before .before .before .before .args .work .now) (rw (part-is (c .before .before .before .before .before .before)) at (c .before .before .load .ensures)) (length-table _ (count (c .before .before .before .before .before .before .before .before .before .before .before .args .c))) (c .before .before .before .before .count-of .ensures) (small (c .before .before .before .before))
+
+pub put-from-spec : {M : Type 1} → statement M
+put-from-spec =
+    tie.close
+    (tie.spec
+    stored-of-requires
+    operand-requires
+    count-of-requires
+    slice-relend-prefix-load
+    slice-aggregate-load
+    load-requires
+    same-length
+    returns)

@@ -1,0 +1,99 @@
+use native.Mathlib.Omega.{arith}
+use mathlib.Core.Path.{refl, sym, _∙_}
+use Prim.Native.Nat.{_+_, _-_}
+use lib.ListN.{take}
+use lib.Seq.{length-take-le}
+use Rattle.lists.specs.Part.{length-part}
+use Rattle.model.specs.Header.{stored}
+use Rattle.model.specs.Poly.{block}
+use Rattle.substitution.specs.Room.{turns}
+use Rattle.substitution.specs.Horner.{valueIn, putIn, next-picks, next-turning, next-row}
+use Rattle.recipes_operands.specs.Lent.{lying, lies-source, part-kept}
+use Rattle.recipes_steps.specs.Substitute.{RunsTo, runs-first, to-end, to-less, to-next, same-operand}
+use Rattle.recipes_steps.proofs.substitute.rows_to.Statement.{statement}
+use Rattle.recipes_steps.proofs.substitute.rows_to.Tie as tie
+use Rattle.recipes_steps.proofs.substitute.rows_to.Reads as reads
+use Rattle.recipes_steps.proofs.substitute.rows_to.Lts as lts
+use Rattle.recipes_steps.proofs.substitute.row_from.Reads as row-from-reads
+use Rattle.substitution_turn.proofs.turn.Reads as turn-reads
+
+abbrev Inv-loop : tie.InvT-loop
+Inv-loop x xi xf v k b c limits n coefficients pool₀ at work₀ row end left₀ value₀ pool work left value = RunsTo (x .lengths) v (lying xi coefficients (take at pool₀) xf x .coeffs) left value b c limits n (stored x) (turns limits v (block (x .lengths) (lying xi coefficients (take at pool₀) xf x .coeffs)) k (putIn b work₀) (valueIn n value₀ work₀)) at pool₀ pool work
+
+abbrev μ-loop : tie.MeasureT-loop
+μ-loop x xi xf v k b c limits n coefficients pool₀ at work₀ row end left₀ value₀ pool work left value = left
+
+mul-row : tie.Need-mul-row Inv-loop μ-loop
+mul-row c = omega (arith, c .before .before .before .pre .0 .small)
+
+add-end : tie.Need-add-end Inv-loop μ-loop
+add-end c = omega (arith, c .before .before .before .pre .1 .1 .1 .1, c .before .before .before .good)
+
+loop-holds : tie.Need-loop-holds Inv-loop μ-loop
+loop-holds c = runs-first (lying (c .before .before .before .args .xi) (c .before .before .before .args .coefficients .now) (take (c .before .before .before .args .at) (c .before .before .before .args .pool .now)) (c .before .before .before .args .xf) (c .before .before .before .args .x) .coeffs) (c .before .before .before .args .pool .now) (c .before .before .before .args .work .now) (c .before .before .before .pre .0) (c .before .before .before .pre .1 .0) (c .before .before .before .pre .1 .1 .1 .1)
+
+sub-left : tie.Need-sub-left Inv-loop μ-loop
+sub-left c = omega arith
+
+slice-reshare-prefix-row-from : tie.Need-slice-reshare-prefix-row-from Inv-loop μ-loop
+slice-reshare-prefix-row-from c = omega (arith, c .before .loop .inv .stays .below .len, c .before .before .before .before .before .pre .1 .1 .1 .1)
+
+slice-aggregate-row-from : tie.Need-slice-aggregate-row-from Inv-loop μ-loop
+slice-aggregate-row-from c = sym (length-take-le _ _ (omega (arith, c .before .before .loop .inv .stays .below .len, c .before .before .before .before .before .before .pre .1 .1 .1 .1)))
+
+row-from-requires : tie.Need-row-from-requires Inv-loop μ-loop
+row-from-requires c κs = let s = to-less (c .before .before .before .loop .inv) (c .before .before .before .loop .left - 1) (omega (arith, c .before .before .loop-test .taken)) in (next-picks (s .runs .room) refl, (omega (arith, next-row (s .runs .room), s .runs .room .work), (c .before .before .before .before .before .before .before .pre .1 .1 .0, lies-source (c .before .before .before .before .before .before .before .args .coefficients .now) (take (c .before .before .before .before .before .before .before .args .at) (c .before .before .before .loop .pool)) (c .before .before .before .before .before .before .before .pre .1 .1 .1 .0) (length-take-le _ _ (omega (arith, c .before .before .before .loop .inv .stays .below .len, c .before .before .before .before .before .before .before .pre .1 .1 .1 .1))))))
+
+mul-turn : tie.Need-mul-turn Inv-loop μ-loop
+mul-turn c = omega (arith, c .before .before .before .before .before .before .before .loop .inv .stays .below .len, c .before .before .before .before .before .before .before .before .before .before .before .pre .1 .1 .1 .1, c .before .before .before .before .before .before .before .before .before .before .before .good)
+
+sub-turn : tie.Need-sub-turn Inv-loop μ-loop
+sub-turn c = omega arith
+
+part-turn-start : tie.Need-part-turn-start Inv-loop μ-loop
+part-turn-start c = omega arith
+
+part-turn-end : tie.Need-part-turn-end Inv-loop μ-loop
+part-turn-end c = omega (arith, c .before .before .before .before .before .before .before .loop .inv .stays .below .len, c .before .before .before .before .before .before .before .before .before .before .before .pre .1 .1 .1 .1)
+
+turn-requires : tie.Need-turn-requires Inv-loop μ-loop
+turn-requires c κs = let s = to-less (c .before .before .before .before .before .before .before .before .loop .inv) (c .before .before .before .before .before .before .before .before .loop .left - 1) (omega (arith, c .before .before .before .before .before .before .before .loop-test .taken)) in next-turning (s .runs .room) refl (c .before .before .before .before .row-from .ensures .below .len)
+
+loop-less : tie.Need-loop-less Inv-loop μ-loop
+loop-less c = omega arith
+
+loop-again : tie.Need-loop-again Inv-loop μ-loop
+loop-again c = let s = to-less (c .before .before .before .before .before .before .before .before .before .before .before .before .before .loop .inv) (c .before .before .before .before .before .before .before .before .before .before .before .before .before .loop .left - 1) (omega (arith, c .before .before .before .before .before .before .before .before .before .before .before .before .loop-test .taken)) in to-next s (same-operand (c .before .before .before .before .before .before .before .before .before .before .before .before .before .before .before .before .before .args .xi) (c .before .before .before .before .before .before .before .before .before .before .before .before .before .before .before .before .before .args .coefficients .now) (c .before .before .before .before .before .before .before .before .before .before .before .before .before .before .before .before .before .args .xf) (c .before .before .before .before .before .before .before .before .before .before .before .before .before .before .before .before .before .args .x) (c .before .before .before .before .before .before .before .before .before .before .before .before .before .loop .inv .stays .below .head)) (c .before .before .before .before .before .before .before .before .before .row-from .ensures) (c .before .before .before .before .turn .ensures) (c .before .before .before .before .turn .kept .1 .1 .1 .1 .1 .1 .0) (part-kept (c .before .before .before .before .before .before .before .before .before .before .before .before .before .before .before .before .before .args .at) (c .before .before .before .before .before .before .before .before .before .before .before .before .before .before .before .before .before .args .at + c .before .before .before .before .before .before .before .before .before .before .before .before .before .before .before .before .before .args .n) (c .before .before .before .before .before .before .before .before .before .before .before .before .before .loop .pool) (c .before .before .before .before .turn .last .1 .1 .1 .1 .1 .1 .0) (c .before .before .before .before .turn .kept .1 .1 .1 .1 .1 .1 .0 ∙ length-part (c .before .before .before .before .before .before .before .before .before .before .before .before .before .before .before .before .before .args .at) (c .before .before .before .before .before .before .before .before .before .before .before .before .before .before .before .before .before .args .at + c .before .before .before .before .before .before .before .before .before .before .before .before .before .before .before .before .before .args .n) (c .before .before .before .before .before .before .before .before .before .before .before .before .before .loop .pool) (omega arith) (omega (arith, c .before .before .before .before .before .before .before .before .before .before .before .before .before .loop .inv .stays .below .len, c .before .before .before .before .before .before .before .before .before .before .before .before .before .before .before .before .before .pre .1 .1 .1 .1))) (omega arith) (omega (arith, c .before .before .before .before .before .before .before .before .before .before .before .before .before .loop .inv .stays .below .len, c .before .before .before .before .before .before .before .before .before .before .before .before .before .before .before .before .before .pre .1 .1 .1 .1)))
+
+same-length : tie.Need-same-length Inv-loop μ-loop
+same-length c = c .before .loop .inv .stays .below .len
+
+same-length-2 : tie.Need-same-length-2 Inv-loop μ-loop
+same-length-2 c = c .before .loop .inv .runs .room .work ∙ sym (c .before .before .before .before .before .pre .0 .work)
+
+returns : tie.Need-returns Inv-loop μ-loop
+returns c = to-end (c .before .loop .inv) (c .loop-test .left)
+
+pub rows-to-spec : {M : Type 1} → statement M
+rows-to-spec =
+    tie.close
+    (tie.spec
+    Inv-loop
+    μ-loop
+    mul-row
+    add-end
+    loop-holds
+    sub-left
+    slice-reshare-prefix-row-from
+    slice-aggregate-row-from
+    row-from-requires
+    mul-turn
+    sub-turn
+    part-turn-start
+    part-turn-end
+    turn-requires
+    loop-less
+    loop-again
+    same-length
+    same-length-2
+    returns)

@@ -1,0 +1,42 @@
+use mathlib.Core.Path.{_≡_, ap, _∙_}
+use mathlib.Core.List.{List}
+use Prim.Native.Nat.{ℕ}
+use lib.ListN.{length, take, drop}
+use lib.Ieee.{Float}
+use Rattle.model.specs.Header.{stored}
+use Rattle.recipes_operands.specs.Lent.{source, length-operand}
+use Rattle.model.specs.Poly.{block}
+use Rattle.shape_words.specs.Lengths.{lengths-of}
+use Rattle.substitution_way.specs.Way.{wayOf}
+use borrow.Author.Needs.{needs}
+use Rattle.recipes_steps.proofs.substitute.way_from.Statement.{statement}
+use Rattle.recipes_steps.proofs.substitute.way_from.Tie as tie
+use Rattle.recipes_steps.proofs.substitute.way_from.Reads as reads
+use Rattle.recipes_steps.proofs.substitute.way_from.Lts as lts
+use Rattle.gates.proofs.stored_of.Reads as stored-of-reads
+use Rattle.recipes_operands.proofs.operand.Reads as operand-reads
+use Rattle.substitution_way.proofs.choose.Reads as choose-reads
+
+part-is : (c : tie.After-operand) → c .operand .result .now ≡ take (stored (c .before .before .before .before .args .y)) (drop (c .before .before .before .before .args .yf) (source (c .before .before .before .before .args .yi) (c .before .before .before .before .args .coefficients .now) (c .before .before .before .before .args .pool .now)))
+part-is c = c .operand .ensures ∙ ap (λ (k : ℕ). take k (drop (c .before .before .before .before .args .yf) (source (c .before .before .before .before .args .yi) (c .before .before .before .before .args .coefficients .now) (c .before .before .before .before .args .pool .now)))) (c .before .stored-of .ensures)
+
+full : (c : tie.After-operand) → length (take (stored (c .before .before .before .before .args .y)) (drop (c .before .before .before .before .args .yf) (source (c .before .before .before .before .args .yi) (c .before .before .before .before .args .coefficients .now) (c .before .before .before .before .args .pool .now)))) ≡ stored (c .before .before .before .before .args .y)
+full c = length-operand (c .before .before .before .before .args .yf) (stored (c .before .before .before .before .args .y)) (source (c .before .before .before .before .args .yi) (c .before .before .before .before .args .coefficients .now) (c .before .before .before .before .args .pool .now)) (c .before .before .before .before .pre .1)
+
+part-full : (c : tie.After-operand) → length (c .operand .result .now) ≡ stored (c .before .before .before .before .args .y)
+part-full c = ap length (part-is c) ∙ full c
+
+stored-of-requires : tie.Need-stored-of-requires
+stored-of-requires c κs = search needs
+
+operand-requires : tie.Need-operand-requires
+operand-requires c κs = search needs
+
+choose-requires : tie.Need-choose-requires
+choose-requires c κs = (lengths-of (c .before .before .before .before .before .pre .0), part-full (c .before))
+
+returns : tie.Need-returns
+returns c = c .choose .ensures ∙ ap (λ (l : List Float). wayOf (c .before .before .before .before .before .before .args .vars) (c .before .before .before .before .before .before .args .v) (block (c .before .before .before .before .before .before .args .y .lengths) l)) (part-is (c .before .before))
+
+pub way-from-spec : {M : Type 1} → statement M
+way-from-spec = tie.close (tie.spec stored-of-requires operand-requires choose-requires returns)

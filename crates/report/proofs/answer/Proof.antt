@@ -1,0 +1,115 @@
+use native.Mathlib.Omega.{arith}
+use mathlib.Core.List.{[]}
+use mathlib.Core.Path.{sym, ap, _∙_}
+use lib.ListN.{length-take, length-drop}
+use lib.Seq.{length-take-le}
+use Rattle.model.specs.declared.Refusal.{Refusal}
+use Rattle.report_lines.specs.Puts.{printed-none, puts-then}
+use Rattle.report.specs.Tells.{told-refused, told-solved}
+use borrow.Author.Needs.{needs}
+use Rattle.report.proofs.answer.Statement.{statement}
+use Rattle.report.proofs.answer.Tie as tie
+use Rattle.report.proofs.answer.Reads as reads
+use Rattle.report.proofs.answer.Lts as lts
+use Rattle.report_figures.proofs.line.put_figures.Reads as put-figures-reads
+use Rattle.report.proofs.floats.Reads as floats-reads
+use Rattle.report.proofs.refusal.put_refusal_report.Reads as put-refusal-report-reads
+use Rattle.report_lines.proofs.put_limits.Reads as put-limits-reads
+use Rattle.sheet.proofs.solve.Reads as solve-reads
+
+floats-requires : tie.Need-floats-requires
+floats-requires c κs = search needs
+
+slice-aggregate-solve : tie.Need-slice-aggregate-solve
+slice-aggregate-solve c = search needs
+
+slice-aggregate-solve-2 : tie.Need-slice-aggregate-solve-2
+slice-aggregate-solve-2 c = search needs
+
+slice-aggregate-solve-3 : tie.Need-slice-aggregate-solve-3
+slice-aggregate-solve-3 c = search needs
+
+slice-aggregate-solve-4 : tie.Need-slice-aggregate-solve-4
+slice-aggregate-solve-4 c = search needs
+
+solve-requires : tie.Need-solve-requires
+solve-requires c κs = search needs
+
+put-refusal-report-requires : tie.Need-put-refusal-report-requires
+put-refusal-report-requires c κs = search needs
+
+same-length : tie.Need-same-length
+same-length c = search needs
+
+returns : tie.Need-returns
+returns c = rw (told-refused _ (sym (c .before .before .before .before .before .before .before .before .before .before .before .solve .ensures .refusal)) (c .before .before .before .before .if1 .taken)) (c .before .before .put-refusal-report .ensures [] _ (printed-none _))
+
+add-n : tie.Need-add-n
+add-n c = omega (arith, (c .before .before .before .before .before .before .before .before .solve .ensures .done (c .before .if1 .left)) .fit)
+
+array-share-prefix-known : tie.Need-array-share-prefix-known
+array-share-prefix-known c = omega (arith, (c .before .before .before .before .before .before .before .before .solve .ensures .done (c .before .if1 .left)) .fit, c .before .before .before .before .before .before .before .before .solve .ensures .known-len)
+
+slice-aggregate-put-limits : tie.Need-slice-aggregate-put-limits
+slice-aggregate-put-limits c = sym (length-take-le _ _ (omega (arith, (c .before .before .before .before .before .before .before .before .before .solve .ensures .done (c .before .before .if1 .left)) .fit, c .before .before .before .before .before .before .before .before .before .solve .ensures .known-len)))
+
+array-share-prefix-steps : tie.Need-array-share-prefix-steps
+array-share-prefix-steps c = omega (arith, (c .before .before .before .before .before .before .before .before .before .solve .ensures .done (c .before .before .if1 .left)) .fit, c .before .before .before .before .before .before .before .before .before .solve .ensures .steps-len)
+
+slice-aggregate-put-limits-2 : tie.Need-slice-aggregate-put-limits-2
+slice-aggregate-put-limits-2 c = sym (length-take-le _ _ (omega (arith, (c .before .before .before .before .before .before .before .before .before .before .solve .ensures .done (c .before .before .before .if1 .left)) .fit, c .before .before .before .before .before .before .before .before .before .before .solve .ensures .steps-len)))
+
+put-limits-requires : tie.Need-put-limits-requires
+put-limits-requires c κs = (omega (arith, (c .before .before .before .before .before .before .before .before .before .before .before .solve .ensures .done (c .before .before .before .before .if1 .left)) .some), omega (arith, (c .before .before .before .before .before .before .before .before .before .before .before .solve .ensures .done (c .before .before .before .before .if1 .left)) .fit))
+
+add-end : tie.Need-add-end
+add-end c = omega (arith, (c .before .before .before .before .before .before .before .before .before .before .before .before .before .before .before .solve .ensures .done (c .before .before .before .before .before .before .before .before .if1 .left)) .last .within)
+
+mul-put-figures : tie.Need-mul-put-figures
+mul-put-figures c = omega (arith, (c .before .before .before .before .before .before .before .before .before .before .before .before .before .before .before .solve .ensures .done (c .before .before .before .before .before .before .before .before .if1 .left)) .last .within)
+
+sub-put-figures : tie.Need-sub-put-figures
+sub-put-figures c = search needs
+
+part-put-figures-start : tie.Need-part-put-figures-start
+part-put-figures-start c = search needs
+
+part-put-figures-end : tie.Need-part-put-figures-end
+part-put-figures-end c = omega (arith, (c .before .before .before .before .before .before .before .before .before .before .before .before .before .before .before .before .solve .ensures .done (c .before .before .before .before .before .before .before .before .before .if1 .left)) .last .held)
+
+put-figures-requires : tie.Need-put-figures-requires
+put-figures-requires c κs = simp (length-take, length-drop) (omega (arith, (c .before .before .before .before .before .before .before .before .before .before .before .before .before .before .before .before .before .before .solve .ensures .done (c .before .before .before .before .before .before .before .before .before .before .before .if1 .left)) .last .full, (c .before .before .before .before .before .before .before .before .before .before .before .before .before .before .before .before .before .before .solve .ensures .done (c .before .before .before .before .before .before .before .before .before .before .before .if1 .left)) .last .held))
+
+same-length-2 : tie.Need-same-length-2
+same-length-2 c = search needs
+
+returns-2 : tie.Need-returns-2
+returns-2 c = rw (told-solved (c .before .before .before .before .before .before .before .before .before .before .before .before .before .before .before .before .before .before .before .before .before .solve .ensures .done (c .before .before .before .before .before .before .before .before .before .before .before .before .before .before .if1 .left)) (ap (λ (r : Refusal). r .number) (sym (c .before .before .before .before .before .before .before .before .before .before .before .before .before .before .before .before .before .before .before .before .before .solve .ensures .refusal)) ∙ c .before .before .before .before .before .before .before .before .before .before .before .before .before .before .if1 .left)) (puts-then (c .before .before .before .before .before .before .before .before .before .put-limits .ensures) (c .before .before .put-figures .ensures) [] _ (printed-none _))
+
+pub answer-spec : {M : Type 1} → statement M
+answer-spec =
+    tie.close
+    (tie.spec
+    floats-requires
+    slice-aggregate-solve
+    slice-aggregate-solve-2
+    slice-aggregate-solve-3
+    slice-aggregate-solve-4
+    solve-requires
+    put-refusal-report-requires
+    same-length
+    returns
+    add-n
+    array-share-prefix-known
+    slice-aggregate-put-limits
+    array-share-prefix-steps
+    slice-aggregate-put-limits-2
+    put-limits-requires
+    add-end
+    mul-put-figures
+    sub-put-figures
+    part-put-figures-start
+    part-put-figures-end
+    put-figures-requires
+    same-length-2
+    returns-2)

@@ -1,0 +1,40 @@
+use Rattle.report_lines.specs.Puts.{puts-then}
+use Rattle.model.specs.Sentence.{refusalReport}
+use borrow.Author.Needs.{needs}
+use Rattle.report.proofs.refusal.put_refusal_report.Statement.{statement}
+use Rattle.report.proofs.refusal.put_refusal_report.Tie as tie
+use Rattle.report.proofs.refusal.put_refusal_report.Reads as reads
+use Rattle.report.proofs.refusal.put_refusal_report.Lts as lts
+use Rattle.report.proofs.refusal.put_meaning.Reads as put-meaning-reads
+use Rattle.report.proofs.refusal.put_refused.Reads as put-refused-reads
+use Rattle.report.proofs.refusal.put_where.Reads as put-where-reads
+
+put-refused-requires : tie.Need-put-refused-requires
+put-refused-requires c κs = search needs
+
+cast-put-where : tie.Need-cast-put-where
+cast-put-where c = search needs
+
+put-where-requires : tie.Need-put-where-requires
+put-where-requires c κs = search needs
+
+put-meaning-requires : tie.Need-put-meaning-requires
+put-meaning-requires c κs = search needs
+
+same-length : tie.Need-same-length
+same-length c = search needs
+
+returns : tie.Need-returns
+unfolding refusalReport
+returns c = puts-then (c .before .before .before .before .before .before .before .before .before .before .before .put-refused .ensures) (puts-then (c .before .before .before .before .before .before .put-where .ensures) (c .before .before .put-meaning .ensures))
+
+pub put-refusal-report-spec : {M : Type 1} → statement M
+put-refusal-report-spec =
+    tie.close
+    (tie.spec
+    put-refused-requires
+    cast-put-where
+    put-where-requires
+    put-meaning-requires
+    same-length
+    returns)

@@ -1,0 +1,87 @@
+-- Of a sheet that is not refused: every operand stands before its step. So the place that is named for a limit is where the limit comes from, and the place that
+-- is named as going further goes furthest of all that the answer is made from.
+use Prim.Native.Nat.{ℕ, _+_, _-_, _≤_, _<_}
+use mathlib.Core.List.{List}
+use mathlib.Core.Path.{_≡_}
+use native.Mathlib.Omega.{arith}
+use lib.Dec.{ltb}
+use lib.ListN.{length, getD, take}
+use borrow.Author.Tests.{ltb-true, ltb-false, eq-eqb}
+use Rattle.lists.specs.Test.{decide}
+use Rattle.model.specs.declared.Header.{Header}
+use Rattle.model.specs.declared.CheckAnswer.the-variants.{Accepted}
+use Rattle.model.specs.Header.{limit}
+use Rattle.model.specs.Steps.{stepOf}
+use Rattle.model.specs.Recipe.{headAt, inputHeads, announcedPlaces, announcedSteps, total, largest}
+use Rattle.model.specs.Check.{checkRefusal, checkBy, checkAnswer}
+use Rattle.model.specs.Reasons.{Shifts, StepReason, late-a, late-b, wrong-word, large-n, step}
+use Rattle.model.specs.Sheet.{inputCount, stepCount, sheetHeaders, sheetSteps, recipeRefusal, readRefusal, sheetRefusal}
+use Rattle.model.specs.Trace.{stepWord, limitAt, decider, furthest}
+use Rattle.shape_words.specs.Rules.{ruled-at}
+use Rattle.recipes_kinds.specs.Known.{small-variable}
+use Rattle.recipes_check.specs.Asks.{or-none}
+use Rattle.recipes_laws.specs.Exact.{check-exact, length-known}
+use Rattle.recipes_check.specs.Judged.{accepts, places-known}
+use Rattle.sheet.specs.Opened.{headers-many, steps-many}
+use Rattle.report_trace.specs.Laws.{Operand, first, second}
+use Rattle.report_trace.specs.Ends.{Ordered, Ends, decider-ends}
+use Rattle.report_trace.specs.Furthest.{Made, furthest-made, furthest-most}
+
+module _ (hs ss : List ℕ) (z : checkRefusal hs ss .number ≡ 0) where
+  accepted : checkAnswer hs ss ≡ Accepted (total (announcedSteps hs ss)) (largest (announcedSteps hs ss)) (total (inputHeads hs))
+  unfolding checkAnswer checkBy
+  accepted = rw (eq-eqb (checkRefusal hs ss .number) 0 z)
+
+  no-reason : (i n : ℕ) → i < length ss → StepReason (getD ss i 0) (announcedPlaces hs (take i ss)) n → ⊥
+  no-reason i n l x = check-exact hs ss .accepted _ _ _ accepted _ _ (step i n l (omega (arith, accepts hs ss z .sizes .fit)) x)
+
+  -- no operand names a later place: that would be a reason to refuse
+  not-late : (i x : ℕ) → i < length ss → Operand (getD ss i 0) x → length hs + i ≤ x → ⊥
+  unfolding announcedPlaces
+  not-late i x l (first u e) h = no-reason i 7 l (wrong-word (late-a u (omega (arith, length-known hs ss i l, e))))
+  not-late i x l (second u e) h = no-reason i 7 l (wrong-word (late-b u (omega (arith, length-known hs ss i l, e))))
+
+  pub check-ordered : Ordered ss (length hs) (length hs + length ss)
+  check-ordered =
+      record {
+        before = λ p x a l o. decide (ltb x p) (λ t. ltb-true _ _ t) (λ t. absurd (not-late (p - length hs) x (omega arith) o (omega (arith, ltb-false x p t))));
+      }
+
+  -- n of a shift is below a limit
+  pub shift-short : (i : ℕ) → i < length ss → Shifts (getD ss i 0) → stepOf (getD ss i 0) .n < 64
+  shift-short i l s =
+      let w : ℕ = getD ss i 0 in
+      let most = limit (headAt (announcedPlaces hs (take i ss)) (stepOf w .a)) (stepOf w .variable) in
+      let few : most ≤ 64 = ruled-at (places-known hs (take i ss) (accepts hs ss z .inputs) .at (stepOf w .a) .rules) (stepOf w .variable) (small-variable w) .most in
+      decide (ltb (stepOf w .n) most)
+      (λ t. omega (arith, ltb-true (stepOf w .n) most t))
+      (λ t. absurd (no-reason i 4 l (large-n (λ x. no-reason i 7 l (wrong-word x)) s (ltb-false _ _ t))))
+
+module _ (t : List ℕ) (z : sheetRefusal t .number ≡ 0) where
+  pub check-none : checkRefusal (sheetHeaders t) (sheetSteps t) .number ≡ 0
+  unfolding sheetRefusal recipeRefusal
+  check-none = or-none (checkRefusal (sheetHeaders t) (sheetSteps t)) _ (or-none (readRefusal t) _ z .1) .0
+
+  pub sheet-ordered : Ordered (sheetSteps t) (inputCount t) (inputCount t + stepCount t)
+  sheet-ordered = rw (headers-many t, steps-many t) at (check-ordered (sheetHeaders t) (sheetSteps t) check-none)
+
+  pub sheet-short : (p : ℕ) → inputCount t ≤ p → p < inputCount t + stepCount t → Shifts (stepWord (sheetSteps t) (inputCount t) p) → stepOf (stepWord (sheetSteps t) (inputCount t) p) .n < 64
+  sheet-short p a l s = shift-short (sheetHeaders t) (sheetSteps t) check-none (p - inputCount t) (omega (arith, steps-many t)) s
+
+  pub few : inputCount t + stepCount t ≤ 64
+  few = omega (arith, accepts (sheetHeaders t) (sheetSteps t) check-none .sizes .fit, headers-many t, steps-many t)
+
+  module _ (v p : ℕ) (l : p < inputCount t + stepCount t) where
+    abbrev known : List Header
+    known = announcedPlaces (sheetHeaders t) (sheetSteps t)
+
+    -- the place named for a limit is an input, or a step none of whose operands has the limit
+    pub sheet-decider : Ends known v (sheetSteps t) (inputCount t) (decider known v (sheetSteps t) (inputCount t) p)
+    sheet-decider = decider-ends known v (sheetSteps t) (inputCount t) sheet-ordered few p l
+
+    -- the place named as going further is one that the place p is made from, and no other goes further
+    pub sheet-furthest : Made known v (sheetSteps t) (inputCount t) p (furthest known v (sheetSteps t) (inputCount t) p)
+    sheet-furthest = furthest-made known v (sheetSteps t) (inputCount t) sheet-ordered p l
+
+    pub sheet-most : (q : ℕ) → Made known v (sheetSteps t) (inputCount t) p q → limitAt known v q ≤ limitAt known v (furthest known v (sheetSteps t) (inputCount t) p)
+    sheet-most q m = furthest-most known v (sheetSteps t) (inputCount t) sheet-ordered l m

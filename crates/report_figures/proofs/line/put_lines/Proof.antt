@@ -1,0 +1,53 @@
+use Prim.Native.Nat.{_-_}
+use mathlib.Core.Path.{refl, _∙_}
+use native.Mathlib.Omega.{arith}
+use borrow.Author.Needs.{needs}
+use lib.ListN.{length}
+use Rattle.model.specs.Report.{joined}
+use Rattle.report_lines.specs.Puts.{puts-none, puts-joined}
+use Rattle.model.specs.Figures.{figureText}
+use Rattle.report_figures.specs.Lines.{Putting, putting-end}
+use Rattle.report_figures.proofs.line.put_lines.Statement.{statement}
+use Rattle.report_figures.proofs.line.put_lines.Tie as tie
+
+abbrev Inv-loop : tie.InvT-loop
+Inv-loop h xs at to₀ next₀ p₀ to next p = Putting (joined (figureText h xs) p) (length xs) p at to₀ to next
+
+abbrev μ-loop : tie.MeasureT-loop
+μ-loop h xs at to₀ next₀ p₀ to next p = (length xs) - p
+
+loop-holds : tie.Need-loop-holds Inv-loop μ-loop
+unfolding joined
+loop-holds c = record { most = omega arith; len = refl; put = puts-none _ _ }
+
+put-figure-requires : tie.Need-put-figure-requires Inv-loop μ-loop
+put-figure-requires c κs = search needs
+
+add-p : tie.Need-add-p Inv-loop μ-loop
+add-p c = omega arith
+
+loop-less : tie.Need-loop-less Inv-loop μ-loop
+loop-less c = omega arith
+
+loop-again : tie.Need-loop-again Inv-loop μ-loop
+loop-again c = record { most = omega arith; len = c .before .before .put-figure .kept .1 .1 .1 .1 .0 ∙ c .before .before .before .before .before .loop .inv .len; put = puts-joined _ _ (c .before .before .before .before .before .loop .inv .put) (c .before .before .put-figure .ensures) }
+
+same-length : tie.Need-same-length Inv-loop μ-loop
+same-length c = c .before .loop .inv .len
+
+returns : tie.Need-returns Inv-loop μ-loop
+returns c = putting-end (joined (figureText (c .before .before .before .before .args .h) (c .before .before .before .before .args .xs .now))) (c .before .loop .inv) (c .loop-test .left)
+
+pub put-lines-spec : {M : Type 1} → statement M
+put-lines-spec =
+    tie.close
+    (tie.spec
+    Inv-loop
+    μ-loop
+    loop-holds
+    put-figure-requires
+    add-p
+    loop-less
+    loop-again
+    same-length
+    returns)

@@ -1,0 +1,51 @@
+use borrow.Author.Needs.{needs}
+use Prim.Native.Nat.{_-_}
+use native.Mathlib.Omega.{arith}
+use Rattle.report_lines.specs.Puts.{Putting, putting-none, putting-more, putting-end}
+use Rattle.model.specs.Report.{pairText}
+use Rattle.report_lines.proofs.lines.put_pairs.Statement.{statement}
+use Rattle.report_lines.proofs.lines.put_pairs.Tie as tie
+use Rattle.report_lines.proofs.lines.put_pairs.Reads as reads
+use Rattle.report_lines.proofs.lines.put_pairs.Lts as lts
+use Rattle.report_lines.proofs.lines.put_pair.Reads as put-pair-reads
+
+abbrev Inv-loop : tie.InvT-loop
+Inv-loop h at to₀ next₀ v₀ to next v = Putting (pairText h) 4 at to₀ to next v
+
+abbrev μ-loop : tie.MeasureT-loop
+μ-loop h at to₀ next₀ v₀ to next v = 4 - v
+
+loop-holds : tie.Need-loop-holds Inv-loop μ-loop
+loop-holds c = putting-none _ _ _ _
+
+put-pair-requires : tie.Need-put-pair-requires Inv-loop μ-loop
+put-pair-requires c κs = search needs
+
+add-v : tie.Need-add-v Inv-loop μ-loop
+add-v c = search needs
+
+loop-less : tie.Need-loop-less Inv-loop μ-loop
+loop-less c = search needs
+
+loop-again : tie.Need-loop-again Inv-loop μ-loop
+loop-again c = putting-more (c .before .before .before .before .before .loop .inv) (c .before .before .before .before .loop-test .taken) (omega arith) (c .before .before .put-pair .ensures)
+
+same-length : tie.Need-same-length Inv-loop μ-loop
+same-length c = c .before .loop .inv .len
+
+returns : tie.Need-returns Inv-loop μ-loop
+returns c = putting-end (c .before .loop .inv) (c .loop-test .left)
+
+pub put-pairs-spec : {M : Type 1} → statement M
+put-pairs-spec =
+    tie.close
+    (tie.spec
+    Inv-loop
+    μ-loop
+    loop-holds
+    put-pair-requires
+    add-v
+    loop-less
+    loop-again
+    same-length
+    returns)

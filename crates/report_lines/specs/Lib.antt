@@ -1,0 +1,4 @@
+pub mod Puts
+pub mod Before
+pub mod Columns
+pub mod Long

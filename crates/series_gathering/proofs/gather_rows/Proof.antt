@@ -1,0 +1,148 @@
+use native.Mathlib.Omega.{arith}
+use borrow.Author.Needs.{needs}
+use mathlib.Core.Path.{sym, ap, _∙_}
+use Prim.Native.Nat.{_+_, _-_, _*_, _≤_}
+use lib.ListN.{length}
+use Rattle.lists.specs.Four.{at}
+use Rattle.lists.specs.Table.{length-table}
+use Rattle.product_general.specs.Index.{inRow}
+use Rattle.product_general.specs.Pairs.{Paired, paired-none, paired-more}
+use Rattle.product_general.specs.Bounds.{row-small}
+use Rattle.series_gathering.specs.Gather.{pairAt, left-in, right-in, below, gathers, gather-step, gather-end}
+use Rattle.series_gathering.proofs.gather_rows.Statement.{statement}
+use Rattle.series_gathering.proofs.gather_rows.Tie as tie
+use Rattle.series_gathering.proofs.gather_rows.Reads as reads
+use Rattle.series_gathering.proofs.gather_rows.Lts as lts
+use Rattle.blocks.proofs.clear.Reads as clear-reads
+use Rattle.product_general.proofs.rows.Reads as rows-reads
+use Rattle.series_gathering.proofs.left_row.Reads as left-row-reads
+
+abbrev Inv-loop : tie.InvT-loop
+Inv-loop back xs lx ys r v k lo hi row₀ sx sr w t s j₀ row j = (j - lo ≤ hi - lo) × Paired (inRow r v) (pairAt back lx r v k xs ys) lo j row₀ row
+
+abbrev μ-loop : tie.MeasureT-loop
+μ-loop back xs lx ys r v k lo hi row₀ sx sr w t s j₀ row j = hi - j
+
+left : (c : tie.After-left-row Inv-loop μ-loop) → c .left-row .result * at ((c .before .before .before .before .before .before .before .before .before .before) .args .t4) ((c .before .before .before .before .before .before .before .before .before .before) .args .v) + at ((c .before .before .before .before .before .before .before .before .before .before) .args .t4) ((c .before .before .before .before .before .before .before .before .before .before) .args .v) ≤ length ((c .before .before .before .before .before .before .before .before .before .before) .args .xs .now)
+left c = left-in ((c .before .before .before .before .before .before .before .before .before .before) .pre .0) ((c .before .before .before .before .before .before .before .before .before .before) .args .xs .now) ((c .before .before .before .before .before .before .before .before .before .before) .args .ys .now) ((c .before .before .before .before .before .before .before .before .before .before) .pre .1 .0) ((c .before .before .before .before .before .before .before .before .before .before) .pre .1 .1) (c .before .before .loop .inv .1 .from) (c .before .loop-test .taken) (c .left-row .ensures)
+
+right : (c : tie.After-left-row Inv-loop μ-loop) → ((c .before .before .before .before .before .before .before .before .before .before) .args .k - c .left-row .result) * at ((c .before .before .before .before .before .before .before .before .before .before) .args .t7) ((c .before .before .before .before .before .before .before .before .before .before) .args .v) + at ((c .before .before .before .before .before .before .before .before .before .before) .args .t7) ((c .before .before .before .before .before .before .before .before .before .before) .args .v) ≤ length ((c .before .before .before .before .before .before .before .before .before .before) .args .ys .now)
+right c = right-in ((c .before .before .before .before .before .before .before .before .before .before) .pre .0) ((c .before .before .before .before .before .before .before .before .before .before) .args .xs .now) ((c .before .before .before .before .before .before .before .before .before .before) .args .ys .now) ((c .before .before .before .before .before .before .before .before .before .before) .pre .1 .0) ((c .before .before .before .before .before .before .before .before .before .before) .pre .1 .1) (c .before .before .loop .inv .1 .from) (c .before .loop-test .taken) (c .left-row .ensures)
+
+under : (c : tie.After-left-row Inv-loop μ-loop) → c .left-row .result ≤ (c .before .before .before .before .before .before .before .before .before .before) .args .k
+under c = below ((c .before .before .before .before .before .before .before .before .before .before) .pre .0) ((c .before .before .before .before .before .before .before .before .before .before) .args .xs .now) ((c .before .before .before .before .before .before .before .before .before .before) .args .ys .now) ((c .before .before .before .before .before .before .before .before .before .before) .pre .1 .0) ((c .before .before .before .before .before .before .before .before .before .before) .pre .1 .1) (c .before .before .loop .inv .1 .from) (c .before .loop-test .taken) (c .left-row .ensures)
+
+clear-requires : tie.Need-clear-requires Inv-loop μ-loop
+clear-requires c κs = search needs
+
+add-w : tie.Need-add-w Inv-loop μ-loop
+add-w c = let h = (c .before .before .before .before .before .before .before) .pre .1 .0 .some in omega arith
+
+mul-t : tie.Need-mul-t Inv-loop μ-loop
+mul-t c = let h = (c .before .before .before .before .before .before .before) .pre .1 .0 .some in omega arith
+
+array-read-t : tie.Need-array-read-t Inv-loop μ-loop
+array-read-t c = let h = (c .before .before .before .before .before .before .before) .pre .1 .0 .some in omega arith
+
+mul-s : tie.Need-mul-s Inv-loop μ-loop
+mul-s c = let h = (c .before .before .before .before .before .before .before) .pre .1 .0 .some in omega arith
+
+array-read-s : tie.Need-array-read-s Inv-loop μ-loop
+array-read-s c = let h = (c .before .before .before .before .before .before .before) .pre .1 .0 .some in omega arith
+
+loop-holds : tie.Need-loop-holds Inv-loop μ-loop
+loop-holds c = (omega arith, paired-none (ap length (c .before .before .clear .ensures) ∙ (length-table _ _ ∙ (c .before .before .before .before .before .before .before) .pre .1 .0 .full)))
+
+left-row-requires : tie.Need-left-row-requires Inv-loop μ-loop
+left-row-requires c κs = omega (arith, (c .before .before .before .before .before .before .before .before .before) .pre .1 .1 .turns, c .loop-test .taken)
+
+mul-p : tie.Need-mul-p Inv-loop μ-loop
+mul-p c = omega (arith, left (c))
+
+sub-q : tie.Need-sub-q Inv-loop μ-loop
+sub-q c = under (c)
+
+mul-q : tie.Need-mul-q Inv-loop μ-loop
+mul-q c = omega (arith, right (c))
+
+add-rows : tie.Need-add-rows Inv-loop μ-loop
+add-rows c = omega (arith, left (c))
+
+mul-rows : tie.Need-mul-rows Inv-loop μ-loop
+mul-rows c = omega (arith, left (c))
+
+sub-rows : tie.Need-sub-rows Inv-loop μ-loop
+sub-rows c = omega (arith, left (c))
+
+part-rows-start : tie.Need-part-rows-start Inv-loop μ-loop
+part-rows-start c = omega (arith, left (c))
+
+part-rows-end : tie.Need-part-rows-end Inv-loop μ-loop
+part-rows-end c = omega (arith, left (c))
+
+add-rows-2 : tie.Need-add-rows-2 Inv-loop μ-loop
+add-rows-2 c = omega (arith, right (c .before))
+
+mul-rows-2 : tie.Need-mul-rows-2 Inv-loop μ-loop
+mul-rows-2 c = omega (arith, right (c .before))
+
+sub-rows-2 : tie.Need-sub-rows-2 Inv-loop μ-loop
+sub-rows-2 c = omega (arith, right (c .before))
+
+part-rows-start-2 : tie.Need-part-rows-start-2 Inv-loop μ-loop
+part-rows-start-2 c = omega (arith, right (c .before))
+
+part-rows-end-2 : tie.Need-part-rows-end-2 Inv-loop μ-loop
+part-rows-end-2 c = omega (arith, right (c .before))
+
+rows-requires : tie.Need-rows-requires Inv-loop μ-loop
+rows-requires c κs = ((c .before .before .before .before .before .before .before .before .before .before .before .before .before) .pre .0, gathers ((c .before .before .before .before .before .before .before .before .before .before .before .before .before) .pre .0) ((c .before .before .before .before .before .before .before .before .before .before .before .before .before) .args .xs .now) ((c .before .before .before .before .before .before .before .before .before .before .before .before .before) .args .ys .now) ((c .before .before .before .before .before .before .before .before .before .before .before .before .before) .pre .1 .0) ((c .before .before .before .before .before .before .before .before .before .before .before .before .before) .pre .1 .1) (c .before .before .before .before .before .loop .inv .1 .from) (c .before .before .before .before .loop-test .taken) (c .before .before .before .left-row .ensures) (c .before .before .before .before .before .loop .inv .1 .len))
+
+add-j : tie.Need-add-j Inv-loop μ-loop
+add-j c = omega (arith, (c .before .before .before .before .before .before .before .before .before .before .before .before .before .before .before .before) .pre .1 .1 .turns, c .before .before .before .before .before .before .before .loop-test .taken, row-small ((c .before .before .before .before .before .before .before .before .before .before .before .before .before .before .before .before) .pre .0 .result) ((c .before .before .before .before .before .before .before .before .before .before .before .before .before .before .before .before) .pre .1 .0 .some) ((c .before .before .before .before .before .before .before .before .before .before .before .before .before .before .before .before) .pre .1 .0 .turn))
+
+loop-less : tie.Need-loop-less Inv-loop μ-loop
+loop-less c = omega (arith, c .before .before .before .before .before .before .before .loop-test .taken)
+
+loop-again : tie.Need-loop-again Inv-loop μ-loop
+loop-again c = let f = c .before .before .before .before .before .before .before .before .loop .inv .1 .from in (omega (arith, c .before .before .before .before .before .before .before .loop-test .taken), paired-more (c .before .before .before .before .before .before .before .before .loop .inv .1) (gather-step ((c .before .before .before .before .before .before .before .before .before .before .before .before .before .before .before .before) .pre .0) ((c .before .before .before .before .before .before .before .before .before .before .before .before .before .before .before .before) .args .xs .now) ((c .before .before .before .before .before .before .before .before .before .before .before .before .before .before .before .before) .args .ys .now) ((c .before .before .before .before .before .before .before .before .before .before .before .before .before .before .before .before) .pre .1 .0) ((c .before .before .before .before .before .before .before .before .before .before .before .before .before .before .before .before) .pre .1 .1) (c .before .before .before .before .before .before .before .before .loop .inv .1 .from) (c .before .before .before .before .before .before .before .loop-test .taken) (c .before .before .before .before .before .before .left-row .ensures) (c .before .before .before .before .before .before .before .before .loop .row) (c .before .before .rows .ensures)))
+
+same-length : tie.Need-same-length Inv-loop μ-loop
+same-length c = c .before .loop .inv .1 .len ∙ sym ((c .before .before .before .before .before .before .before .before .before) .pre .1 .0 .full)
+
+returns : tie.Need-returns Inv-loop μ-loop
+returns c = let f = c .before .loop .inv .1 .from in gather-end ((c .before .before .before .before .before .before .before .before .before) .args .back) ((c .before .before .before .before .before .before .before .before .before) .args .lx) ((c .before .before .before .before .before .before .before .before .before) .args .r) ((c .before .before .before .before .before .before .before .before .before) .args .v) ((c .before .before .before .before .before .before .before .before .before) .args .k) ((c .before .before .before .before .before .before .before .before .before) .args .lo) ((c .before .before .before .before .before .before .before .before .before) .args .hi) ((c .before .before .before .before .before .before .before .before .before) .args .xs .now) ((c .before .before .before .before .before .before .before .before .before) .args .ys .now) (c .before .loop .inv .1) (c .before .before .before .before .clear .ensures) ((c .before .before .before .before .before .before .before .before .before) .pre .1 .0 .full) (omega (arith, c .before .loop .inv .0, c .loop-test .left))
+
+pub gather-rows-spec : {M : Type 1} → statement M
+gather-rows-spec =
+    tie.close
+    (tie.spec
+    Inv-loop
+    μ-loop
+    clear-requires
+    add-w
+    mul-t
+    array-read-t
+    mul-s
+    array-read-s
+    loop-holds
+    left-row-requires
+    mul-p
+    sub-q
+    mul-q
+    add-rows
+    mul-rows
+    sub-rows
+    part-rows-start
+    part-rows-end
+    add-rows-2
+    mul-rows-2
+    sub-rows-2
+    part-rows-start-2
+    part-rows-end-2
+    rows-requires
+    add-j
+    loop-less
+    loop-again
+    same-length
+    returns)

@@ -1,0 +1,36 @@
+use mathlib.Core.Bool.{false}
+use mathlib.Core.List.{List}
+use mathlib.Core.Path.{ap, _∙_}
+use lib.ListN.{getD}
+use lib.Ieee.{Float, nan}
+use Rattle.lists.specs.Table.{table}
+use Rattle.model.specs.Header.{count}
+use Rattle.model.specs.Places.{index}
+use Rattle.model.specs.Poly.{block}
+use Rattle.model.specs.Add.{joinAt}
+use borrow.Author.Needs.{needs}
+use Rattle.series_log.proofs.add_operand.Statement.{statement}
+use Rattle.series_log.proofs.add_operand.Tie as tie
+use Rattle.series_log.proofs.add_operand.Reads as reads
+use Rattle.series_log.proofs.add_operand.Lts as lts
+use Rattle.blocks.proofs.join_block.Reads as join-block-reads
+use Rattle.series_scaling.proofs.multiply.Reads as multiply-reads
+
+multiply-requires : tie.Need-multiply-requires
+multiply-requires c κs = search needs
+
+join-block-requires : tie.Need-join-block-requires
+join-block-requires c κs = search needs
+
+same-length : tie.Need-same-length
+same-length c = search needs
+
+same-length-2 : tie.Need-same-length-2
+same-length-2 c = search needs
+
+returns : tie.Need-returns
+returns c = c .before .before .join-block .ensures ∙ ap (λ (l : List Float). table (count ((c .before .before .before .before .before .before .before .before .before .before .before .before) .args .ar)) (λ i. joinAt false (getD ((c .before .before .before .before .before .before .before .before .before .before .before .before) .args .row .now) i nan) (block ((c .before .before .before .before .before .before .before .before .before .before .before .before) .args .ax) l) (index ((c .before .before .before .before .before .before .before .before .before .before .before .before) .args .ar) i))) (c .before .before .before .before .before .before .before .multiply .ensures)
+
+pub add-operand-spec : {M : Type 1} → statement M
+add-operand-spec =
+    tie.close (tie.spec multiply-requires join-block-requires same-length same-length-2 returns)

@@ -1,0 +1,28 @@
+use Rattle.model.specs.Header.{goodHeader}
+use mathlib.Core.Path.{refl, sym, _∙_}
+use Rattle.shape_words.specs.Rules.{good-vars}
+use Rattle.shape_words.specs.Lengths.{lengths-of}
+use borrow.Author.Needs.{needs}
+use Rattle.shape_words.proofs.word.good_header.Statement.{statement}
+use Rattle.shape_words.proofs.word.good_header.Tie as tie
+use Rattle.shape_words.proofs.word.good_header.Reads as reads
+use Rattle.shape_words.proofs.word.good_header.Lts as lts
+use Rattle.shape_words.proofs.places.count_of.Reads as count-of-reads
+use Rattle.shape_words.proofs.word.good_vars.Reads as good-vars-reads
+
+good-vars-requires : tie.Need-good-vars-requires
+good-vars-requires c κs = search needs
+
+count-of-requires : tie.Need-count-of-requires
+count-of-requires c κs = lengths-of (good-vars _ (sym (c .before .before .good-vars .ensures) ∙ c .before .if1 .taken))
+
+returns : tie.Need-returns
+unfolding goodHeader
+returns c = simp (c .count-of .ensures, ← c .before .before .before .good-vars .ensures, c .before .before .if1 .taken)
+
+returns-2 : tie.Need-returns-2
+unfolding goodHeader
+returns-2 c = simp (← c .before .good-vars .ensures, c .if1 .left)
+
+pub good-header-spec : {M : Type 1} → statement M
+good-header-spec = tie.close (tie.spec good-vars-requires count-of-requires returns returns-2)

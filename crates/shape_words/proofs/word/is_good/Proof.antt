@@ -1,0 +1,22 @@
+use lib.Bits.{and-mask}
+use Rattle.model.specs.Word.{goodWord}
+use borrow.Author.Needs.{needs}
+use Rattle.shape_words.proofs.word.is_good.Statement.{statement}
+use Rattle.shape_words.proofs.word.is_good.Tie as tie
+use Rattle.shape_words.proofs.word.is_good.Reads as reads
+use Rattle.shape_words.proofs.word.is_good.Lts as lts
+use Rattle.shape_words.proofs.word.good_header.Reads as good-header-reads
+use Rattle.shape_words.proofs.word.header_of.Reads as header-of-reads
+
+header-of-requires : tie.Need-header-of-requires
+header-of-requires c κs = search needs
+
+good-header-requires : tie.Need-good-header-requires
+good-header-requires c κs = search needs
+
+returns : tie.Need-returns
+unfolding goodWord
+returns c = simp (c .good-header .ensures, c .before .header-of .ensures, and-mask ((c .before .before) .args .word) 13)
+
+pub is-good-spec : {M : Type 1} → statement M
+is-good-spec = tie.close (tie.spec header-of-requires good-header-requires returns)

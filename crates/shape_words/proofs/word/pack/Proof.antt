@@ -1,0 +1,98 @@
+use Rattle.shape_words.specs.Words.{step, fields-lt}
+use Prim.Native.Nat.{ℕ, _*_, _^_, _%_, _<_}
+use mathlib.Core.Path.{_≡_, ap, _∙_}
+use lib.Pow.{shl-exact}
+use native.Mathlib.Omega.{arith}
+use Rattle.model.specs.Word.{fields, wordOf}
+use borrow.Author.Needs.{needs}
+use Rattle.shape_words.proofs.word.pack.Statement.{statement}
+use Rattle.shape_words.proofs.word.pack.Tie as tie
+use Rattle.shape_words.proofs.word.pack.Reads as reads
+use Rattle.shape_words.proofs.word.pack.Lts as lts
+use Rattle.shape_words.proofs.word.push.Reads as push-reads
+
+array-read-push : tie.Need-array-read-push
+array-read-push c = search needs
+
+push-requires : tie.Need-push-requires
+push-requires c κs = search needs
+
+array-read-push-2 : tie.Need-array-read-push-2
+array-read-push-2 c = search needs
+
+push-requires-2 : tie.Need-push-requires-2
+push-requires-2 c κs = search needs
+
+array-read-push-3 : tie.Need-array-read-push-3
+array-read-push-3 c = search needs
+
+push-requires-3 : tie.Need-push-requires-3
+push-requires-3 c κs = search needs
+
+array-read-push-4 : tie.Need-array-read-push-4
+array-read-push-4 c = search needs
+
+push-requires-4 : tie.Need-push-requires-4
+push-requires-4 c κs = search needs
+
+array-read-push-5 : tie.Need-array-read-push-5
+array-read-push-5 c = search needs
+
+push-requires-5 : tie.Need-push-requires-5
+push-requires-5 c κs = search needs
+
+array-read-push-6 : tie.Need-array-read-push-6
+array-read-push-6 c = search needs
+
+push-requires-6 : tie.Need-push-requires-6
+push-requires-6 c κs = search needs
+
+array-read-push-7 : tie.Need-array-read-push-7
+array-read-push-7 c = search needs
+
+push-requires-7 : tie.Need-push-requires-7
+push-requires-7 c κs = search needs
+
+array-read-push-8 : tie.Need-array-read-push-8
+array-read-push-8 c = search needs
+
+push-requires-8 : tie.Need-push-requires-8
+push-requires-8 c κs =
+    let g = (c .before .before .before .before .before .before .before .before .before) .pre in
+    let s0 : (c .before .before .before .before .before .before .before .before .before) .args .h .vars < 8 = omega (arith, g .few) in
+    let s1 = step 8 (c .before .before .before .before .before .before .push .ensures) s0 (omega (arith, g .v0)) (g .v0 .most) in
+    let s2 = step (2 ^ 9) (c .before .before .before .before .before .push2 .ensures) s1 (g .v0 .pos) (omega (arith, g .v0)) in
+    let s3 = step (2 ^ 15) (c .before .before .before .before .push3 .ensures) s2 (omega (arith, g .v1)) (g .v1 .most) in
+    let s4 = step (2 ^ 21) (c .before .before .before .push4 .ensures) s3 (g .v1 .pos) (omega (arith, g .v1)) in
+    let s5 = step (2 ^ 27) (c .before .before .push5 .ensures) s4 (omega (arith, g .v2)) (g .v2 .most) in
+    let s6 = step (2 ^ 33) (c .before .push6 .ensures) s5 (g .v2 .pos) (omega (arith, g .v2)) in
+    let s7 = step (2 ^ 39) (c .push7 .ensures) s6 (omega (arith, g .v3)) (g .v3 .most) in
+    (omega (arith, s7), (g .v3 .pos, omega (arith, g .v3)))
+
+returns : tie.Need-returns
+unfolding fields wordOf
+returns c =
+    let e : c .push8 .result ≡ fields ((c .before .before .before .before .before .before .before .before .before .before) .args .h) = simp (c .push8 .ensures, c .before .push7 .ensures, c .before .before .push6 .ensures, c .before .before .before .push5 .ensures, c .before .before .before .before .push4 .ensures, c .before .before .before .before .before .push3 .ensures, c .before .before .before .before .before .before .push2 .ensures, c .before .before .before .before .before .before .before .push .ensures) in
+    ap (λ (n : ℕ). n * 2 ^ 13 % 2 ^ 64) e ∙ shl-exact 51 13 64 (fields-lt _ ((c .before .before .before .before .before .before .before .before .before .before) .pre)) (search needs)
+
+pub pack-spec : {M : Type 1} → statement M
+pack-spec =
+    tie.close
+    (tie.spec
+    array-read-push
+    push-requires
+    array-read-push-2
+    push-requires-2
+    array-read-push-3
+    push-requires-3
+    array-read-push-4
+    push-requires-4
+    array-read-push-5
+    push-requires-5
+    array-read-push-6
+    push-requires-6
+    array-read-push-7
+    push-requires-7
+    array-read-push-8
+    push-requires-8
+    returns)

@@ -1,0 +1,61 @@
+use borrow.Author.Needs.{needs}
+use Prim.Native.Nat.{_-_}
+use lib.ListN.{length}
+use native.Mathlib.Omega.{arith}
+use Rattle.sheet_text.specs.Put.{put-len}
+use Rattle.sheet_text.specs.Texts.{PutFloats, floats-none, floats-next, floats-put, floats-end}
+use Rattle.sheet_text.proofs.print.put_floats.Statement.{statement}
+use Rattle.sheet_text.proofs.print.put_floats.Tie as tie
+
+abbrev Inv-loop : tie.InvT-loop
+Inv-loop xs at to₀ next₀ k₀ to next k = PutFloats xs at to₀ to next k
+
+abbrev μ-loop : tie.MeasureT-loop
+μ-loop xs at to₀ next₀ k₀ to next k = length xs - k
+
+loop-holds : tie.Need-loop-holds Inv-loop μ-loop
+loop-holds c = floats-none _ _ _ (omega arith)
+
+mul-word-of : tie.Need-mul-word-of Inv-loop μ-loop
+mul-word-of c = search needs
+
+shared-slice-read-word-of : tie.Need-shared-slice-read-word-of Inv-loop μ-loop
+shared-slice-read-word-of c = search needs
+
+word-of-requires : tie.Need-word-of-requires Inv-loop μ-loop
+word-of-requires c κs = search needs
+
+put-line-requires : tie.Need-put-line-requires Inv-loop μ-loop
+put-line-requires c κs = omega (arith, floats-next (c .before .before .before .before .loop .inv), put-len (c .before .before .before .before .loop .inv .put))
+
+add-k : tie.Need-add-k Inv-loop μ-loop
+add-k c = search needs
+
+loop-less : tie.Need-loop-less Inv-loop μ-loop
+loop-less c = search needs
+
+loop-again : tie.Need-loop-again Inv-loop μ-loop
+loop-again c = floats-put (c .before .before .before .before .before .before .before .loop .inv) (c .before .before .before .before .before .before .loop-test .taken) (c .before .before .before .before .word-of .ensures) (c .before .before .put-line .ensures)
+
+same-length : tie.Need-same-length Inv-loop μ-loop
+same-length c = put-len (c .before .loop .inv .put)
+
+returns : tie.Need-returns Inv-loop μ-loop
+returns c = floats-end (c .before .loop .inv) (c .loop-test .left)
+
+pub put-floats-spec : {M : Type 1} → statement M
+put-floats-spec =
+    tie.close
+    (tie.spec
+    Inv-loop
+    μ-loop
+    loop-holds
+    mul-word-of
+    shared-slice-read-word-of
+    word-of-requires
+    put-line-requires
+    add-k
+    loop-less
+    loop-again
+    same-length
+    returns)

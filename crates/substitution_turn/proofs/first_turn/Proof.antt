@@ -1,0 +1,23 @@
+use Rattle.substitution_turn.specs.Turn.{first-some, first-adding, first-turned}
+use borrow.Author.Needs.{needs}
+use Rattle.substitution_turn.proofs.first_turn.Statement.{statement}
+use Rattle.substitution_turn.proofs.first_turn.Tie as tie
+
+zero-to-requires : tie.Need-zero-to-requires
+zero-to-requires c κs = first-some (c .before .before .before .pre)
+
+plus-row-requires : tie.Need-plus-row-requires
+plus-row-requires c κs = first-adding (c .before .before .before .before .before .before .before .before .pre) (c .before .before .before .before .zero-to .ensures) (c .before .before .before .before .zero-to .kept .0)
+
+same-length : tie.Need-same-length
+same-length c = search needs
+
+same-length-2 : tie.Need-same-length-2
+same-length-2 c = search needs
+
+returns : tie.Need-returns
+returns c = first-turned (c .before .before .before .before .before .before .before .before .before .before .before .before .before .pre) (c .before .before .before .before .before .before .before .before .before .zero-to .ensures) (c .before .before .before .before .plus-row .ensures)
+
+pub first-turn-spec : {M : Type 1} → statement M
+first-turn-spec =
+    tie.close (tie.spec zero-to-requires plus-row-requires same-length same-length-2 returns)

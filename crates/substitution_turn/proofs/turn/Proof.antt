@@ -1,0 +1,48 @@
+use native.Mathlib.Omega.{arith}
+use mathlib.Core.Path.{refl, ap}
+use Prim.Native.Nat.{ℕ, _+_}
+use Rattle.substitution_turn.specs.Turn.{turn-lens, turn-small, turn-room, turn-adding, turn-turned}
+use borrow.Author.Needs.{needs}
+use Rattle.substitution_turn.proofs.turn.Statement.{statement}
+use Rattle.substitution_turn.proofs.turn.Tie as tie
+
+count-of-requires : tie.Need-count-of-requires
+count-of-requires c κs = turn-lens (c .before .before .pre) .0
+
+add-end : tie.Need-add-end
+add-end c = let s = turn-small (c .before .before .before .pre) in omega (arith, c .count-of .ensures, c .before .before .before .pre .small)
+
+count-of-requires-2 : tie.Need-count-of-requires-2
+count-of-requires-2 c κs = turn-lens (c .before .before .before .pre) .1
+
+mul-times-put : tie.Need-mul-times-put
+mul-times-put c = omega (arith, c .before .before .before .before .before .pre .small)
+
+times-put-requires : tie.Need-times-put-requires
+times-put-requires c κs = turn-room (c .before .before .before .before .before .before .pre) (c .before .before .before .before .before .before .args .work .now) refl (ap (λ (x : ℕ). c .before .before .before .before .before .before .args .n + x) (c .before .before .before .count-of .ensures)) (c .before .before .count-of2 .ensures)
+
+plus-row-requires : tie.Need-plus-row-requires
+plus-row-requires c κs = turn-adding (c .before .before .before .before .before .before .before .before .before .before .before .before .before .pre) (c .before .before .before .before .before .before .before .before .before .before .before .before .before .args .work .now) refl (ap (λ (x : ℕ). c .before .before .before .before .before .before .before .before .before .before .before .before .before .args .n + x) (c .before .before .before .before .before .before .before .before .before .before .count-of .ensures)) (c .before .before .before .before .before .before .before .before .before .count-of2 .ensures) (c .before .before .before .before .before .before .times-put .ensures) (c .before .before .before .before .before .before .times-put .kept .1 .1 .1 .1 .1 .1 .1 .1 .1 .0) (c .before .before .before .before .before .before .times-put .kept .0)
+
+same-length : tie.Need-same-length
+same-length c = search needs
+
+same-length-2 : tie.Need-same-length-2
+same-length-2 c = search needs
+
+returns : tie.Need-returns
+returns c = turn-turned (c .before .before .before .before .before .before .before .before .before .before .before .before .before .before .before .before .before .before .pre) (c .before .before .before .before .before .before .before .before .before .before .before .before .before .before .before .before .before .before .args .work .now) refl (ap (λ (x : ℕ). c .before .before .before .before .before .before .before .before .before .before .before .before .before .before .before .before .before .before .args .n + x) (c .before .before .before .before .before .before .before .before .before .before .before .before .before .before .before .count-of .ensures)) (c .before .before .before .before .before .before .before .before .before .before .before .before .before .before .count-of2 .ensures) (c .before .before .before .before .before .before .before .before .before .before .before .times-put .ensures) (c .before .before .before .before .plus-row .ensures)
+
+pub turn-spec : {M : Type 1} → statement M
+turn-spec =
+    tie.close
+    (tie.spec
+    count-of-requires
+    add-end
+    count-of-requires-2
+    mul-times-put
+    times-put-requires
+    plus-row-requires
+    same-length
+    same-length-2
+    returns)

@@ -1,0 +1,110 @@
+use native.Mathlib.Omega.{arith}
+use mathlib.Core.Path.{_≡_, refl, sym, ap, _∙_}
+use mathlib.Core.List.{List}
+use Prim.Native.Nat.{ℕ, _+_, _-_, _*_, _≤_}
+use lib.ListN.{length, take, drop, length-take, length-drop}
+use lib.Seq.{length-take-le}
+use lib.Ieee.{Float}
+use Rattle.model.specs.Header.{count}
+use Rattle.sums_cut.specs.Summing.{Summing, small-a, small-b, summing-two, summing-lens, summing-combine, summing-is}
+use borrow.Author.Needs.{needs}
+use Rattle.sums_cut.proofs.sum_into.Statement.{statement}
+use Rattle.sums_cut.proofs.sum_into.Tie as tie
+use Rattle.sums_cut.proofs.sum_into.Reads as reads
+use Rattle.sums_cut.proofs.sum_into.Lts as lts
+use Rattle.blocks.proofs.combine.Reads as combine-reads
+use Rattle.blocks.proofs.load_two.Reads as load-two-reads
+use Rattle.shape.proofs.limits.cut_to.Reads as cut-to-reads
+use Rattle.shape_words.proofs.places.count_of.Reads as count-of-reads
+
+kept : (c : tie.After-load-two) → length (c .load-two .last .1 .1 .1 .1 .1 .1 .1 .0) ≡ length ((c .before .before .before .before .before .before .before .before) .args .work .now)
+kept c = c .load-two .kept .1 .1 .1 .1 .1 .1 .1 .0
+
+ends : (c : tie.After-count-of2) → (c .before .count-of .result ≤ (c .before .before .before .before .before .before .before .before .before .before .before .before) .args .n) × ((c .before .before .before .before .before .before .before .before .before .before .before .before) .args .n + c .count-of2 .result ≤ length ((c .before .before .before .before .before .before .before .before .before .before .before .before) .args .work .now))
+ends c =
+    let p = (c .before .before .before .before .before .before .before .before .before .before .before .before) .pre in
+    let w = p .work in
+    (omega (arith, c .before .count-of .ensures, small-a (p) (c .before .before .before .before .before .before .before .cut-to .ensures) (c .before .before .before .before .before .before .cut-to2 .ensures)), omega (arith, c .count-of2 .ensures, small-b (p) (c .before .before .before .before .before .before .before .cut-to .ensures) (c .before .before .before .before .before .before .cut-to2 .ensures)))
+
+first-part : (c : tie.After-count-of2) → take (c .before .count-of .result - 0) (drop 0 (c .before .before .before .before .load-two .last .1 .1 .1 .1 .1 .1 .1 .0)) ≡ take (c .before .count-of .result) (c .before .before .before .before .load-two .last .1 .1 .1 .1 .1 .1 .1 .0)
+first-part c = let e : c .before .count-of .result - 0 ≡ c .before .count-of .result = omega arith in ap (λ (k : ℕ). take k (c .before .before .before .before .load-two .last .1 .1 .1 .1 .1 .1 .1 .0)) e
+
+second-part : (c : tie.After-count-of2) → take ((c .before .before .before .before .before .before .before .before .before .before .before .before) .args .n + c .count-of2 .result - (c .before .before .before .before .before .before .before .before .before .before .before .before) .args .n) (drop ((c .before .before .before .before .before .before .before .before .before .before .before .before) .args .n) (c .before .before .before .before .load-two .last .1 .1 .1 .1 .1 .1 .1 .0)) ≡ take (c .count-of2 .result) (drop ((c .before .before .before .before .before .before .before .before .before .before .before .before) .args .n) (c .before .before .before .before .load-two .last .1 .1 .1 .1 .1 .1 .1 .0))
+second-part c =
+    let a = (c .before .before .before .before .before .before .before .before .before .before .before .before) .args in
+    let e : a .n + c .count-of2 .result - a .n ≡ c .count-of2 .result = omega arith in ap (λ (k : ℕ). take k (drop (a .n) (c .before .before .before .before .load-two .last .1 .1 .1 .1 .1 .1 .1 .0))) e
+
+cut-to-requires : tie.Need-cut-to-requires
+cut-to-requires c κs = search needs
+
+cut-to-requires-2 : tie.Need-cut-to-requires-2
+cut-to-requires-2 c κs = search needs
+
+load-two-requires : tie.Need-load-two-requires
+load-two-requires c κs = summing-two ((c .before .before .before .before .before .before .before) .pre) (c .before .before .cut-to .ensures) (c .before .cut-to2 .ensures)
+
+count-of-requires : tie.Need-count-of-requires
+count-of-requires c κs = summing-lens ((c .before .before .before .before .before .before .before .before .before .before) .pre) (c .before .before .before .before .before .cut-to .ensures) (c .before .before .before .before .cut-to2 .ensures) .0
+
+count-of-requires-2 : tie.Need-count-of-requires-2
+count-of-requires-2 c κs = summing-lens ((c .before .before .before .before .before .before .before .before .before .before .before) .pre) (c .before .before .before .before .before .before .cut-to .ensures) (c .before .before .before .before .before .cut-to2 .ensures) .1
+
+add-end : tie.Need-add-end
+add-end c = omega (arith, ends (c))
+
+sub-combine : tie.Need-sub-combine
+sub-combine c = search needs
+
+part-combine-start : tie.Need-part-combine-start
+part-combine-start c = search needs
+
+part-combine-end : tie.Need-part-combine-end
+part-combine-end c = omega (arith, ends (c .before), kept (c .before .before .before .before .before))
+
+mul-combine : tie.Need-mul-combine
+mul-combine c = search needs
+
+sub-combine-2 : tie.Need-sub-combine-2
+sub-combine-2 c = search needs
+
+part-combine-start-2 : tie.Need-part-combine-start-2
+part-combine-start-2 c = search needs
+
+part-combine-end-2 : tie.Need-part-combine-end-2
+part-combine-end-2 c = omega (arith, ends (c .before .before), kept (c .before .before .before .before .before .before))
+
+combine-requires : tie.Need-combine-requires
+combine-requires c κs = let e = ends (c .before .before .before .before) in let k = kept (c .before .before .before .before .before .before .before .before) in summing-combine ((c .before .before .before .before .before .before .before .before .before .before .before .before .before .before .before .before) .pre) (c .before .before .before .before .before .before .before .before .before .before .before .cut-to .ensures) (c .before .before .before .before .before .before .before .before .before .before .cut-to2 .ensures) (simp (length-take, length-drop) (omega (arith, c .before .before .before .before .before .count-of .ensures))) (simp (length-take, length-drop) (omega (arith, c .before .before .before .before .count-of2 .ensures))) refl
+
+same-length : tie.Need-same-length
+same-length c = search needs
+
+same-length-2 : tie.Need-same-length-2
+same-length-2 c = search needs
+
+returns : tie.Need-returns
+returns c =
+    let a = (c .before .before .before .before .before .before .before .before .before .before .before .before .before .before .before .before .before .before .before) .args in
+    summing-is ((c .before .before .before .before .before .before .before .before .before .before .before .before .before .before .before .before .before .before .before) .pre) (c .before .before .before .before .before .before .before .before .before .before .before .before .before .before .cut-to .ensures) (c .before .before .before .before .before .before .before .before .before .before .before .before .before .cut-to2 .ensures) (a .minus) (a .a .now) (a .b .now) (c .before .before .before .before .before .before .before .before .before .before .before .load-two .last .1 .1 .1 .1 .1 .1 .1 .0) (c .before .before .before .before .before .before .before .before .before .before .before .load-two .ensures) (rw (← c .before .before .before .before .before .before .before .before .count-of .ensures) (first-part (c .before .before .before .before .before .before .before))) (rw (← c .before .before .before .before .before .before .before .count-of2 .ensures) (second-part (c .before .before .before .before .before .before .before))) (c .before .before .combine .ensures)
+
+pub sum-into-spec : {M : Type 1} → statement M
+sum-into-spec =
+    tie.close
+    (tie.spec
+    cut-to-requires
+    cut-to-requires-2
+    load-two-requires
+    count-of-requires
+    count-of-requires-2
+    add-end
+    sub-combine
+    part-combine-start
+    part-combine-end
+    mul-combine
+    sub-combine-2
+    part-combine-start-2
+    part-combine-end-2
+    combine-requires
+    same-length
+    same-length-2
+    returns)
