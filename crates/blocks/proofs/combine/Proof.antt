@@ -17,9 +17,6 @@ first-joined-requires c κs =
     let p = (c .before .before .before .before .before) .pre in
     (combine-some (p), combine-left (p) (c .before .if1 .taken))
 
-same-length : tie.Need-same-length
-same-length c = search needs
-
 returns : tie.Need-returns
 returns c =
     let a = (c .before .before .before .before .before .before .before .before) .args in
@@ -30,9 +27,6 @@ turned-joined-requires c κs =
     let p = (c .before .before .before .before .before .before) .pre in
     (combine-some (p), combine-right (p) (c .before .if2 .taken))
 
-same-length-2 : tie.Need-same-length-2
-same-length-2 c = search needs
-
 returns-2 : tie.Need-returns-2
 returns-2 c =
     let a' = (c .before .before .before .before .before .before .before .before .before) .args in
@@ -41,9 +35,6 @@ returns-2 c =
 
 join-both-requires : tie.Need-join-both-requires
 join-both-requires c κs = (c .before .before .before .before .before .before) .pre
-
-same-length-3 : tie.Need-same-length-3
-same-length-3 c = search needs
 
 returns-3 : tie.Need-returns-3
 returns-3 c =
@@ -56,11 +47,11 @@ combine-spec =
     tie.close
     (tie.spec
     first-joined-requires
-    same-length
+    (λ c. search needs)
     returns
     turned-joined-requires
-    same-length-2
+    (λ c. search needs)
     returns-2
     join-both-requires
-    same-length-3
+    (λ c. search needs)
     returns-3)

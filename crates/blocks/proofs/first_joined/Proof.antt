@@ -11,24 +11,6 @@ use Rattle.blocks.proofs.first_joined.Lts as lts
 use Rattle.blocks.proofs.copy.Reads as copy-reads
 use Rattle.blocks.proofs.joined.Reads as joined-reads
 
-copy-requires : tie.Need-copy-requires
-copy-requires c κs = search needs
-
-shared-slice-read-joined : tie.Need-shared-slice-read-joined
-shared-slice-read-joined c = search needs
-
-shared-slice-read-joined-2 : tie.Need-shared-slice-read-joined-2
-shared-slice-read-joined-2 c = search needs
-
-joined-requires : tie.Need-joined-requires
-joined-requires c κs = search needs
-
-slice-write-to : tie.Need-slice-write-to
-slice-write-to c = search needs
-
-same-length : tie.Need-same-length
-same-length c = search needs
-
 returns : tie.Need-returns
 returns c =
     let a = (c .before .before .before .before .before .before .before .before .before .before) .args in
@@ -38,10 +20,10 @@ pub first-joined-spec : {M : Type 1} → statement M
 first-joined-spec =
     tie.close
     (tie.spec
-    copy-requires
-    shared-slice-read-joined
-    shared-slice-read-joined-2
-    joined-requires
-    slice-write-to
-    same-length
+    (λ c κs. search needs)
+    (λ c. search needs)
+    (λ c. search needs)
+    (λ c κs. search needs)
+    (λ c. search needs)
+    (λ c. search needs)
     returns)

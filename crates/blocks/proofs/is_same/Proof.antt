@@ -6,30 +6,6 @@ use Rattle.blocks.proofs.is_same.Tie as tie
 use Rattle.blocks.proofs.is_same.Reads as reads
 use Rattle.blocks.proofs.is_same.Lts as lts
 
-array-read-result : tie.Need-array-read-result
-array-read-result c = search needs
-
-array-read-result-2 : tie.Need-array-read-result-2
-array-read-result-2 c = search needs
-
-array-read-result-3 : tie.Need-array-read-result-3
-array-read-result-3 c = search needs
-
-array-read-result-4 : tie.Need-array-read-result-4
-array-read-result-4 c = search needs
-
-array-read-result-5 : tie.Need-array-read-result-5
-array-read-result-5 c = search needs
-
-array-read-result-6 : tie.Need-array-read-result-6
-array-read-result-6 c = search needs
-
-array-read-result-7 : tie.Need-array-read-result-7
-array-read-result-7 c = search needs
-
-array-read-result-8 : tie.Need-array-read-result-8
-array-read-result-8 c = search needs
-
 returns : tie.Need-returns
 unfolding sameLengths
 returns c = refl
@@ -38,12 +14,12 @@ pub is-same-spec : {M : Type 1} → statement M
 is-same-spec =
     tie.close
     (tie.spec
-    array-read-result
-    array-read-result-2
-    array-read-result-3
-    array-read-result-4
-    array-read-result-5
-    array-read-result-6
-    array-read-result-7
-    array-read-result-8
+    (λ c. search needs)
+    (λ c. search needs)
+    (λ c. search needs)
+    (λ c. search needs)
+    (λ c. search needs)
+    (λ c. search needs)
+    (λ c. search needs)
+    (λ c. search needs)
     returns)

@@ -11,31 +11,19 @@ use Rattle.blocks.proofs.is_same.Reads as is-same-reads
 use Rattle.blocks.proofs.join_block.Reads as join-block-reads
 use Rattle.blocks.proofs.join_lines.Reads as join-lines-reads
 
-is-same-requires : tie.Need-is-same-requires
-is-same-requires c κs = search needs
-
 join-lines-requires : tie.Need-join-lines-requires
 join-lines-requires c κs = one-fits ((c .before .before .before .before .before .before) .pre) (sym (c .before .before .is-same .ensures) ∙ c .before .if1 .taken)
-
-same-length : tie.Need-same-length
-same-length c = search needs
 
 returns : tie.Need-returns
 returns c =
     let a = (c .before .before .before .before .before .before .before .before .before) .args in
     one-pass (a .minus) (a .n) (a .m) (a .r) (a .a .now) (a .b .now) ((c .before .before .before .before .before .before .before .before .before) .pre) (sym (c .before .before .before .before .before .is-same .ensures) ∙ c .before .before .before .before .if1 .taken) (c .before .before .join-lines .ensures)
 
-clear-requires : tie.Need-clear-requires
-clear-requires c κs = search needs
-
 join-block-requires : tie.Need-join-block-requires
 join-block-requires c κs = joining-left ((c .before .before .before .before .before .before .before .before .before .before) .pre) (c .before .before .before .clear .kept .0)
 
 join-block-requires-2 : tie.Need-join-block-requires-2
 join-block-requires-2 c κs = joining-right ((c .before .before .before .before .before .before .before .before .before .before .before .before .before .before) .pre) (c .before .before .before .join-block .kept .1 .1 .1 .1 .0 ∙ c .before .before .before .before .before .before .before .clear .kept .0)
-
-same-length-2 : tie.Need-same-length-2
-same-length-2 c = search needs
 
 returns-2 : tie.Need-returns-2
 returns-2 c =
@@ -46,12 +34,12 @@ pub join-both-spec : {M : Type 1} → statement M
 join-both-spec =
     tie.close
     (tie.spec
-    is-same-requires
+    (λ c κs. search needs)
     join-lines-requires
-    same-length
+    (λ c. search needs)
     returns
-    clear-requires
+    (λ c κs. search needs)
     join-block-requires
     join-block-requires-2
-    same-length-2
+    (λ c. search needs)
     returns-2)

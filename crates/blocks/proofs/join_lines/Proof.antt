@@ -23,36 +23,6 @@ abbrev μ-loop : tie.MeasureT-loop
 loop-holds : tie.Need-loop-holds Inv-loop μ-loop
 loop-holds c = (omega arith, (refl, filled-none))
 
-mul-joined : tie.Need-mul-joined Inv-loop μ-loop
-mul-joined c = omega arith
-
-shared-slice-read-joined : tie.Need-shared-slice-read-joined Inv-loop μ-loop
-shared-slice-read-joined c = omega arith
-
-joined-requires : tie.Need-joined-requires Inv-loop μ-loop
-joined-requires c κs = search needs
-
-mul-joined-2 : tie.Need-mul-joined-2 Inv-loop μ-loop
-mul-joined-2 c = omega arith
-
-shared-slice-read-joined-2 : tie.Need-shared-slice-read-joined-2 Inv-loop μ-loop
-shared-slice-read-joined-2 c = omega arith
-
-joined-requires-2 : tie.Need-joined-requires-2 Inv-loop μ-loop
-joined-requires-2 c κs = search needs
-
-mul-to : tie.Need-mul-to Inv-loop μ-loop
-mul-to c = omega arith
-
-slice-write-to : tie.Need-slice-write-to Inv-loop μ-loop
-slice-write-to c = omega arith
-
-add-k : tie.Need-add-k Inv-loop μ-loop
-add-k c = omega arith
-
-loop-less : tie.Need-loop-less Inv-loop μ-loop
-loop-less c = omega arith
-
 loop-again : tie.Need-loop-again Inv-loop μ-loop
 loop-again c =
     let a = (c .before .before .before .before .before .before .before .before .before) .args in
@@ -72,16 +42,16 @@ join-lines-spec =
     Inv-loop
     μ-loop
     loop-holds
-    mul-joined
-    shared-slice-read-joined
-    joined-requires
-    mul-joined-2
-    shared-slice-read-joined-2
-    joined-requires-2
-    mul-to
-    slice-write-to
-    add-k
-    loop-less
+    (λ c. omega arith)
+    (λ c. omega arith)
+    (λ c κs. search needs)
+    (λ c. omega arith)
+    (λ c. omega arith)
+    (λ c κs. search needs)
+    (λ c. omega arith)
+    (λ c. omega arith)
+    (λ c. omega arith)
+    (λ c. omega arith)
     loop-again
     same-length
     returns)

@@ -34,14 +34,8 @@ part-is c =
     let a = (c .before .before .before .before .before) .args in
     let e : c .place-of .result + at (a .t3) 3 - c .place-of .result ≡ at (a .t3) 3 = omega arith in rw (e, c .place-of .ensures)
 
-is-inside-requires : tie.Need-is-inside-requires
-is-inside-requires c κs = search needs
-
 place-of-requires : tie.Need-place-of-requires
 place-of-requires c κs = ((c .before .before .before .before) .pre .0, within (c))
-
-array-read-width : tie.Need-array-read-width
-array-read-width c = search needs
 
 add-join-line : tie.Need-add-join-line
 add-join-line c = omega (arith, fits (c))
@@ -49,20 +43,11 @@ add-join-line c = omega (arith, fits (c))
 mul-join-line : tie.Need-mul-join-line
 mul-join-line c = omega (arith, fits (c))
 
-sub-join-line : tie.Need-sub-join-line
-sub-join-line c = search needs
-
-part-join-line-start : tie.Need-part-join-line-start
-part-join-line-start c = search needs
-
 part-join-line-end : tie.Need-part-join-line-end
 part-join-line-end c = fits (c)
 
 join-line-requires : tie.Need-join-line-requires
 join-line-requires c κs = let p = (c .before .before .before .before .before .before .before) .pre .1 .0 .1 in simp (length-take, length-drop) (omega arith)
-
-same-length : tie.Need-same-length
-same-length c = search needs
 
 returns : tie.Need-returns
 returns c =
@@ -80,15 +65,15 @@ pub join-row-spec : {M : Type 1} → statement M
 join-row-spec =
     tie.close
     (tie.spec
-    is-inside-requires
+    (λ c κs. search needs)
     place-of-requires
-    array-read-width
+    (λ c. search needs)
     add-join-line
     mul-join-line
-    sub-join-line
-    part-join-line-start
+    (λ c. search needs)
+    (λ c. search needs)
     part-join-line-end
     join-line-requires
-    same-length
+    (λ c. search needs)
     returns
     returns-2)

@@ -51,9 +51,6 @@ rowed c =
     let m : length (take w (drop (c .before .before .before .loop .at) (c .before .before .before .loop .to))) ≡ w = simp (length-take, length-drop) (omega arith) in
     (rw k at (c .join-row .ensures)) ∙ (rw m)
 
-array-read-width : tie.Need-array-read-width Inv-loop μ-loop
-array-read-width c = omega arith
-
 loop-holds : tie.Need-loop-holds Inv-loop μ-loop
 loop-holds c =
     let p = (c .before .before) .pre in
@@ -64,12 +61,6 @@ add-join-row c = omega (arith, to-fits (c))
 
 mul-join-row : tie.Need-mul-join-row Inv-loop μ-loop
 mul-join-row c = omega (arith, to-fits (c))
-
-sub-join-row : tie.Need-sub-join-row Inv-loop μ-loop
-sub-join-row c = omega arith
-
-part-join-row-start : tie.Need-part-join-row-start Inv-loop μ-loop
-part-join-row-start c = omega arith
 
 part-join-row-end : tie.Need-part-join-row-end Inv-loop μ-loop
 part-join-row-end c = omega (arith, to-fits (c))
@@ -114,12 +105,12 @@ join-rows-spec =
     (tie.spec
     Inv-loop
     μ-loop
-    array-read-width
+    (λ c. omega arith)
     loop-holds
     add-join-row
     mul-join-row
-    sub-join-row
-    part-join-row-start
+    (λ c. omega arith)
+    (λ c. omega arith)
     part-join-row-end
     join-row-requires
     add-at

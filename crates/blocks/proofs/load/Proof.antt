@@ -19,14 +19,8 @@ use Rattle.blocks.proofs.longest_rows.Reads as longest-rows-reads
 same : (c : tie.Then1) → Same ((c .before .before .before .before) .args .n) ((c .before .before .before .before) .args .c)
 same c = same-is _ _ (sym (c .before .is-same .ensures) ∙ c .if1 .taken)
 
-is-same-requires : tie.Need-is-same-requires
-is-same-requires c κs = search needs
-
 copy-requires : tie.Need-copy-requires
 copy-requires c κs = let p = (c .before .before .before .before .before) .pre in omega (arith, p .room, p .full, same-count (same (c .before)))
-
-same-length : tie.Need-same-length
-same-length c = search needs
 
 returns : tie.Need-returns
 returns c =
@@ -41,9 +35,6 @@ longest-rows-requires c κs = (sizes-of ((c .before .before .before .before) .pr
 load-rows-requires : tie.Need-load-rows-requires
 load-rows-requires c κs = cutting-merged (c .before .before .before .longest-rows .ensures) ((c .before .before .before .before .before .before .before .before) .pre)
 
-same-length-2 : tie.Need-same-length-2
-same-length-2 c = search needs
-
 returns-2 : tie.Need-returns-2
 returns-2 c = c .before .before .load-rows .ensures ∙ cut-merged (c .before .before .before .before .before .before .longest-rows .ensures) ((c .before .before .before .before .before .before .before .before .before .before .before) .args .a .now)
 
@@ -51,11 +42,11 @@ pub load-spec : {M : Type 1} → statement M
 load-spec =
     tie.close
     (tie.spec
-    is-same-requires
+    (λ c κs. search needs)
     copy-requires
-    same-length
+    (λ c. search needs)
     returns
     longest-rows-requires
     load-rows-requires
-    same-length-2
+    (λ c. search needs)
     returns-2)

@@ -57,9 +57,6 @@ copied c =
     let m : length (take (c .before .before .before .before .before .loop .at + w - c .before .before .before .before .before .loop .at) (drop (c .before .before .before .before .before .loop .at) (c .before .before .before .before .before .loop .to))) ≡ w = simp (length-take, length-drop) (omega arith) in
     c .copy .ensures ∙ (rw (m, e, c .before .before .before .place-of .ensures) (take-take w w _ (omega arith)))
 
-array-read-width : tie.Need-array-read-width Inv-loop μ-loop
-array-read-width c = omega arith
-
 loop-holds : tie.Need-loop-holds Inv-loop μ-loop
 loop-holds c =
     let p = (c .before .before) .pre in
@@ -77,12 +74,6 @@ add-copy c = omega (arith, from-fits (c))
 mul-copy : tie.Need-mul-copy Inv-loop μ-loop
 mul-copy c = omega (arith, from-fits (c))
 
-sub-copy : tie.Need-sub-copy Inv-loop μ-loop
-sub-copy c = omega arith
-
-part-copy-start : tie.Need-part-copy-start Inv-loop μ-loop
-part-copy-start c = omega arith
-
 part-copy-end : tie.Need-part-copy-end Inv-loop μ-loop
 part-copy-end c = omega (arith, from-fits (c))
 
@@ -91,12 +82,6 @@ add-copy-2 c = omega (arith, to-fits (c .before .before))
 
 mul-copy-2 : tie.Need-mul-copy-2 Inv-loop μ-loop
 mul-copy-2 c = omega (arith, to-fits (c .before .before))
-
-sub-copy-2 : tie.Need-sub-copy-2 Inv-loop μ-loop
-sub-copy-2 c = omega arith
-
-part-copy-start-2 : tie.Need-part-copy-start-2 Inv-loop μ-loop
-part-copy-start-2 c = omega arith
 
 part-copy-end-2 : tie.Need-part-copy-end-2 Inv-loop μ-loop
 part-copy-end-2 c = omega (arith, to-fits (c .before .before))
@@ -138,18 +123,18 @@ load-rows-spec =
     (tie.spec
     Inv-loop
     μ-loop
-    array-read-width
+    (λ c. omega arith)
     loop-holds
     place-of-requires
     add-copy
     mul-copy
-    sub-copy
-    part-copy-start
+    (λ c. omega arith)
+    (λ c. omega arith)
     part-copy-end
     add-copy-2
     mul-copy-2
-    sub-copy-2
-    part-copy-start-2
+    (λ c. omega arith)
+    (λ c. omega arith)
     part-copy-end-2
     copy-requires
     add-at

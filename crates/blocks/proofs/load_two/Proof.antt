@@ -19,41 +19,11 @@ fits-a c =
     let p = (c .before .before .before .before) .pre in
     omega (arith, c .count-of .ensures, p .small-a, p .small-b)
 
-count-of-requires : tie.Need-count-of-requires
-count-of-requires c κs = search needs
-
-slice-relend-prefix-load : tie.Need-slice-relend-prefix-load
-slice-relend-prefix-load c = search needs
-
 slice-aggregate-load : tie.Need-slice-aggregate-load
 slice-aggregate-load c = sym (length-take-le _ _ (fits-a (c .before)))
 
 load-requires : tie.Need-load-requires
 load-requires c κs = cutting-a ((c .before .before .before .before .before) .pre) (length-take-le _ _ (fits-a (c .before)) ∙ c .before .count-of .ensures)
-
-count-of-requires-2 : tie.Need-count-of-requires-2
-count-of-requires-2 c κs = search needs
-
-add-load : tie.Need-add-load
-add-load c = search needs
-
-mul-load : tie.Need-mul-load
-mul-load c = search needs
-
-sub-load : tie.Need-sub-load
-sub-load c = search needs
-
-part-load-start : tie.Need-part-load-start
-part-load-start c = search needs
-
-part-load-end : tie.Need-part-load-end
-part-load-end c = search needs
-
-load-requires-2 : tie.Need-load-requires-2
-load-requires-2 c κs = search needs
-
-same-length : tie.Need-same-length
-same-length c = search needs
 
 returns : tie.Need-returns
 returns c =
@@ -64,16 +34,16 @@ pub load-two-spec : {M : Type 1} → statement M
 load-two-spec =
     tie.close
     (tie.spec
-    count-of-requires
-    slice-relend-prefix-load
+    (λ c κs. search needs)
+    (λ c. search needs)
     slice-aggregate-load
     load-requires
-    count-of-requires-2
-    add-load
-    mul-load
-    sub-load
-    part-load-start
-    part-load-end
-    load-requires-2
-    same-length
+    (λ c κs. search needs)
+    (λ c. search needs)
+    (λ c. search needs)
+    (λ c. search needs)
+    (λ c. search needs)
+    (λ c. search needs)
+    (λ c κs. search needs)
+    (λ c. search needs)
     returns)

@@ -27,12 +27,6 @@ tested c =
     let h = c .loop-test .taken in
     (ltb-true _ _ (and-left (ltb 0 (c .before .loop .left)) _ h), eqb-true _ _ (and-right (ltb 0 (c .before .loop .left)) (eqb (at (c .before .loop .m) 3) (at (c .before .loop .d) 3)) h))
 
-array-read-loop : tie.Need-array-read-loop Inv-loop μ-loop
-array-read-loop c = omega arith
-
-array-read-loop-2 : tie.Need-array-read-loop-2 Inv-loop μ-loop
-array-read-loop-2 c = omega arith
-
 merged-requires : tie.Need-merged-requires Inv-loop μ-loop
 merged-requires c κs = c .before .loop .inv .from
 
@@ -58,8 +52,8 @@ longest-rows-spec =
     Inv-loop
     μ-loop
     loop-holds
-    array-read-loop
-    array-read-loop-2
+    (λ c. omega arith)
+    (λ c. omega arith)
     merged-requires
     merged-requires-2
     sub-left

@@ -29,18 +29,9 @@ given c = c .stored-of .ensures ∙ ap stored (c .before .before .before .header
 count : (c : tie.After-stored-of2) → c .stored-of2 .result ≡ stored (announcedOne (Shift (c .before .before .before .before .before .before .before .before .before .before .args .v) (c .before .before .before .before .before .before .before .before .before .before .args .n)) (c .before .before .before .before .before .before .before .before .before .before .args .head))
 count c = c .stored-of2 .ensures ∙ ap stored (is-announced (c .before .before))
 
-in-gate-requires : tie.Need-in-gate-requires
-in-gate-requires c κs = search needs
-
 returns : tie.Need-returns
 unfolding shiftDownAnswer shiftDownOut
 returns c = entry-refused (c .before .before .in-gate .ensures) (c .if1 .taken) (announcedOne (Shift (c .before .before .before .before .before .args .v) (c .before .before .before .before .before .args .n)) (c .before .before .before .before .before .args .head)) (shiftDownPoly (c .before .before .before .before .before .args .v) (c .before .before .before .before .before .args .n) (held (c .before .before .before .before .before .args .head) (c .before .before .before .before .before .args .a .now))) (c .before .before .before .before .before .args .out .now)
-
-header-of-requires : tie.Need-header-of-requires
-header-of-requires c κs = search needs
-
-none-requires : tie.Need-none-requires
-none-requires c κs = search needs
 
 announced-of-requires : tie.Need-announced-of-requires
 announced-of-requires c κs = (rw (c .before .header-of .ensures) (ready (c .before .before) .one .good .regular .rules), rw (c .none .ensures) (none-regular .rules))
@@ -66,9 +57,6 @@ shift-rows-requires c κs = record { rules = rw (c .before .before .before .befo
 pack-requires : tie.Need-pack-requires
 pack-requires c κs = rw (is-announced (c .before .before .before .before .before .before .before)) (ready (c .before .before .before .before .before .before .before .before .before .before) .one .announced .regular .rules)
 
-same-length : tie.Need-same-length
-same-length c = search needs
-
 returns-2 : tie.Need-returns-2
 unfolding shiftDownPoly shiftDownAnswer shiftDownOut
 returns-2 c = entry-done (c .before .before .before .before .before .before .before .before .before .before .before .before .before .in-gate .ensures) (c .before .before .before .before .before .before .before .before .before .before .before .if1 .left) (announcedOne (Shift (c .before .before .before .before .before .before .before .before .before .before .before .before .before .before .before .before .args .v) (c .before .before .before .before .before .before .before .before .before .before .before .before .before .before .before .before .args .n)) (c .before .before .before .before .before .before .before .before .before .before .before .before .before .before .before .before .args .head)) (shiftDownPoly (c .before .before .before .before .before .before .before .before .before .before .before .before .before .before .before .before .args .v) (c .before .before .before .before .before .before .before .before .before .before .before .before .before .before .before .before .args .n) (held (c .before .before .before .before .before .before .before .before .before .before .before .before .before .before .before .before .args .head) (c .before .before .before .before .before .before .before .before .before .before .before .before .before .before .before .before .args .a .now))) (c .before .before .before .before .before .before .before .before .before .before .before .before .before .before .before .before .args .out .now) (ap Done (c .pack .ensures ∙ ap wordOf (is-announced (c .before .before .before .before .before .before .before .before)))) (rw (count (c .before .before .before .before .before .before)) (part-written (stored (announcedOne (Shift (c .before .before .before .before .before .before .before .before .before .before .before .before .before .before .before .before .args .v) (c .before .before .before .before .before .before .before .before .before .before .before .before .before .before .before .before .args .n)) (c .before .before .before .before .before .before .before .before .before .before .before .before .before .before .before .before .args .head))) ((shiftDownPoly (c .before .before .before .before .before .before .before .before .before .before .before .before .before .before .before .before .args .v) (c .before .before .before .before .before .before .before .before .before .before .before .before .before .before .before .before .args .n) (held (c .before .before .before .before .before .before .before .before .before .before .before .before .before .before .before .before .args .head) (c .before .before .before .before .before .before .before .before .before .before .before .before .before .before .before .before .args .a .now))) .coeffs) (c .before .before .before .before .before .before .before .before .before .before .before .before .before .before .before .before .args .out .now) ((rw (c .before .before .before .before .before .before .before .before .before .before .header-of .ensures, given (c .before .before .before .before .before .before .before)) at (c .before .before .before .shift-rows .ensures)) ∙ padded-full _ (shift-down-keeps (c .before .before .before .before .before .before .before .before .before .before .before .before .before .before .before .before .args .v) (c .before .before .before .before .before .before .before .before .before .before .before .before .before .before .before .before .args .n) (held (c .before .before .before .before .before .before .before .before .before .before .before .before .before .before .before .before .args .head) (c .before .before .before .before .before .before .before .before .before .before .before .before .before .before .before .before .args .a .now) .coeffs) (ready (c .before .before .before .before .before .before .before .before .before .before .before) .one .good .regular .rules) .full))))
@@ -77,10 +65,10 @@ pub shift-down-spec : {M : Type 1} → statement M
 shift-down-spec =
     tie.close
     (tie.spec
-    in-gate-requires
+    (λ c κs. search needs)
     returns
-    header-of-requires
-    none-requires
+    (λ c κs. search needs)
+    (λ c κs. search needs)
     announced-of-requires
     stored-of-requires
     stored-of-requires-2
@@ -89,5 +77,5 @@ shift-down-spec =
     slice-aggregate-shift-rows-2
     shift-rows-requires
     pack-requires
-    same-length
+    (λ c. search needs)
     returns-2)

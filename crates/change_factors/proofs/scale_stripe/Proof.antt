@@ -33,12 +33,6 @@ add-put-row c = omega (arith, fits (c))
 mul-put-row : tie.Need-mul-put-row Inv-loop μ-loop
 mul-put-row c = omega (arith, fits (c))
 
-sub-put-row : tie.Need-sub-put-row Inv-loop μ-loop
-sub-put-row c = omega arith
-
-part-put-row-start : tie.Need-part-put-row-start Inv-loop μ-loop
-part-put-row-start c = omega arith
-
 part-put-row-end : tie.Need-part-put-row-end Inv-loop μ-loop
 part-put-row-end c = omega (arith, fits (c))
 
@@ -47,12 +41,6 @@ add-put-row-2 c = omega (arith, fits (c .before))
 
 mul-put-row-2 : tie.Need-mul-put-row-2 Inv-loop μ-loop
 mul-put-row-2 c = omega (arith, fits (c .before))
-
-sub-put-row-2 : tie.Need-sub-put-row-2 Inv-loop μ-loop
-sub-put-row-2 c = omega arith
-
-part-put-row-start-2 : tie.Need-part-put-row-start-2 Inv-loop μ-loop
-part-put-row-start-2 c = omega arith
 
 part-put-row-end-2 : tie.Need-part-put-row-end-2 Inv-loop μ-loop
 part-put-row-end-2 c = omega (arith, fits (c .before), c .before .before .loop .inv .done .len)
@@ -88,13 +76,13 @@ scale-stripe-spec =
     loop-holds
     add-put-row
     mul-put-row
-    sub-put-row
-    part-put-row-start
+    (λ c. omega arith)
+    (λ c. omega arith)
     part-put-row-end
     add-put-row-2
     mul-put-row-2
-    sub-put-row-2
-    part-put-row-start-2
+    (λ c. omega arith)
+    (λ c. omega arith)
     part-put-row-end-2
     put-row-requires
     add-from-2

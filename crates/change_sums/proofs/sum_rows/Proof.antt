@@ -30,12 +30,6 @@ add-add-row c = omega (arith, fits (c))
 mul-add-row : tie.Need-mul-add-row Inv-loop μ-loop
 mul-add-row c = omega (arith, fits (c))
 
-sub-add-row : tie.Need-sub-add-row Inv-loop μ-loop
-sub-add-row c = omega arith
-
-part-add-row-start : tie.Need-part-add-row-start Inv-loop μ-loop
-part-add-row-start c = omega arith
-
 part-add-row-end : tie.Need-part-add-row-end Inv-loop μ-loop
 part-add-row-end c = omega (arith, fits (c))
 
@@ -44,12 +38,6 @@ add-row-requires c κs = let f = fits (c .before .before) in let l = c .before .
 
 add-at : tie.Need-add-at Inv-loop μ-loop
 add-at c = omega (arith, fits (c .before .before .before .before .before))
-
-add-j : tie.Need-add-j Inv-loop μ-loop
-add-j c = omega arith
-
-loop-less : tie.Need-loop-less Inv-loop μ-loop
-loop-less c = omega arith
 
 loop-again : tie.Need-loop-again Inv-loop μ-loop
 loop-again c = let e : c .before .before .before .before .before .before .loop .at + length (c .before .before .before .before .before .before .before .before .before .clear .last .0) - c .before .before .before .before .before .before .loop .at ≡ length (c .before .before .before .before .before .before .before .before .before .clear .last .0) = omega arith in (omega arith, (omega (arith, c .before .before .before .before .before .before .loop .inv .1 .0), sum-more (c .before .before .before .before .before .before .loop .at + length (c .before .before .before .before .before .before .before .before .before .clear .last .0) - c .before .before .before .before .before .before .loop .at) _ (c .before .before .before .before .before .before .loop .inv .1 .1) (c .before .before .before .before .before .before .loop .inv .1 .0) refl e (c .before .before .before .before .before .before .loop .inv .1 .1 .len) (c .before .before .add-row .ensures)))
@@ -70,13 +58,13 @@ sum-rows-spec =
     loop-holds
     add-add-row
     mul-add-row
-    sub-add-row
-    part-add-row-start
+    (λ c. omega arith)
+    (λ c. omega arith)
     part-add-row-end
     add-row-requires
     add-at
-    add-j
-    loop-less
+    (λ c. omega arith)
+    (λ c. omega arith)
     loop-again
     same-length
     returns)

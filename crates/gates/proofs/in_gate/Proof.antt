@@ -22,18 +22,9 @@ few c = omega (arith, known c, ready (c .before .before .before) .good .regular 
 is-announced : (c : tie.After-announced-of) → c .announced-of .result ≡ announcedOne ((c .before .before .before .before .before .before .before .before .before .before) .args .f) ((c .before .before .before .before .before .before .before .before .before .before) .args .word)
 is-announced c = simp (c .before .before .before .before .before .before .header-of .ensures, c .before .none .ensures) at (c .announced-of .ensures)
 
-read-gate-requires : tie.Need-read-gate-requires
-read-gate-requires c κs = search needs
-
 returns : tie.Need-returns
 unfolding inGate
 returns c = read-stop _ _ _ (c .before .before .read-gate .ensures) (c .if1 .taken)
-
-header-of-requires : tie.Need-header-of-requires
-header-of-requires c κs = search needs
-
-by-requires : tie.Need-by-requires
-by-requires c κs = search needs
 
 returns-2 : tie.Need-returns-2
 unfolding inGate
@@ -45,15 +36,9 @@ mul-if3 c = omega (arith, few (c .before))
 array-read-if3 : tie.Need-array-read-if3
 array-read-if3 c = few (c .before)
 
-by-requires-2 : tie.Need-by-requires-2
-by-requires-2 c κs = search needs
-
 returns-3 : tie.Need-returns-3
 unfolding inGate
 returns-3 c = (simp (lt-ltb _ _ (known (c .before .before .before)), le-ltb _ _ (rw (c .before .before .before .before .before .header-of .ensures) at (c .before .if3 .taken))) (c .by2 .ensures)) ∙ read-on ((c .before .before .before .before .before .before .before .before .before) .args .word) ((c .before .before .before .before .before .before .before .before .before) .args .given) _ (c .before .before .before .before .before .before .before .before .read-gate .ensures) (c .before .before .before .before .before .before .if1 .left)
-
-none-requires : tie.Need-none-requires
-none-requires c κs = search needs
 
 announced-of-requires : tie.Need-announced-of-requires
 announced-of-requires c κs = (rw (c .before .before .before .before .before .header-of .ensures) (ready (c .before .before .before .before .before .before) .good .regular .rules), rw (c .none .ensures) (none-regular .rules))
@@ -69,16 +54,16 @@ pub in-gate-spec : {M : Type 1} → statement M
 in-gate-spec =
     tie.close
     (tie.spec
-    read-gate-requires
+    (λ c κs. search needs)
     returns
-    header-of-requires
-    by-requires
+    (λ c κs. search needs)
+    (λ c κs. search needs)
     returns-2
     mul-if3
     array-read-if3
-    by-requires-2
+    (λ c κs. search needs)
     returns-3
-    none-requires
+    (λ c κs. search needs)
     announced-of-requires
     fits-gate-requires
     returns-4)

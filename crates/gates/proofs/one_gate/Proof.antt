@@ -12,18 +12,9 @@ ready c = read-ready _ _ (ap (λ r. r .number) (sym (c .before .before .read-gat
 is-announced : (c : tie.After-announced-of) → c .announced-of .result ≡ announcedOne ((c .before .before .before .before .before .before) .args .f) ((c .before .before .before .before .before .before) .args .word)
 is-announced c = simp (c .before .before .header-of .ensures, c .before .none .ensures) at (c .announced-of .ensures)
 
-read-gate-requires : tie.Need-read-gate-requires
-read-gate-requires c κs = search needs
-
 returns : tie.Need-returns
 unfolding oneGate
 returns c = read-stop _ _ _ (c .before .before .read-gate .ensures) (c .if1 .taken)
-
-header-of-requires : tie.Need-header-of-requires
-header-of-requires c κs = search needs
-
-none-requires : tie.Need-none-requires
-none-requires c κs = search needs
 
 announced-of-requires : tie.Need-announced-of-requires
 announced-of-requires c κs = (rw (c .before .header-of .ensures) (ready (c .before .before) .good .regular .rules), rw (c .none .ensures) (none-regular .rules))
@@ -39,10 +30,10 @@ pub one-gate-spec : {M : Type 1} → statement M
 one-gate-spec =
     tie.close
     (tie.spec
-    read-gate-requires
+    (λ c κs. search needs)
     returns
-    header-of-requires
-    none-requires
+    (λ c κs. search needs)
+    (λ c κs. search needs)
     announced-of-requires
     fits-gate-requires
     returns-2)

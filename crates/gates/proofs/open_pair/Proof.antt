@@ -30,38 +30,14 @@ ruled-b c = good-word _ (word-b c) .regular .rules
 is-announced : (c : tie.After-announced-of) → c .announced-of .result ≡ announcedPair (c .before .before .before .before .before .before .before .before .before .args .f) (c .before .before .before .before .before .before .before .before .before .args .ah) (c .before .before .before .before .before .before .before .before .before .args .bh)
 is-announced c = simp (c .before .before .before .before .before .header-of .ensures, c .before .before .before .before .header-of2 .ensures) at (c .announced-of .ensures)
 
-is-good-requires : tie.Need-is-good-requires
-is-good-requires c κs = search needs
-
-is-good-requires-2 : tie.Need-is-good-requires-2
-is-good-requires-2 c κs = search needs
-
-by-requires : tie.Need-by-requires
-by-requires c κs = search needs
-
-refused-requires : tie.Need-refused-requires
-refused-requires c κs = search needs
-
 returns : tie.Need-returns
 returns c = bad-word _ _ _ _ _ _ _ (not-true (goodWord (c .before .before .before .before .before .args .ah) && goodWord (c .before .before .before .before .before .args .bh)) (rw (c .before .before .before .before .is-good .ensures, c .before .before .before .is-good2 .ensures) at (c .before .before .if1 .taken))) (c .before .by .ensures) (c .refused .ensures)
-
-header-of-requires : tie.Need-header-of-requires
-header-of-requires c κs = search needs
-
-header-of-requires-2 : tie.Need-header-of-requires-2
-header-of-requires-2 c κs = search needs
 
 is-full-requires : tie.Need-is-full-requires
 is-full-requires c κs = rw (c .before .header-of .ensures) (ruled-a (c .before .before))
 
 is-full-requires-2 : tie.Need-is-full-requires-2
 is-full-requires-2 c κs = rw (c .before .header-of2 .ensures) (ruled-b (c .before .before .before))
-
-by-requires-2 : tie.Need-by-requires-2
-by-requires-2 c κs = search needs
-
-refused-requires-2 : tie.Need-refused-requires-2
-refused-requires-2 c κs = search needs
 
 returns-2 : tie.Need-returns-2
 returns-2 c = not-full _ _ _ _ _ _ _ (words (c .before .before .before .before .before .before .before)) (not-true (full (c .before .before .before .before .before .before .before .before .before .before .args .ah) (c .before .before .before .before .before .before .before .before .before .before .args .am) && full (c .before .before .before .before .before .before .before .before .before .before .args .bh) (c .before .before .before .before .before .before .before .before .before .before .args .bm)) (rw (c .before .before .before .before .is-full .ensures, c .before .before .before .is-full2 .ensures, c .before .before .before .before .before .before .header-of .ensures, c .before .before .before .before .before .header-of2 .ensures) at (c .before .before .if2 .taken))) (c .before .by2 .ensures) (c .refused2 .ensures)
@@ -79,17 +55,17 @@ pub open-pair-spec : {M : Type 1} → statement M
 open-pair-spec =
     tie.close
     (tie.spec
-    is-good-requires
-    is-good-requires-2
-    by-requires
-    refused-requires
+    (λ c κs. search needs)
+    (λ c κs. search needs)
+    (λ c κs. search needs)
+    (λ c κs. search needs)
     returns
-    header-of-requires
-    header-of-requires-2
+    (λ c κs. search needs)
+    (λ c κs. search needs)
     is-full-requires
     is-full-requires-2
-    by-requires-2
-    refused-requires-2
+    (λ c κs. search needs)
+    (λ c κs. search needs)
     returns-2
     announced-of-requires
     open-room-requires

@@ -10,41 +10,11 @@ use Rattle.gates.proofs.open_room.Tie as tie
 fitting : (c : tie.Else1) → fits (c .before .before .args .told) (c .before .before .args .lent) ≡ true
 fitting c = not-false _ (rw (c .before .is-fitting .ensures) at (c .if1 .left))
 
-is-fitting-requires : tie.Need-is-fitting-requires
-is-fitting-requires c κs = search needs
-
-by-requires : tie.Need-by-requires
-by-requires c κs = search needs
-
-refused-requires : tie.Need-refused-requires
-refused-requires c κs = search needs
-
 returns : tie.Need-returns
 returns c = no-fit _ _ _ _ _ (not-true (fits (c .before .before .before .before .args .told) (c .before .before .before .before .args .lent)) (rw (c .before .before .before .is-fitting .ensures) at (c .before .before .if1 .taken))) (c .before .by .ensures) (c .refused .ensures)
 
-is-roomy-requires : tie.Need-is-roomy-requires
-is-roomy-requires c κs = search needs
-
-by-requires-2 : tie.Need-by-requires-2
-by-requires-2 c κs = search needs
-
-refused-requires-2 : tie.Need-refused-requires-2
-refused-requires-2 c κs = search needs
-
 returns-2 : tie.Need-returns-2
 returns-2 c = no-room _ _ _ _ _ (fitting (c .before .before .before .before)) (not-true (roomy (c .before .before .before .before .before .before .args .told) (c .before .before .before .before .before .before .args .scratch)) (rw (c .before .before .before .is-roomy .ensures) at (c .before .before .if2 .taken))) (c .before .by2 .ensures) (c .refused2 .ensures)
-
-none-requires : tie.Need-none-requires
-none-requires c κs = search needs
-
-stored-of-requires : tie.Need-stored-of-requires
-stored-of-requires c κs = search needs
-
-stored-of-requires-2 : tie.Need-stored-of-requires-2
-stored-of-requires-2 c κs = search needs
-
-stored-of-requires-3 : tie.Need-stored-of-requires-3
-stored-of-requires-3 c κs = search needs
 
 returns-3 : tie.Need-returns-3
 returns-3 c = record {
@@ -56,16 +26,16 @@ pub open-room-spec : {M : Type 1} → statement M
 open-room-spec =
     tie.close
     (tie.spec
-    is-fitting-requires
-    by-requires
-    refused-requires
+    (λ c κs. search needs)
+    (λ c κs. search needs)
+    (λ c κs. search needs)
     returns
-    is-roomy-requires
-    by-requires-2
-    refused-requires-2
+    (λ c κs. search needs)
+    (λ c κs. search needs)
+    (λ c κs. search needs)
     returns-2
-    none-requires
-    stored-of-requires
-    stored-of-requires-2
-    stored-of-requires-3
+    (λ c κs. search needs)
+    (λ c κs. search needs)
+    (λ c κs. search needs)
+    (λ c κs. search needs)
     returns-3)

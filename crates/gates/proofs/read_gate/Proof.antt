@@ -11,31 +11,16 @@ use Rattle.gates.proofs.read_gate.Tie as tie
 word : (c : tie.Else1) → goodWord ((c .before .before) .args .word) ≡ true
 word c = not-false _ (rw (c .before .is-good .ensures) at (c .if1 .left))
 
-is-good-requires : tie.Need-is-good-requires
-is-good-requires c κs = search needs
-
-by-requires : tie.Need-by-requires
-by-requires c κs = search needs
-
 returns : tie.Need-returns
 unfolding readGate
 returns c = simp (not-true (goodWord ((c .before .before .before) .args .word)) (rw (c .before .before .is-good .ensures) at (c .before .if1 .taken))) (c .by .ensures)
 
-header-of-requires : tie.Need-header-of-requires
-header-of-requires c κs = search needs
-
 is-full-requires : tie.Need-is-full-requires
 is-full-requires c κs = rw (c .header-of .ensures) (good-word _ (word (c .before)) .regular .rules)
-
-by-requires-2 : tie.Need-by-requires-2
-by-requires-2 c κs = search needs
 
 returns-2 : tie.Need-returns-2
 unfolding readGate
 returns-2 c = simp (word (c .before .before .before .before), not-true (full ((c .before .before .before .before .before .before) .args .word) ((c .before .before .before .before .before .before) .args .given)) (rw (c .before .before .is-full .ensures, c .before .before .before .header-of .ensures) at (c .before .if2 .taken))) (c .by2 .ensures)
-
-none-requires : tie.Need-none-requires
-none-requires c κs = search needs
 
 returns-3 : tie.Need-returns-3
 unfolding readGate
@@ -45,12 +30,12 @@ pub read-gate-spec : {M : Type 1} → statement M
 read-gate-spec =
     tie.close
     (tie.spec
-    is-good-requires
-    by-requires
+    (λ c κs. search needs)
+    (λ c κs. search needs)
     returns
-    header-of-requires
+    (λ c κs. search needs)
     is-full-requires
-    by-requires-2
+    (λ c κs. search needs)
     returns-2
-    none-requires
+    (λ c κs. search needs)
     returns-3)

@@ -14,28 +14,13 @@ limit c = not-false _ (rw (c .before .good-limit .ensures) at (c .if1 .left))
 header : (c : tie.After-var-with-degrees-p1) → c .var-with-degrees-p1 .result ≡ varHeader ((c .before .before .before .before) .args .v) ((c .before .before .before .before) .args .limit)
 header c = rw (add-one ((c .before .before .before .before) .args .v)) at (c .var-with-degrees-p1 .ensures)
 
-good-limit-requires : tie.Need-good-limit-requires
-good-limit-requires c κs = search needs
-
-by-requires : tie.Need-by-requires
-by-requires c κs = search needs
-
 returns : tie.Need-returns
 unfolding varGate
 returns c = simp (not-true (goodLimit ((c .before .before .before) .args .limit)) (rw (c .before .before .good-limit .ensures) at (c .before .if1 .taken))) (c .by .ensures)
 
-by-requires-2 : tie.Need-by-requires-2
-by-requires-2 c κs = search needs
-
 returns-2 : tie.Need-returns-2
 unfolding varGate
 returns-2 c = simp (limit (c .before .before), lt-leb _ _ (c .before .if2 .taken)) (c .by2 .ensures)
-
-add-var-with-degrees-p1 : tie.Need-add-var-with-degrees-p1
-add-var-with-degrees-p1 c = search needs
-
-var-with-degrees-p1-requires : tie.Need-var-with-degrees-p1-requires
-var-with-degrees-p1-requires c κs = search needs
 
 fits-gate-requires : tie.Need-fits-gate-requires
 fits-gate-requires c κs = rw (header c) (var-regular (given-same (c .before .if2 .left) (good-limit _ (limit (c .before .before)))) _ .rules)
@@ -48,12 +33,12 @@ pub var-gate-spec : {M : Type 1} → statement M
 var-gate-spec =
     tie.close
     (tie.spec
-    good-limit-requires
-    by-requires
+    (λ c κs. search needs)
+    (λ c κs. search needs)
     returns
-    by-requires-2
+    (λ c κs. search needs)
     returns-2
-    add-var-with-degrees-p1
-    var-with-degrees-p1-requires
+    (λ c. search needs)
+    (λ c κs. search needs)
     fits-gate-requires
     returns-3)

@@ -10,25 +10,13 @@ use Rattle.gates.proofs.var_with_gate.Tie as tie
 limits : (c : tie.Else1) → goodLimits ((c .before .before) .args .vars) ((c .before .before) .args .limits) ≡ true
 limits c = not-false _ (rw (c .before .good-limits .ensures) at (c .if1 .left))
 
-good-limits-requires : tie.Need-good-limits-requires
-good-limits-requires c κs = search needs
-
-by-requires : tie.Need-by-requires
-by-requires c κs = search needs
-
 returns : tie.Need-returns
 unfolding varWithGate
 returns c = simp (not-true (goodLimits ((c .before .before .before) .args .vars) ((c .before .before .before) .args .limits)) (rw (c .before .before .good-limits .ensures) at (c .before .if1 .taken))) (c .by .ensures)
 
-by-requires-2 : tie.Need-by-requires-2
-by-requires-2 c κs = search needs
-
 returns-2 : tie.Need-returns-2
 unfolding varWithGate
 returns-2 c = simp (limits (c .before .before), le-ltb _ _ (c .before .if2 .taken)) (c .by2 .ensures)
-
-var-with-degrees-p1-requires : tie.Need-var-with-degrees-p1-requires
-var-with-degrees-p1-requires c κs = search needs
 
 fits-gate-requires : tie.Need-fits-gate-requires
 fits-gate-requires c κs = rw (c .var-with-degrees-p1 .ensures) (var-regular (good-limits _ _ (limits (c .before .before))) _ .rules)
@@ -41,11 +29,11 @@ pub var-with-gate-spec : {M : Type 1} → statement M
 var-with-gate-spec =
     tie.close
     (tie.spec
-    good-limits-requires
-    by-requires
+    (λ c κs. search needs)
+    (λ c κs. search needs)
     returns
-    by-requires-2
+    (λ c κs. search needs)
     returns-2
-    var-with-degrees-p1-requires
+    (λ c κs. search needs)
     fits-gate-requires
     returns-3)

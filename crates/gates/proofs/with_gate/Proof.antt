@@ -10,18 +10,9 @@ use Rattle.gates.proofs.with_gate.Tie as tie
 limits : (c : tie.Else1) → goodLimits ((c .before .before) .args .vars) ((c .before .before) .args .limits) ≡ true
 limits c = not-false _ (rw (c .before .good-limits .ensures) at (c .if1 .left))
 
-good-limits-requires : tie.Need-good-limits-requires
-good-limits-requires c κs = search needs
-
-by-requires : tie.Need-by-requires
-by-requires c κs = search needs
-
 returns : tie.Need-returns
 unfolding withGate
 returns c = simp (not-true (goodLimits ((c .before .before .before) .args .vars) ((c .before .before .before) .args .limits)) (rw (c .before .before .good-limits .ensures) at (c .before .if1 .taken))) (c .by .ensures)
-
-zero-with-requires : tie.Need-zero-with-requires
-zero-with-requires c κs = search needs
 
 fits-gate-requires : tie.Need-fits-gate-requires
 fits-gate-requires c κs = rw (c .zero-with .ensures) (zero-regular (good-limits _ _ (limits (c .before))) .rules)
@@ -34,9 +25,9 @@ pub with-gate-spec : {M : Type 1} → statement M
 with-gate-spec =
     tie.close
     (tie.spec
-    good-limits-requires
-    by-requires
+    (λ c κs. search needs)
+    (λ c κs. search needs)
     returns
-    zero-with-requires
+    (λ c κs. search needs)
     fits-gate-requires
     returns-2)

@@ -23,18 +23,9 @@ ready c = one-ready _ _ _ _ (ap (λ r. r .number) (sym (c .before .before .one-g
 is-announced : (c : tie.After-announced-of) → c .announced-of .result ≡ announcedOne ((c .before .before .before .before .before .before) .args .f) ((c .before .before .before .before .before .before) .args .word)
 is-announced c = simp (c .before .before .header-of .ensures, c .before .none .ensures) at (c .announced-of .ensures)
 
-one-gate-requires : tie.Need-one-gate-requires
-one-gate-requires c κs = search needs
-
 returns : tie.Need-returns
 unfolding workGate
 returns c = one-stop _ _ _ _ _ (c .before .before .one-gate .ensures) (c .if1 .taken)
-
-header-of-requires : tie.Need-header-of-requires
-header-of-requires c κs = search needs
-
-none-requires : tie.Need-none-requires
-none-requires c κs = search needs
 
 announced-of-requires : tie.Need-announced-of-requires
 announced-of-requires c κs = (rw (c .before .header-of .ensures) (ready (c .before .before) .good .regular .rules), rw (c .none .ensures) (none-regular .rules))
@@ -42,15 +33,9 @@ announced-of-requires c κs = (rw (c .before .header-of .ensures) (ready (c .bef
 is-roomy-requires : tie.Need-is-roomy-requires
 is-roomy-requires c κs = rw (is-announced (c)) (one-announced _ _ (ready (c .before .before .before) .word) .rules)
 
-by-requires : tie.Need-by-requires
-by-requires c κs = search needs
-
 returns-2 : tie.Need-returns-2
 unfolding workGate
 returns-2 c = (simp (not-true (roomy (announcedOne ((c .before .before .before .before .before .before .before .before .before) .args .f) ((c .before .before .before .before .before .before .before .before .before) .args .word)) ((c .before .before .before .before .before .before .before .before .before) .args .scratch)) (rw (c .before .before .is-roomy .ensures, is-announced (c .before .before .before)) at (c .before .if2 .taken))) (c .by .ensures)) ∙ one-on ((c .before .before .before .before .before .before .before .before .before) .args .f) ((c .before .before .before .before .before .before .before .before .before) .args .word) ((c .before .before .before .before .before .before .before .before .before) .args .given) ((c .before .before .before .before .before .before .before .before .before) .args .lent) _ (c .before .before .before .before .before .before .before .before .one-gate .ensures) (c .before .before .before .before .before .before .if1 .left)
-
-none-requires-2 : tie.Need-none-requires-2
-none-requires-2 c κs = search needs
 
 returns-3 : tie.Need-returns-3
 unfolding workGate
@@ -60,13 +45,13 @@ pub work-gate-spec : {M : Type 1} → statement M
 work-gate-spec =
     tie.close
     (tie.spec
-    one-gate-requires
+    (λ c κs. search needs)
     returns
-    header-of-requires
-    none-requires
+    (λ c κs. search needs)
+    (λ c κs. search needs)
     announced-of-requires
     is-roomy-requires
-    by-requires
+    (λ c κs. search needs)
     returns-2
-    none-requires-2
+    (λ c κs. search needs)
     returns-3)

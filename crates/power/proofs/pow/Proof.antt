@@ -43,18 +43,9 @@ rooms c = simp length-append (omega (arith, used (c)))
 head : (c : tie.After-power-into) → header (c .before .before .before .before .before .before .before .before .announced-of .result .vars) (c .before .before .before .before .before .before .before .before .announced-of .result .limits) (c .power-into .result) ≡ (powerPoly (c .before .before .before .before .before .before .before .before .before .before .before .before .before .before .before .before .before .args .e) (held (c .before .before .before .before .before .before .before .before .before .before .before .before .before .before .before .before .before .args .head) (c .before .before .before .before .before .before .before .before .before .before .before .before .before .before .before .before .before .args .a .now))) .head
 head c = entry-head (c .before .before .before .before .before .before .before .before .before .before .before .before .before .before .before .before .before .args .head) (c .before .before .before .before .before .before .before .before .before .before .before .before .before .before .before .before .before .args .a .now) (c .before .before .before .before .before .before .before .before .before .before .before .before .before .before .before .before .before .args .e) (c .before .before .before .before .before .before .before .before .before .before .header-of .ensures) (is-announced (c .before .before .before .before .before .before .before .before)) (c .before .before .before .before .before .stored-of .ensures) (ready (c .before .before .before .before .before .before .before .before .before .before .before) .one .good .regular) (c .power-into .ensures .0)
 
-work-gate-requires : tie.Need-work-gate-requires
-work-gate-requires c κs = search needs
-
 returns : tie.Need-returns
 unfolding powerAnswer powerOut powerScratch
 returns c = (refused-answer (c .before .before .work-gate .ensures) (announcedOne (Power (c .before .before .before .before .before .before .args .e)) (c .before .before .before .before .before .before .args .head)) (powerPoly (c .before .before .before .before .before .before .args .e) (held (c .before .before .before .before .before .before .args .head) (c .before .before .before .before .before .before .args .a .now))) (c .if1 .taken), (refused-out (c .before .before .work-gate .ensures) (announcedOne (Power (c .before .before .before .before .before .before .args .e)) (c .before .before .before .before .before .before .args .head)) (powerPoly (c .before .before .before .before .before .before .args .e) (held (c .before .before .before .before .before .before .args .head) (c .before .before .before .before .before .before .args .a .now))) (c .if1 .taken) (c .before .before .before .before .before .before .args .out .now), refused-scratch (c .before .before .work-gate .ensures) (announcedOne (Power (c .before .before .before .before .before .before .args .e)) (c .before .before .before .before .before .before .args .head)) (powerPoly (c .before .before .before .before .before .before .args .e) (held (c .before .before .before .before .before .before .args .head) (c .before .before .before .before .before .before .args .a .now))) (c .if1 .taken) (c .before .before .before .before .before .before .args .scratch .now)))
-
-header-of-requires : tie.Need-header-of-requires
-header-of-requires c κs = search needs
-
-none-requires : tie.Need-none-requires
-none-requires c κs = search needs
 
 announced-of-requires : tie.Need-announced-of-requires
 announced-of-requires c κs = (rw (c .before .header-of .ensures) (ready (c .before .before) .one .good .regular .rules), rw (c .none .ensures) (none-regular .rules))
@@ -92,17 +83,8 @@ slice-relend-prefix-clear c = rooms (c .before .before .before .before)
 slice-aggregate-clear : tie.Need-slice-aggregate-clear
 slice-aggregate-clear c = sym (length-take-le _ _ (rooms (c .before .before .before .before .before)))
 
-clear-requires : tie.Need-clear-requires
-clear-requires c κs = search needs
-
 pack-requires : tie.Need-pack-requires
 pack-requires c κs = rw (head (c .before .before .before .before .before .before .before .before)) (entry-ruled (ready (c .before .before .before .before .before .before .before .before .before .before .before .before .before .before .before .before .before .before .before)) (c .before .before .before .before .before .before .before .before .before .before .before .before .before .before .before .before .before .before .before .before .before .before .before .before .before .args .a .now) (length-take-le _ _ (ready (c .before .before .before .before .before .before .before .before .before .before .before .before .before .before .before .before .before .before .before) .one .full)))
-
-same-length : tie.Need-same-length
-same-length c = search needs
-
-same-length-2 : tie.Need-same-length-2
-same-length-2 c = search needs
 
 returns-2 : tie.Need-returns-2
 unfolding powerAnswer powerOut powerScratch
@@ -112,10 +94,10 @@ pub pow-spec : {M : Type 1} → statement M
 pow-spec =
     tie.close
     (tie.spec
-    work-gate-requires
+    (λ c κs. search needs)
     returns
-    header-of-requires
-    none-requires
+    (λ c κs. search needs)
+    (λ c κs. search needs)
     announced-of-requires
     stored-of-requires
     stored-of-requires-2
@@ -128,8 +110,8 @@ pow-spec =
     power-into-requires
     slice-relend-prefix-clear
     slice-aggregate-clear
-    clear-requires
+    (λ c κs. search needs)
     pack-requires
-    same-length
-    same-length-2
+    (λ c. search needs)
+    (λ c. search needs)
     returns-2)

@@ -7,27 +7,12 @@ use borrow.Author.Needs.{needs}
 use Rattle.product_general.proofs.general.Statement.{statement}
 use Rattle.product_general.proofs.general.Tie as tie
 
-clear-requires : tie.Need-clear-requires
-clear-requires c κs = search needs
-
-strides-of-requires : tie.Need-strides-of-requires
-strides-of-requires c κs = search needs
-
-strides-of-requires-2 : tie.Need-strides-of-requires-2
-strides-of-requires-2 c κs = search needs
-
-strides-of-requires-3 : tie.Need-strides-of-requires-3
-strides-of-requires-3 c κs = search needs
-
 rows-requires : tie.Need-rows-requires
 rows-requires c κs =
     let p = (c .before .before .before .before .before .before .before .before .before .before .before) .pre in (
       record { left = p .left; right = p .right; result = p .result; by-x = c .before .before .before .strides-of .ensures; by-y = c .before .before .strides-of2 .ensures; by-r = c .before .strides-of3 .ensures },
       record { within = omega arith; room-x = p .room-x; room-y = p .room-y; full = ap length (c .before .before .before .before .before .before .clear .ensures) ∙ (length-table _ _ ∙ p .full) },
     )
-
-same-length : tie.Need-same-length
-same-length c = search needs
 
 returns : tie.Need-returns
 returns c =
@@ -38,10 +23,10 @@ pub general-spec : {M : Type 1} → statement M
 general-spec =
     tie.close
     (tie.spec
-    clear-requires
-    strides-of-requires
-    strides-of-requires-2
-    strides-of-requires-3
+    (λ c κs. search needs)
+    (λ c κs. search needs)
+    (λ c κs. search needs)
+    (λ c κs. search needs)
     rows-requires
-    same-length
+    (λ c. search needs)
     returns)

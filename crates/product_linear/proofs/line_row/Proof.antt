@@ -16,81 +16,6 @@ mid-in e h k = omega arith
 end-in : {y z : ℕ} → y ≡ z → z ≤ y
 end-in e = omega arith
 
-mul-line-first : tie.Need-mul-line-first
-mul-line-first c = search needs
-
-sub-line-first : tie.Need-sub-line-first
-sub-line-first c = search needs
-
-part-line-first-start : tie.Need-part-line-first-start
-part-line-first-start c = search needs
-
-part-line-first-end : tie.Need-part-line-first-end
-part-line-first-end c = search needs
-
-line-first-requires : tie.Need-line-first-requires
-line-first-requires c κs = search needs
-
-mul-line-middle : tie.Need-mul-line-middle
-mul-line-middle c = search needs
-
-sub-line-middle : tie.Need-sub-line-middle
-sub-line-middle c = search needs
-
-part-line-middle-start : tie.Need-part-line-middle-start
-part-line-middle-start c = search needs
-
-part-line-middle-end : tie.Need-part-line-middle-end
-part-line-middle-end c = search needs
-
-mul-line-middle-2 : tie.Need-mul-line-middle-2
-mul-line-middle-2 c = search needs
-
-sub-line-middle-2 : tie.Need-sub-line-middle-2
-sub-line-middle-2 c = search needs
-
-part-line-middle-start-2 : tie.Need-part-line-middle-start-2
-part-line-middle-start-2 c = search needs
-
-part-line-middle-end-2 : tie.Need-part-line-middle-end-2
-part-line-middle-end-2 c = search needs
-
-line-middle-requires : tie.Need-line-middle-requires
-line-middle-requires c κs = search needs
-
-sub-line-last : tie.Need-sub-line-last
-sub-line-last c = search needs
-
-mul-line-last : tie.Need-mul-line-last
-mul-line-last c = search needs
-
-sub-line-last-2 : tie.Need-sub-line-last-2
-sub-line-last-2 c = search needs
-
-part-line-last-start : tie.Need-part-line-last-start
-part-line-last-start c = search needs
-
-part-line-last-end : tie.Need-part-line-last-end
-part-line-last-end c = search needs
-
-mul-line-last-2 : tie.Need-mul-line-last-2
-mul-line-last-2 c = search needs
-
-sub-line-last-3 : tie.Need-sub-line-last-3
-sub-line-last-3 c = search needs
-
-part-line-last-start-2 : tie.Need-part-line-last-start-2
-part-line-last-start-2 c = search needs
-
-part-line-last-end-2 : tie.Need-part-line-last-end-2
-part-line-last-end-2 c = search needs
-
-line-last-requires : tie.Need-line-last-requires
-line-last-requires c κs = search needs
-
-same-length : tie.Need-same-length
-same-length c = search needs
-
 returns : tie.Need-returns
 returns c =
     let a = (c .before .before .before .before .before .before .before .before .before .before .before .before .before .before .before .before) .args in
@@ -114,29 +39,29 @@ pub line-row-spec : {M : Type 1} → statement M
 line-row-spec =
     tie.close
     (tie.spec
-    mul-line-first
-    sub-line-first
-    part-line-first-start
-    part-line-first-end
-    line-first-requires
-    mul-line-middle
-    sub-line-middle
-    part-line-middle-start
-    part-line-middle-end
-    mul-line-middle-2
-    sub-line-middle-2
-    part-line-middle-start-2
-    part-line-middle-end-2
-    line-middle-requires
-    sub-line-last
-    mul-line-last
-    sub-line-last-2
-    part-line-last-start
-    part-line-last-end
-    mul-line-last-2
-    sub-line-last-3
-    part-line-last-start-2
-    part-line-last-end-2
-    line-last-requires
-    same-length
+    (λ c. search needs)
+    (λ c. search needs)
+    (λ c. search needs)
+    (λ c. search needs)
+    (λ c κs. search needs)
+    (λ c. search needs)
+    (λ c. search needs)
+    (λ c. search needs)
+    (λ c. search needs)
+    (λ c. search needs)
+    (λ c. search needs)
+    (λ c. search needs)
+    (λ c. search needs)
+    (λ c κs. search needs)
+    (λ c. search needs)
+    (λ c. search needs)
+    (λ c. search needs)
+    (λ c. search needs)
+    (λ c. search needs)
+    (λ c. search needs)
+    (λ c. search needs)
+    (λ c. search needs)
+    (λ c. search needs)
+    (λ c κs. search needs)
+    (λ c. search needs)
     returns)

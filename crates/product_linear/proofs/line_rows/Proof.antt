@@ -28,12 +28,6 @@ add-line-row c = omega (arith, fits (c))
 mul-line-row : tie.Need-mul-line-row Inv-loop μ-loop
 mul-line-row c = omega (arith, fits (c))
 
-sub-line-row : tie.Need-sub-line-row Inv-loop μ-loop
-sub-line-row c = omega arith
-
-part-line-row-start : tie.Need-part-line-row-start Inv-loop μ-loop
-part-line-row-start c = omega arith
-
 part-line-row-end : tie.Need-part-line-row-end Inv-loop μ-loop
 part-line-row-end c = omega (arith, fits (c))
 
@@ -42,12 +36,6 @@ add-line-row-2 c = omega (arith, fits (c .before))
 
 mul-line-row-2 : tie.Need-mul-line-row-2 Inv-loop μ-loop
 mul-line-row-2 c = omega (arith, fits (c .before))
-
-sub-line-row-2 : tie.Need-sub-line-row-2 Inv-loop μ-loop
-sub-line-row-2 c = omega arith
-
-part-line-row-start-2 : tie.Need-part-line-row-start-2 Inv-loop μ-loop
-part-line-row-start-2 c = omega arith
 
 part-line-row-end-2 : tie.Need-part-line-row-end-2 Inv-loop μ-loop
 part-line-row-end-2 c = omega (arith, fits (c .before), c .before .before .loop .inv .1 .1 .len)
@@ -89,13 +77,13 @@ line-rows-spec =
     loop-holds
     add-line-row
     mul-line-row
-    sub-line-row
-    part-line-row-start
+    (λ c. omega arith)
+    (λ c. omega arith)
     part-line-row-end
     add-line-row-2
     mul-line-row-2
-    sub-line-row-2
-    part-line-row-start-2
+    (λ c. omega arith)
+    (λ c. omega arith)
     part-line-row-end-2
     line-row-requires
     add-from

@@ -47,12 +47,6 @@ mul-to-2 c = omega (arith, c .before .before .loop .inv .1 .1 .0, c .before .bef
 slice-write-to : tie.Need-slice-write-to Inv-loop μ-loop
 slice-write-to c = omega (arith, c .before .before .loop .inv .1 .1 .1 .len, c .before .before .loop .inv .1 .1 .0)
 
-add-k : tie.Need-add-k Inv-loop μ-loop
-add-k c = omega arith
-
-loop-less : tie.Need-loop-less Inv-loop μ-loop
-loop-less c = omega arith
-
 loop-again : tie.Need-loop-again Inv-loop μ-loop
 loop-again c = (omega (arith, c .before .before .loop .inv .0), (omega arith, (c .before .before .loop .inv .1 .1 .0, filled-more (c .before .before .loop .inv .1 .1 .1) (row-more (c .before .before .before .before .before .before .before .before .before .args .m) (c .before .before .before .before .before .before .before .before .before .args .s) (c .before .before .before .before .before .before .before .before .before .args .a .now) (c .before .before .loop .k) (c .before .before .loop .inv .0)) (omega (arith, c .before .before .loop .inv .1 .1 .0)))))
 
@@ -77,8 +71,8 @@ raise-row-spec =
     shared-slice-read-to
     mul-to-2
     slice-write-to
-    add-k
-    loop-less
+    (λ c. omega arith)
+    (λ c. omega arith)
     loop-again
     same-length
     returns)

@@ -28,12 +28,6 @@ add-raise-row c = omega (arith, fits ((c)))
 mul-raise-row : tie.Need-mul-raise-row Inv-loop μ-loop
 mul-raise-row c = omega (arith, fits ((c)))
 
-sub-raise-row : tie.Need-sub-raise-row Inv-loop μ-loop
-sub-raise-row c = omega arith
-
-part-raise-row-start : tie.Need-part-raise-row-start Inv-loop μ-loop
-part-raise-row-start c = omega arith
-
 part-raise-row-end : tie.Need-part-raise-row-end Inv-loop μ-loop
 part-raise-row-end c = omega (arith, fits ((c)))
 
@@ -42,12 +36,6 @@ add-raise-row-2 c = omega (arith, fits ((c .before)))
 
 mul-raise-row-2 : tie.Need-mul-raise-row-2 Inv-loop μ-loop
 mul-raise-row-2 c = omega (arith, fits ((c .before)))
-
-sub-raise-row-2 : tie.Need-sub-raise-row-2 Inv-loop μ-loop
-sub-raise-row-2 c = omega arith
-
-part-raise-row-start-2 : tie.Need-part-raise-row-start-2 Inv-loop μ-loop
-part-raise-row-start-2 c = omega arith
 
 part-raise-row-end-2 : tie.Need-part-raise-row-end-2 Inv-loop μ-loop
 part-raise-row-end-2 c = omega (arith, fits ((c .before)), c .before .before .loop .inv .1 .1 .len)
@@ -82,13 +70,13 @@ raise-rows-spec =
     loop-holds
     add-raise-row
     mul-raise-row
-    sub-raise-row
-    part-raise-row-start
+    (λ c. omega arith)
+    (λ c. omega arith)
     part-raise-row-end
     add-raise-row-2
     mul-raise-row-2
-    sub-raise-row-2
-    part-raise-row-start-2
+    (λ c. omega arith)
+    (λ c. omega arith)
     part-raise-row-end-2
     raise-row-requires
     add-from

@@ -14,26 +14,11 @@ reach c =
     let t : ltb (a .k + 3) (a .nx) && ltb (a .k + 3) (a .ny) ≡ true = c .if1 .taken in
     (ltb-true (a .k + 3) (a .nx) (and-left (ltb (a .k + 3) (a .nx)) (ltb (a .k + 3) (a .ny)) t), ltb-true (a .k + 3) (a .ny) (and-right (ltb (a .k + 3) (a .nx)) (ltb (a .k + 3) (a .ny)) t))
 
-add-if1 : tie.Need-add-if1
-add-if1 c = omega arith
-
-add-if1-2 : tie.Need-add-if1-2
-add-if1-2 c = omega arith
-
 four-full-requires : tie.Need-four-full-requires
 four-full-requires c κs = ((omega (arith, reach c .0), omega (arith, reach c .1)), (c .before .before .before) .pre .1)
 
 returns : tie.Need-returns
 returns c = c .four-full .ensures _ _ (reach (c .before) .0) (reach (c .before) .1)
-
-add-from : tie.Need-add-from
-add-from c = omega arith
-
-from-requires : tie.Need-from-requires
-from-requires c κs = omega arith
-
-upto-requires : tie.Need-upto-requires
-upto-requires c κs = omega arith
 
 four-by-requires : tie.Need-four-by-requires
 four-by-requires c κs = let p = (c .before .before .before .before .before .before) .pre in record { left = p .0 .0; right = p .0 .1; small = p .1; first = c .before .before .from .ensures; last = c .before .upto .ensures; shared = c .if2 .taken }
@@ -44,20 +29,11 @@ returns-2 c = c .four-by .ensures
 line-at-requires : tie.Need-line-at-requires
 line-at-requires c κs = ((c .before .before .before .before .before .before) .pre .0, omega arith)
 
-add-line-at : tie.Need-add-line-at
-add-line-at c = omega arith
-
 line-at-requires-2 : tie.Need-line-at-requires-2
 line-at-requires-2 c κs = ((c .before .before .before .before .before .before .before) .pre .0, omega arith)
 
-add-line-at-2 : tie.Need-add-line-at-2
-add-line-at-2 c = omega arith
-
 line-at-requires-3 : tie.Need-line-at-requires-3
 line-at-requires-3 c κs = ((c .before .before .before .before .before .before .before .before) .pre .0, omega arith)
-
-add-line-at-3 : tie.Need-add-line-at-3
-add-line-at-3 c = omega arith
 
 line-at-requires-4 : tie.Need-line-at-requires-4
 line-at-requires-4 c κs = ((c .before .before .before .before .before .before .before .before .before) .pre .0, omega arith)
@@ -69,20 +45,20 @@ pub four-at-spec : {M : Type 1} → statement M
 four-at-spec =
     tie.close
     (tie.spec
-    add-if1
-    add-if1-2
+    (λ c. omega arith)
+    (λ c. omega arith)
     four-full-requires
     returns
-    add-from
-    from-requires
-    upto-requires
+    (λ c. omega arith)
+    (λ c κs. omega arith)
+    (λ c κs. omega arith)
     four-by-requires
     returns-2
     line-at-requires
-    add-line-at
+    (λ c. omega arith)
     line-at-requires-2
-    add-line-at-2
+    (λ c. omega arith)
     line-at-requires-3
-    add-line-at-3
+    (λ c. omega arith)
     line-at-requires-4
     returns-3)

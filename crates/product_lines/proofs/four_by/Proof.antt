@@ -46,9 +46,6 @@ add-upto c = let p = (c .before .before .before .before .before .before .before 
 upto-requires : tie.Need-upto-requires
 upto-requires c κs = let p = (c .before .before .before .before .before .before .before .before .before) .pre .small in omega arith
 
-array-read-sum-on : tie.Need-array-read-sum-on
-array-read-sum-on c = omega arith
-
 sum-on-requires-4 : tie.Need-sum-on-requires-4
 sum-on-requires-4 c κs = tail-in ((c .before .before .before .before .before .before .before .before .before .before) .pre) (omega arith) (omega arith) (c .upto .ensures)
 
@@ -60,9 +57,6 @@ add-upto-2 c = let p = (c .before .before .before .before .before .before .befor
 
 upto-requires-2 : tie.Need-upto-requires-2
 upto-requires-2 c κs = let p = (c .before .before .before .before .before .before .before .before .before .before .before) .pre .small in omega arith
-
-array-read-sum-on-2 : tie.Need-array-read-sum-on-2
-array-read-sum-on-2 c = omega arith
 
 sum-on-requires-5 : tie.Need-sum-on-requires-5
 sum-on-requires-5 c κs = tail-in ((c .before .before .before .before .before .before .before .before .before .before .before .before) .pre) (omega arith) (omega arith) (c .upto2 .ensures)
@@ -76,14 +70,8 @@ add-upto-3 c = let p = (c .before .before .before .before .before .before .befor
 upto-requires-3 : tie.Need-upto-requires-3
 upto-requires-3 c κs = let p = (c .before .before .before .before .before .before .before .before .before .before .before .before .before) .pre .small in omega arith
 
-array-read-sum-on-3 : tie.Need-array-read-sum-on-3
-array-read-sum-on-3 c = omega arith
-
 sum-on-requires-6 : tie.Need-sum-on-requires-6
 sum-on-requires-6 c κs = tail-in ((c .before .before .before .before .before .before .before .before .before .before .before .before .before .before) .pre) (omega arith) (omega arith) (c .upto3 .ensures)
-
-array-read-t22 : tie.Need-array-read-t22
-array-read-t22 c = omega arith
 
 returns : tie.Need-returns
 unfolding ofBits
@@ -107,17 +95,17 @@ four-by-spec =
     add-sum-on-3
     add-upto
     upto-requires
-    array-read-sum-on
+    (λ c. omega arith)
     sum-on-requires-4
     add-sum-on-4
     add-upto-2
     upto-requires-2
-    array-read-sum-on-2
+    (λ c. omega arith)
     sum-on-requires-5
     add-sum-on-5
     add-upto-3
     upto-requires-3
-    array-read-sum-on-3
+    (λ c. omega arith)
     sum-on-requires-6
-    array-read-t22
+    (λ c. omega arith)
     returns)

@@ -14,18 +14,6 @@ abbrev μ-loop : tie.MeasureT-loop
 turn : (c : tie.In-loop Inv-loop μ-loop) → Near ((c .before .before .before .before) .args .k) (c .before .loop .j) (length ((c .before .before .before .before) .args .xs .now)) (length ((c .before .before .before .before) .args .ys .now))
 turn c = let f = c .before .loop .inv .1 .w0 .from in let t = c .loop-test .taken in near (omega arith) (omega arith) (omega arith) ((c .before .before .before .before) .pre .small)
 
-array-read-s0 : tie.Need-array-read-s0 Inv-loop μ-loop
-array-read-s0 c = omega arith
-
-array-read-s1 : tie.Need-array-read-s1 Inv-loop μ-loop
-array-read-s1 c = omega arith
-
-array-read-s2 : tie.Need-array-read-s2 Inv-loop μ-loop
-array-read-s2 c = omega arith
-
-array-read-s3 : tie.Need-array-read-s3 Inv-loop μ-loop
-array-read-s3 c = omega arith
-
 loop-holds : tie.Need-loop-holds Inv-loop μ-loop
 loop-holds c = let a = (c .before .before) .args in ((c .before .before) .pre .ordered, walking-none (a .xs .now) (a .ys .now) (a .k) (a .a) _ _ _ _)
 
@@ -116,10 +104,10 @@ four-on-spec =
     (tie.spec
     Inv-loop
     μ-loop
-    array-read-s0
-    array-read-s1
-    array-read-s2
-    array-read-s3
+    (λ c. omega arith)
+    (λ c. omega arith)
+    (λ c. omega arith)
+    (λ c. omega arith)
     loop-holds
     add-loop
     mul-x

@@ -17,28 +17,16 @@ abbrev μ-loop : tie.MeasureT-loop
 loop-holds : tie.Need-loop-holds Inv-loop μ-loop
 loop-holds c = (omega arith, filled-none)
 
-add-if1 : tie.Need-add-if1 Inv-loop μ-loop
-add-if1 c = omega arith
-
 four-at-requires : tie.Need-four-at-requires Inv-loop μ-loop
 four-at-requires c κs = ((c .before .before .before .before .before .before .before) .pre .0, omega arith)
 
 add-four-requires : tie.Need-add-four-requires Inv-loop μ-loop
 add-four-requires c κs = let l = c .before .before .before .before .loop .inv .1 .len in omega arith
 
-add-k : tie.Need-add-k Inv-loop μ-loop
-add-k c = omega arith
-
-loop-less : tie.Need-loop-less Inv-loop μ-loop
-loop-less c = omega arith
-
 loop-again : tie.Need-loop-again Inv-loop μ-loop
 loop-again c =
     let a = (c .before .before .before .before .before .before .before .before .before .before .before) .args in
     (omega arith, rw (c .before .before .add-four .ensures) (four-more (a .xs .now) (a .ys .now) (a .nx) (a .ny) (c .before .before .before .before .before .before .before .loop .inv .1) (omega arith) (c .before .before .before .four-at .ensures)))
-
-mul-res : tie.Need-mul-res Inv-loop μ-loop
-mul-res c = omega arith
 
 slice-read-res : tie.Need-slice-read-res Inv-loop μ-loop
 slice-read-res c = let l = c .before .before .before .loop .inv .1 .len in omega arith
@@ -46,17 +34,8 @@ slice-read-res c = let l = c .before .before .before .loop .inv .1 .len in omega
 line-at-requires : tie.Need-line-at-requires Inv-loop μ-loop
 line-at-requires c κs = ((c .before .before .before .before .before .before .before) .pre .0, omega arith)
 
-mul-res-2 : tie.Need-mul-res-2 Inv-loop μ-loop
-mul-res-2 c = omega arith
-
 slice-write-res : tie.Need-slice-write-res Inv-loop μ-loop
 slice-write-res c = let l = c .before .before .before .before .loop .inv .1 .len in omega arith
-
-add-k-2 : tie.Need-add-k-2 Inv-loop μ-loop
-add-k-2 c = omega arith
-
-loop-less-2 : tie.Need-loop-less-2 Inv-loop μ-loop
-loop-less-2 c = omega arith
 
 loop-again-2 : tie.Need-loop-again-2 Inv-loop μ-loop
 loop-again-2 c =
@@ -76,19 +55,19 @@ lines-spec =
     Inv-loop
     μ-loop
     loop-holds
-    add-if1
+    (λ c. omega arith)
     four-at-requires
     add-four-requires
-    add-k
-    loop-less
+    (λ c. omega arith)
+    (λ c. omega arith)
     loop-again
-    mul-res
+    (λ c. omega arith)
     slice-read-res
     line-at-requires
-    mul-res-2
+    (λ c. omega arith)
     slice-write-res
-    add-k-2
-    loop-less-2
+    (λ c. omega arith)
+    (λ c. omega arith)
     loop-again-2
     same-length
     returns)

@@ -25,9 +25,6 @@ used c = c .divide-into .kept .1 .1 .1 .1 .1 .1 .1 .0 ∙ length-take-le _ _ (op
 rooms : (c : tie.After-divide-into) → 8 * c .before .before .before .before .before .before .before .before .before .before .before .before .before .before .before .open-pair .result .n ≤ length (c .divide-into .last .1 .1 .1 .1 .1 .1 .1 .0 ++ drop (8 * c .before .before .before .before .before .before .before .before .before .before .before .before .before .before .before .open-pair .result .n) (c .before .before .before .before .before .before .before .before .before .before .before .before .before .before .before .before .before .before .before .before .args .scratch .now))
 rooms c = simp length-append (omega (arith, used c))
 
-open-pair-requires : tie.Need-open-pair-requires
-open-pair-requires c κs = search needs
-
 returns : tie.Need-returns
 unfolding quotientAnswer quotientOut quotientScratch
 returns c = let e = (c .before .before .before .open-pair .ensures .refusal) in let n = c .if1 .taken in (refused-answer e (announcedPair Quotient (c .before .before .before .before .before .before .before .before .args .ah) (c .before .before .before .before .before .before .before .before .args .bh)) (value (c .before .before .before .before .before .before .before .before)) n, (refused-out e (announcedPair Quotient (c .before .before .before .before .before .before .before .before .args .ah) (c .before .before .before .before .before .before .before .before .args .bh)) (value (c .before .before .before .before .before .before .before .before)) n (c .before .before .before .before .before .before .before .before .args .out .now), refused-scratch e (announcedPair Quotient (c .before .before .before .before .before .before .before .before .args .ah) (c .before .before .before .before .before .before .before .before .args .bh)) (value (c .before .before .before .before .before .before .before .before)) n (c .before .before .before .before .before .before .before .before .args .scratch .now)))
@@ -62,17 +59,8 @@ slice-relend-prefix-clear c = rooms (c .before .before .before .before)
 slice-aggregate-clear : tie.Need-slice-aggregate-clear
 slice-aggregate-clear c = sym (length-take-le _ _ (rooms (c .before .before .before .before .before)))
 
-clear-requires : tie.Need-clear-requires
-clear-requires c κs = search needs
-
 pack-requires : tie.Need-pack-requires
 pack-requires c κs = let t = c .before .before .before .before .before .before .before .before .before .before .before .before .before .before .before .before .before .before .before .before .before .before .before .open-pair .ensures .tells (c .before .before .before .before .before .before .before .before .before .before .before .before .before .before .before .before .before .before .before .before .if1 .left) in entry-ruled (opened-ready (c .before .before .before .before .before .before .before .before .before .before .before .before .before .before .before .before .before .before .before .before .before .before .before .open-pair .ensures) (c .before .before .before .before .before .before .before .before .before .before .before .before .before .before .before .before .before .before .before .before .if1 .left)) (t .left) (t .right) (told-by Quotient t)
-
-same-length : tie.Need-same-length
-same-length c = search needs
-
-same-length-2 : tie.Need-same-length-2
-same-length-2 c = search needs
 
 returns-2 : tie.Need-returns-2
 unfolding quotientAnswer quotientOut quotientScratch
@@ -82,7 +70,7 @@ pub divide-spec : {M : Type 1} → statement M
 divide-spec =
     tie.close
     (tie.spec
-    open-pair-requires
+    (λ c κs. search needs)
     returns
     mul-room
     slice-aggregate-divide-into
@@ -94,8 +82,8 @@ divide-spec =
     divide-into-requires
     slice-relend-prefix-clear
     slice-aggregate-clear
-    clear-requires
+    (λ c κs. search needs)
     pack-requires
-    same-length
-    same-length-2
+    (λ c. search needs)
+    (λ c. search needs)
     returns-2)

@@ -42,12 +42,6 @@ mul-work-3 c = let l = c .before .before .before .loop .inv .1 .len in omega (ar
 slice-write-work : tie.Need-slice-write-work Inv-loop μ-loop
 slice-write-work c = let l = c .before .before .before .loop .inv .1 .len in omega (arith, (c .before .before .before .before) .pre)
 
-add-i : tie.Need-add-i Inv-loop μ-loop
-add-i c = omega arith
-
-loop-less : tie.Need-loop-less Inv-loop μ-loop
-loop-less c = omega arith
-
 loop-again : tie.Need-loop-again Inv-loop μ-loop
 loop-again c = let a = c .before .before .before .before .args in let l = c .before .before .before .loop in (omega arith, laid-more (a .to) (l .i) (λ j. add binary64 (neg (getD (a .row .now) j nan)) (getD (a .work .now) (a .from + j) nan)) (l .inv .1) (ap (λ (z : Float). add binary64 (neg (getD (a .row .now) (l .i) nan)) z) (l .inv .1 .low (a .from + l .i) (omega (arith, (c .before .before .before .before) .pre)))) (omega (arith, (c .before .before .before .before) .pre)))
 
@@ -72,8 +66,8 @@ lessen-spec =
     add-work-2
     mul-work-3
     slice-write-work
-    add-i
-    loop-less
+    (λ c. omega arith)
+    (λ c. omega arith)
     loop-again
     same-length
     returns)

@@ -19,9 +19,6 @@ add-end c = let t = (c .before .before) .pre .1 in let a = t .apart in let z = t
 mul-taken-row : tie.Need-mul-taken-row
 mul-taken-row c = let t = (c .before .before) .pre .1 in let a = t .apart in let z = t .ends in let m = t .room in let d = t .divisor in let o = t .before in omega (arith, row-fits ((c .before .before) .pre .0) (c .before .before .args .work .now) ((c .before .before) .pre .1))
 
-sub-taken-row : tie.Need-sub-taken-row
-sub-taken-row c = omega arith
-
 part-taken-row-start : tie.Need-part-taken-row-start
 part-taken-row-start c = let t = (c .before .before .before) .pre .1 in let a = t .apart in let z = t .ends in let m = t .room in let d = t .divisor in let o = t .before in omega (arith, row-fits ((c .before .before .before) .pre .0) (c .before .before .before .args .work .now) ((c .before .before .before) .pre .1))
 
@@ -67,7 +64,7 @@ gather-spec =
     mul-at-2
     add-end
     mul-taken-row
-    sub-taken-row
+    (λ c. omega arith)
     part-taken-row-start
     part-taken-row-end
     mul-taken-row-2

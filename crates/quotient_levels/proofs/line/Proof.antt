@@ -41,9 +41,6 @@ from-requires c κs = let g = (c .before .before .before) .pre .single in row-sm
 mul-sum-on : tie.Need-mul-sum-on Inv-loop μ-loop
 mul-sum-on c = let i = lies (c .before) in omega (arith, i .0, i .1, i .2, i .3)
 
-sub-sum-on : tie.Need-sub-sum-on Inv-loop μ-loop
-sub-sum-on c = omega arith
-
 part-sum-on-start : tie.Need-part-sum-on-start Inv-loop μ-loop
 part-sum-on-start c = let i = lies (c .before .before) in omega (arith, i .0, i .1, i .2, i .3)
 
@@ -118,7 +115,7 @@ line-spec =
     array-read-from
     from-requires
     mul-sum-on
-    sub-sum-on
+    (λ c. omega arith)
     part-sum-on-start
     part-sum-on-end
     mul-sum-on-2

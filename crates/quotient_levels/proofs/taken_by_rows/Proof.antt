@@ -30,9 +30,6 @@ left c = done-in ((c .before .before .before .before .before .before .before .be
 right : (c : tie.In-loop Inv-loop μ-loop) → (c .before .before .before .before .before .before .before .before .before .before .args .k - c .before .loop .j) * at (c .before .before .before .before .before .before .before .before .before .before .args .t4) (c .before .before .before .before .before .before .before .before .before .before .args .v) + at (c .before .before .before .before .before .before .before .before .before .before .args .t4) (c .before .before .before .before .before .before .before .before .before .before .args .v) ≤ length (c .before .before .before .before .before .before .before .before .before .before .args .ys .now)
 right c = divisor-in ((c .before .before .before .before .before .before .before .before .before .before) .pre .0) (c .before .before .before .before .before .before .before .before .before .before .args .done .now) (c .before .before .before .before .before .before .before .before .before .before .args .ys .now) ((c .before .before .before .before .before .before .before .before .before .before) .pre .1) (begun c) (c .loop-test .taken)
 
-clear-requires : tie.Need-clear-requires Inv-loop μ-loop
-clear-requires c κs = search needs
-
 add-w : tie.Need-add-w Inv-loop μ-loop
 add-w c = let h = (c .before .before .before .before .before .before .before) .pre .1 .some in omega arith
 
@@ -78,9 +75,6 @@ sub-rows c = omega (arith, left (c))
 part-rows-start : tie.Need-part-rows-start Inv-loop μ-loop
 part-rows-start c = omega (arith, left (c))
 
-part-rows-end : tie.Need-part-rows-end Inv-loop μ-loop
-part-rows-end c = omega arith
-
 mul-rows-2 : tie.Need-mul-rows-2 Inv-loop μ-loop
 mul-rows-2 c = omega (arith, right (c .before))
 
@@ -89,9 +83,6 @@ sub-rows-2 c = omega (arith, right (c .before))
 
 part-rows-start-2 : tie.Need-part-rows-start-2 Inv-loop μ-loop
 part-rows-start-2 c = omega (arith, right (c .before))
-
-part-rows-end-2 : tie.Need-part-rows-end-2 Inv-loop μ-loop
-part-rows-end-2 c = omega arith
 
 rows-requires : tie.Need-rows-requires Inv-loop μ-loop
 rows-requires c κs = ((c .before .before .before .before .before .before .before .before .before .before .before .before .before) .pre .0, taking-rows ((c .before .before .before .before .before .before .before .before .before .before .before .before .before) .pre .0) (c .before .before .before .before .before .before .before .before .before .before .before .before .before .args .done .now) (c .before .before .before .before .before .before .before .before .before .before .before .before .before .args .ys .now) ((c .before .before .before .before .before .before .before .before .before .before .before .before .before) .pre .1) (begun (c .before .before .before)) (c .before .before .before .loop-test .taken) (c .before .before .before .before .loop .inv .1 .len))
@@ -117,7 +108,7 @@ taken-by-rows-spec =
     (tie.spec
     Inv-loop
     μ-loop
-    clear-requires
+    (λ c κs. search needs)
     add-w
     mul-s
     array-read-s
@@ -133,11 +124,11 @@ taken-by-rows-spec =
     mul-rows
     sub-rows
     part-rows-start
-    part-rows-end
+    (λ c. omega arith)
     mul-rows-2
     sub-rows-2
     part-rows-start-2
-    part-rows-end-2
+    (λ c. omega arith)
     rows-requires
     add-j
     loop-less

@@ -27,18 +27,9 @@ placed c = rw (c .before .before .before .before .header-of .ensures) at (c .pla
 low : (c : tie.After-place-of) → c .place-of .result < length ((c .before .before .before .before .before .before .before .before .before) .args .a .now)
 low c = rw (placed c) (read-place ((c .before .before .before .before .before .before .before .before .before) .args .head) ((c .before .before .before .before .before .before .before .before .before) .args .a .now) ((c .before .before .before .before .before .before .before .before .before) .args .index) (ready (c .before .before .before .before .before) .read) (there (c .before)))
 
-index-gate-requires : tie.Need-index-gate-requires
-index-gate-requires c κs = search needs
-
 returns : tie.Need-returns
 unfolding coefficientAnswer
 returns c = read-refused (c .before .before .index-gate .ensures) (c .if1 .taken) _
-
-header-of-requires : tie.Need-header-of-requires
-header-of-requires c κs = search needs
-
-is-inside-requires : tie.Need-is-inside-requires
-is-inside-requires c κs = search needs
 
 returns-2 : tie.Need-returns-2
 unfolding coefficientAnswer
@@ -61,10 +52,10 @@ pub coefficient-spec : {M : Type 1} → statement M
 coefficient-spec =
     tie.close
     (tie.spec
-    index-gate-requires
+    (λ c κs. search needs)
     returns
-    header-of-requires
-    is-inside-requires
+    (λ c κs. search needs)
+    (λ c κs. search needs)
     returns-2
     place-of-requires
     mul-t8

@@ -32,18 +32,9 @@ count c = c .stored-of2 .ensures ∙ ap stored (is-announced (c .before .before)
 head-is : (c : tie.After-take-term) → c .take-term .result ≡ coefficientsOfTerm ((c .before .before .before .before .before .before .before .before .before .before .before .before .before) .args .v) ((c .before .before .before .before .before .before .before .before .before .before .before .before .before) .args .order) (held ((c .before .before .before .before .before .before .before .before .before .before .before .before .before) .args .head) ((c .before .before .before .before .before .before .before .before .before .before .before .before .before) .args .a .now)) .head
 head-is c = rw (c .before .before .before .before .before .before .before .header-of .ensures, given (c .before .before .before .before)) at (c .take-term .ensures .0)
 
-in-gate-requires : tie.Need-in-gate-requires
-in-gate-requires c κs = search needs
-
 returns : tie.Need-returns
 unfolding coefficientsOfTermAnswer coefficientsOfTermOut
 returns c = entry-refused (c .before .before .in-gate .ensures) (c .if1 .taken) (announcedOne (Term ((c .before .before .before .before .before) .args .v)) ((c .before .before .before .before .before) .args .head)) (coefficientsOfTerm ((c .before .before .before .before .before) .args .v) ((c .before .before .before .before .before) .args .order) (held ((c .before .before .before .before .before) .args .head) ((c .before .before .before .before .before) .args .a .now))) ((c .before .before .before .before .before) .args .out .now)
-
-header-of-requires : tie.Need-header-of-requires
-header-of-requires c κs = search needs
-
-none-requires : tie.Need-none-requires
-none-requires c κs = search needs
 
 announced-of-requires : tie.Need-announced-of-requires
 announced-of-requires c κs = (rw (c .before .header-of .ensures) (ready (c .before .before) .one .good .regular .rules), rw (c .none .ensures) (none-regular .rules))
@@ -69,9 +60,6 @@ take-term-requires c κs = record { rules = rw (c .before .before .before .befor
 pack-requires : tie.Need-pack-requires
 pack-requires c κs = rw (head-is (c .before .before)) (coefficients-of-term-keeps ((c .before .before .before .before .before .before .before .before .before .before .before .before .before .before .before) .args .v) ((c .before .before .before .before .before .before .before .before .before .before .before .before .before .before .before) .args .order) (held ((c .before .before .before .before .before .before .before .before .before .before .before .before .before .before .before) .args .head) ((c .before .before .before .before .before .before .before .before .before .before .before .before .before .before .before) .args .a .now)) (ready (c .before .before .before .before .before .before .before .before .before .before) .one .good .regular .rules) .regular .rules)
 
-same-length : tie.Need-same-length
-same-length c = search needs
-
 returns-2 : tie.Need-returns-2
 unfolding coefficientsOfTermAnswer coefficientsOfTermOut
 returns-2 c = entry-done (c .before .before .before .before .before .before .before .before .before .before .before .before .before .in-gate .ensures) (c .before .before .before .before .before .before .before .before .before .before .before .if1 .left) (announcedOne (Term ((c .before .before .before .before .before .before .before .before .before .before .before .before .before .before .before .before) .args .v)) ((c .before .before .before .before .before .before .before .before .before .before .before .before .before .before .before .before) .args .head)) (coefficientsOfTerm ((c .before .before .before .before .before .before .before .before .before .before .before .before .before .before .before .before) .args .v) ((c .before .before .before .before .before .before .before .before .before .before .before .before .before .before .before .before) .args .order) (held ((c .before .before .before .before .before .before .before .before .before .before .before .before .before .before .before .before) .args .head) ((c .before .before .before .before .before .before .before .before .before .before .before .before .before .before .before .before) .args .a .now))) ((c .before .before .before .before .before .before .before .before .before .before .before .before .before .before .before .before) .args .out .now) (ap Done (c .pack .ensures ∙ ap wordOf (head-is (c .before .before .before)))) (rw (count (c .before .before .before .before .before .before)) (part-written (stored (announcedOne (Term ((c .before .before .before .before .before .before .before .before .before .before .before .before .before .before .before .before) .args .v)) ((c .before .before .before .before .before .before .before .before .before .before .before .before .before .before .before .before) .args .head))) (coefficientsOfTerm ((c .before .before .before .before .before .before .before .before .before .before .before .before .before .before .before .before) .args .v) ((c .before .before .before .before .before .before .before .before .before .before .before .before .before .before .before .before) .args .order) (held ((c .before .before .before .before .before .before .before .before .before .before .before .before .before .before .before .before) .args .head) ((c .before .before .before .before .before .before .before .before .before .before .before .before .before .before .before .before) .args .a .now)) .coeffs) ((c .before .before .before .before .before .before .before .before .before .before .before .before .before .before .before .before) .args .out .now) (rw (c .before .before .before .before .before .before .before .before .before .before .header-of .ensures, given (c .before .before .before .before .before .before .before), is-announced (c .before .before .before .before .before .before .before .before)) at (c .before .before .before .take-term .ensures .1))))
@@ -80,10 +68,10 @@ pub coefficients-of-term-spec : {M : Type 1} → statement M
 coefficients-of-term-spec =
     tie.close
     (tie.spec
-    in-gate-requires
+    (λ c κs. search needs)
     returns
-    header-of-requires
-    none-requires
+    (λ c κs. search needs)
+    (λ c κs. search needs)
     announced-of-requires
     stored-of-requires
     stored-of-requires-2
@@ -92,5 +80,5 @@ coefficients-of-term-spec =
     slice-aggregate-take-term-2
     take-term-requires
     pack-requires
-    same-length
+    (λ c. search needs)
     returns-2)

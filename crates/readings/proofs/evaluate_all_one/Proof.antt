@@ -14,15 +14,9 @@ ready c = read-ready _ _ (ap (λ r. r .number) (sym (c .before .before .read-gat
 counted : (c : tie.After-stored-of) → c .stored-of .result ≡ stored (headerOf ((c .before .before .before .before .before .before) .args .head))
 counted c = c .stored-of .ensures ∙ ap stored (c .before .header-of .ensures)
 
-read-gate-requires : tie.Need-read-gate-requires
-read-gate-requires c κs = search needs
-
 returns : tie.Need-returns
 unfolding evaluateAllOneAnswer
 returns c = read-refused (c .before .before .read-gate .ensures) (c .if1 .taken) _
-
-header-of-requires : tie.Need-header-of-requires
-header-of-requires c κs = search needs
 
 stored-of-requires : tie.Need-stored-of-requires
 stored-of-requires c κs = rw (c .header-of .ensures) (ready (c .before) .good .regular .rules)
@@ -38,9 +32,9 @@ pub evaluate-all-one-spec : {M : Type 1} → statement M
 evaluate-all-one-spec =
     tie.close
     (tie.spec
-    read-gate-requires
+    (λ c κs. search needs)
     returns
-    header-of-requires
+    (λ c κs. search needs)
     stored-of-requires
     sum-to-requires
     returns-2)

@@ -19,24 +19,12 @@ ready c = tail-ready _ _ _ (ap (λ r. r .number) (sym (c .before .before .tail-g
 many : (c : tie.After-least) → c .least .result ≡ min (len (headerOf ((c .before .before .before .before .before .before .before) .args .head)) 0) (((c .before .before .before .before .before .before .before) .args .k) + 1)
 many c = rw (c .before .before .header-of .ensures) at (c .least .ensures)
 
-tail-gate-requires : tie.Need-tail-gate-requires
-tail-gate-requires c κs = search needs
-
 returns : tie.Need-returns
 unfolding tailAnswer
 returns c = read-refused (c .before .before .tail-gate .ensures) (c .if1 .taken) _
 
-header-of-requires : tie.Need-header-of-requires
-header-of-requires c κs = search needs
-
-array-read-least : tie.Need-array-read-least
-array-read-least c = omega arith
-
 add-least : tie.Need-add-least
 add-least c = omega (arith, ready (c .before .before) .below, ready (c .before .before) .read .good .regular .rules .v0 .most)
-
-least-requires : tie.Need-least-requires
-least-requires c κs = search needs
 
 sum-to-requires : tie.Need-sum-to-requires
 sum-to-requires c κs = rw (many c) (let t = tail-room (ready (c .before .before .before) .read) in omega arith)
@@ -49,11 +37,11 @@ pub tail-spec : {M : Type 1} → statement M
 tail-spec =
     tie.close
     (tie.spec
-    tail-gate-requires
+    (λ c κs. search needs)
     returns
-    header-of-requires
-    array-read-least
+    (λ c κs. search needs)
+    (λ c. omega arith)
     add-least
-    least-requires
+    (λ c κs. search needs)
     sum-to-requires
     returns-2)

@@ -17,23 +17,14 @@ ready c = var-ready _ _ _ (ap (λ r. r .number) (sym (c .before .before .var-gat
 header : (c : tie.After-var-with-degrees-p1) → c .var-with-degrees-p1 .result ≡ (varHeader ((c .before .before .before .before .before) .args .v) ((c .before .before .before .before .before) .args .limit))
 header c = rw (add-one ((c .before .before .before .before .before) .args .v)) at (c .var-with-degrees-p1 .ensures)
 
-var-gate-requires : tie.Need-var-gate-requires
-var-gate-requires c κs = search needs
-
 returns : tie.Need-returns
 returns c = entry-refused (c .before .before .var-gate .ensures) (c .if1 .taken) (varHeader ((c .before .before .before .before) .args .v) ((c .before .before .before .before) .args .limit)) (variable (varHeader ((c .before .before .before .before) .args .v) ((c .before .before .before .before) .args .limit)) ((c .before .before .before .before) .args .x)) ((c .before .before .before .before) .args .out .now)
 
 add-var-with-degrees-p1 : tie.Need-add-var-with-degrees-p1
 add-var-with-degrees-p1 c = omega (arith, ready (c) .known)
 
-var-with-degrees-p1-requires : tie.Need-var-with-degrees-p1-requires
-var-with-degrees-p1-requires c κs = search needs
-
 write-short-requires : tie.Need-write-short-requires
 write-short-requires c κs = rw (header (c .before)) (ready (c .before .before) .header, var-count _ (four (λ k. (c .before .before .before .before .before .before) .args .limit)) ((c .before .before .before .before .before .before) .args .v) (omega (arith, ready (c .before .before) .known)))
-
-same-length : tie.Need-same-length
-same-length c = search needs
 
 returns-2 : tie.Need-returns-2
 returns-2 c = entry-done (c .before .before .before .before .before .before .before .var-gate .ensures) (c .before .before .before .before .before .if1 .left) (varHeader ((c .before .before .before .before .before .before .before .before .before) .args .v) ((c .before .before .before .before .before .before .before .before .before) .args .limit)) (variable (varHeader ((c .before .before .before .before .before .before .before .before .before) .args .v) ((c .before .before .before .before .before .before .before .before .before) .args .limit)) ((c .before .before .before .before .before .before .before .before .before) .args .x)) ((c .before .before .before .before .before .before .before .before .before) .args .out .now) (rw (header (c .before .before .before .before)) at (c .before .before .write-short .ensures .0)) (rw (header (c .before .before .before .before)) at (c .before .before .write-short .ensures .1))
@@ -42,10 +33,10 @@ pub var-spec : {M : Type 1} → statement M
 var-spec =
     tie.close
     (tie.spec
-    var-gate-requires
+    (λ c κs. search needs)
     returns
     add-var-with-degrees-p1
-    var-with-degrees-p1-requires
+    (λ c κs. search needs)
     write-short-requires
-    same-length
+    (λ c. search needs)
     returns-2)

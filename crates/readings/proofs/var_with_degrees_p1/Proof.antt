@@ -12,21 +12,12 @@ use Rattle.readings.proofs.var_with_degrees_p1.Tie as tie
 ready : (c : tie.Else1) → VarWithReady ((c .before .before .before .before) .args .v) ((c .before .before .before .before) .args .vars) ((c .before .before .before .before) .args .limits) (length ((c .before .before .before .before) .args .out .now))
 ready c = var-with-ready _ _ _ _ (ap (λ r. r .number) (sym (c .before .before .var-with-gate .ensures)) ∙ c .if1 .left)
 
-var-with-gate-requires : tie.Need-var-with-gate-requires
-var-with-gate-requires c κs = search needs
-
 returns : tie.Need-returns
 returns c = entry-refused (c .before .before .var-with-gate .ensures) (c .if1 .taken) (varWith ((c .before .before .before .before) .args .v) ((c .before .before .before .before) .args .vars) ((c .before .before .before .before) .args .limits)) (variable (varWith ((c .before .before .before .before) .args .v) ((c .before .before .before .before) .args .vars) ((c .before .before .before .before) .args .limits)) ((c .before .before .before .before) .args .x)) ((c .before .before .before .before) .args .out .now)
-
-var-with-degrees-p1-requires : tie.Need-var-with-degrees-p1-requires
-var-with-degrees-p1-requires c κs = search needs
 
 write-short-requires : tie.Need-write-short-requires
 unfolding varWith
 write-short-requires c κs = rw (c .before .var-with-degrees-p1 .ensures) (ready (c .before .before) .header, var-count ((c .before .before .before .before .before .before) .args .vars) ((c .before .before .before .before .before .before) .args .limits) ((c .before .before .before .before .before .before) .args .v) (omega (arith, ready (c .before .before) .known, ready (c .before .before) .header .good .regular .rules .few)))
-
-same-length : tie.Need-same-length
-same-length c = search needs
 
 returns-2 : tie.Need-returns-2
 returns-2 c = entry-done (c .before .before .before .before .before .before .before .var-with-gate .ensures) (c .before .before .before .before .before .if1 .left) (varWith ((c .before .before .before .before .before .before .before .before .before) .args .v) ((c .before .before .before .before .before .before .before .before .before) .args .vars) ((c .before .before .before .before .before .before .before .before .before) .args .limits)) (variable (varWith ((c .before .before .before .before .before .before .before .before .before) .args .v) ((c .before .before .before .before .before .before .before .before .before) .args .vars) ((c .before .before .before .before .before .before .before .before .before) .args .limits)) ((c .before .before .before .before .before .before .before .before .before) .args .x)) ((c .before .before .before .before .before .before .before .before .before) .args .out .now) (rw (c .before .before .before .before .var-with-degrees-p1 .ensures) at (c .before .before .write-short .ensures .0)) (rw (c .before .before .before .before .var-with-degrees-p1 .ensures) at (c .before .before .write-short .ensures .1))
@@ -35,9 +26,9 @@ pub var-with-degrees-p1-spec : {M : Type 1} → statement M
 var-with-degrees-p1-spec =
     tie.close
     (tie.spec
-    var-with-gate-requires
+    (λ c κs. search needs)
     returns
-    var-with-degrees-p1-requires
+    (λ c κs. search needs)
     write-short-requires
-    same-length
+    (λ c. search needs)
     returns-2)

@@ -9,29 +9,11 @@ use borrow.Author.Needs.{needs}
 use Rattle.readings_row.proofs.take_term.Statement.{statement}
 use Rattle.readings_row.proofs.take_term.Tie as tie
 
-mul-if1 : tie.Need-mul-if1
-mul-if1 c = search needs
-
-array-read-if1 : tie.Need-array-read-if1
-array-read-if1 c = search needs
-
-clear-requires : tie.Need-clear-requires
-clear-requires c κs = search needs
-
-shortest-requires : tie.Need-shortest-requires
-shortest-requires c κs = search needs
-
-same-length : tie.Need-same-length
-same-length c = search needs
-
 returns : tie.Need-returns
 returns c = (c .shortest .ensures ∙ ap (λ (q : Poly). q .head) (sym (term-past ((c .before .before .before .before .before .before .before .before .before) .args .v) ((c .before .before .before .before .before .before .before .before .before) .args .order) (poly ((c .before .before .before .before .before .before .before .before .before) .args .h) ((c .before .before .before .before .before .before .before .before .before) .args .a .now)) ((c .before .before .before .before .before .before .before .before .before) .pre .is) (c .before .before .before .before .before .if1 .taken))), c .before .before .before .clear .ensures ∙ (ap zeros ((c .before .before .before .before .before .before .before .before .before) .pre .room) ∙ (padded-zero (count-pos (lengths-of (termed-regular ((c .before .before .before .before .before .before .before .before .before) .pre) .rules))) ∙ ap (λ (q : Poly). padded (stored ((c .before .before .before .before .before .before .before .before .before) .args .r)) (q .coeffs)) (sym (term-past ((c .before .before .before .before .before .before .before .before .before) .args .v) ((c .before .before .before .before .before .before .before .before .before) .args .order) (poly ((c .before .before .before .before .before .before .before .before .before) .args .h) ((c .before .before .before .before .before .before .before .before .before) .args .a .now)) ((c .before .before .before .before .before .before .before .before .before) .pre .is) (c .before .before .before .before .before .if1 .taken))))))
 
 pick-requires : tie.Need-pick-requires
 pick-requires c κs = termed-picking ((c .before .before .before .before .before .before) .pre) (c .before .before .if1 .left)
-
-same-length-2 : tie.Need-same-length-2
-same-length-2 c = search needs
 
 returns-2 : tie.Need-returns-2
 returns-2 c = (ap (λ (q : Poly). q .head) (sym (term-row ((c .before .before .before .before .before .before .before .before .before) .args .v) ((c .before .before .before .before .before .before .before .before .before) .args .order) (poly ((c .before .before .before .before .before .before .before .before .before) .args .h) ((c .before .before .before .before .before .before .before .before .before) .args .a .now)) ((c .before .before .before .before .before .before .before .before .before) .pre .is) (c .before .before .before .before .before .if1 .left))), c .before .before .pick .ensures ∙ (padded-full _ (length-table _ (stored ((c .before .before .before .before .before .before .before .before .before) .args .r))) ∙ ap (λ (q : Poly). padded (stored ((c .before .before .before .before .before .before .before .before .before) .args .r)) (q .coeffs)) (sym (term-row ((c .before .before .before .before .before .before .before .before .before) .args .v) ((c .before .before .before .before .before .before .before .before .before) .args .order) (poly ((c .before .before .before .before .before .before .before .before .before) .args .h) ((c .before .before .before .before .before .before .before .before .before) .args .a .now)) ((c .before .before .before .before .before .before .before .before .before) .pre .is) (c .before .before .before .before .before .if1 .left)))))
@@ -40,12 +22,12 @@ pub take-term-spec : {M : Type 1} → statement M
 take-term-spec =
     tie.close
     (tie.spec
-    mul-if1
-    array-read-if1
-    clear-requires
-    shortest-requires
-    same-length
+    (λ c. search needs)
+    (λ c. search needs)
+    (λ c κs. search needs)
+    (λ c κs. search needs)
+    (λ c. search needs)
     returns
     pick-requires
-    same-length-2
+    (λ c. search needs)
     returns-2)

@@ -13,20 +13,11 @@ use Rattle.readings_short.proofs.constant_with.Tie as tie
 ready : (c : tie.Else1) → HeaderReady (zeroWith ((c .before .before .before .before) .args .vars) ((c .before .before .before .before) .args .limits)) (length ((c .before .before .before .before) .args .out .now))
 ready c = with-ready _ _ _ (ap (λ r. r .number) (sym (c .before .before .with-gate .ensures)) ∙ c .if1 .left)
 
-with-gate-requires : tie.Need-with-gate-requires
-with-gate-requires c κs = search needs
-
 returns : tie.Need-returns
 returns c = entry-refused (c .before .before .with-gate .ensures) (c .if1 .taken) (zeroWith ((c .before .before .before .before) .args .vars) ((c .before .before .before .before) .args .limits)) (constant (zeroWith ((c .before .before .before .before) .args .vars) ((c .before .before .before .before) .args .limits)) ((c .before .before .before .before) .args .x)) ((c .before .before .before .before) .args .out .now)
 
-zero-with-requires : tie.Need-zero-with-requires
-zero-with-requires c κs = search needs
-
 write-short-requires : tie.Need-write-short-requires
 write-short-requires c κs = rw (c .before .zero-with .ensures) (ready (c .before .before), omega (arith, zero-count ((c .before .before .before .before .before .before) .args .vars) ((c .before .before .before .before .before .before) .args .limits)))
-
-same-length : tie.Need-same-length
-same-length c = search needs
 
 returns-2 : tie.Need-returns-2
 returns-2 c = entry-done (c .before .before .before .before .before .before .before .with-gate .ensures) (c .before .before .before .before .before .if1 .left) (zeroWith ((c .before .before .before .before .before .before .before .before .before) .args .vars) ((c .before .before .before .before .before .before .before .before .before) .args .limits)) (constant (zeroWith ((c .before .before .before .before .before .before .before .before .before) .args .vars) ((c .before .before .before .before .before .before .before .before .before) .args .limits)) ((c .before .before .before .before .before .before .before .before .before) .args .x)) ((c .before .before .before .before .before .before .before .before .before) .args .out .now) (rw (c .before .before .before .before .zero-with .ensures) at (c .before .before .write-short .ensures .0)) ((rw (c .before .before .before .before .zero-with .ensures) at (c .before .before .write-short .ensures .1)) ∙ ap (λ l. written (stored (zeroWith ((c .before .before .before .before .before .before .before .before .before) .args .vars) ((c .before .before .before .before .before .before .before .before .before) .args .limits))) l ((c .before .before .before .before .before .before .before .before .before) .args .out .now)) (constant-is ((c .before .before .before .before .before .before .before .before .before) .args .vars) ((c .before .before .before .before .before .before .before .before .before) .args .limits) ((c .before .before .before .before .before .before .before .before .before) .args .x)))
@@ -35,9 +26,9 @@ pub constant-with-spec : {M : Type 1} → statement M
 constant-with-spec =
     tie.close
     (tie.spec
-    with-gate-requires
+    (λ c κs. search needs)
     returns
-    zero-with-requires
+    (λ c κs. search needs)
     write-short-requires
-    same-length
+    (λ c. search needs)
     returns-2)

@@ -17,14 +17,8 @@ some c = count-pos (lengths-of (c .pre .0 .good .regular .rules))
 slice-write-out : tie.Need-slice-write-out
 slice-write-out c = omega (arith, some (c .before), (c .before) .pre .0 .room)
 
-stored-of-requires : tie.Need-stored-of-requires
-stored-of-requires c κs = search needs
-
 slice-write-out-2 : tie.Need-slice-write-out-2
 slice-write-out-2 c = simp (length-set) (omega (arith, c .before .stored-of .ensures, c .if1 .taken, (c .before .before .before) .pre .0 .room))
-
-pack-requires : tie.Need-pack-requires
-pack-requires c κs = search needs
 
 same-length : tie.Need-same-length
 same-length c = ⊎-elim (λ w. ap length (w .1) ∙ simp (length-set)) (λ w. ap length (w .1) ∙ simp (length-set)) (c .before .if1 .came)
@@ -37,8 +31,8 @@ write-short-spec =
     tie.close
     (tie.spec
     slice-write-out
-    stored-of-requires
+    (λ c κs. search needs)
     slice-write-out-2
-    pack-requires
+    (λ c κs. search needs)
     same-length
     returns)

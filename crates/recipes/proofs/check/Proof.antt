@@ -16,41 +16,14 @@ pass c = passed (c .before .before .before .judge .ensures) (c .if1 .left)
 noted-len : (c : tie.Else1) → length (c .before .before .before .judge .last .1 .1 .0) ≡ 64
 noted-len c = c .before .before .before .judge .ensures .len
 
-slice-aggregate-judge : tie.Need-slice-aggregate-judge
-slice-aggregate-judge c = search needs
-
-judge-requires : tie.Need-judge-requires
-judge-requires c κs = search needs
-
 returns : tie.Need-returns
 returns c = answer-no _ _ (c .before .before .before .judge .ensures .answer) (c .if1 .taken)
-
-add-to : tie.Need-add-to
-add-to c = search needs
-
-mul-total-of : tie.Need-mul-total-of
-mul-total-of c = search needs
-
-sub-total-of : tie.Need-sub-total-of
-sub-total-of c = search needs
-
-part-total-of-start : tie.Need-part-total-of-start
-part-total-of-start c = search needs
 
 part-total-of-end : tie.Need-part-total-of-end
 part-total-of-end c = omega (arith, pass (c .before) .fit, noted-len (c .before))
 
 total-of-requires : tie.Need-total-of-requires
 total-of-requires c κs = (rw (pass (c .before .before) .part) (pass (c .before .before) .steps), simp length-take (omega (arith, pass (c .before .before) .fit)))
-
-mul-largest-of : tie.Need-mul-largest-of
-mul-largest-of c = search needs
-
-sub-largest-of : tie.Need-sub-largest-of
-sub-largest-of c = search needs
-
-part-largest-of-start : tie.Need-part-largest-of-start
-part-largest-of-start c = search needs
 
 part-largest-of-end : tie.Need-part-largest-of-end
 part-largest-of-end c = omega (arith, pass (c .before .before .before .before) .fit, noted-len (c .before .before .before .before))
@@ -68,18 +41,18 @@ pub check-spec : {M : Type 1} → statement M
 check-spec =
     tie.close
     (tie.spec
-    slice-aggregate-judge
-    judge-requires
+    (λ c. search needs)
+    (λ c κs. search needs)
     returns
-    add-to
-    mul-total-of
-    sub-total-of
-    part-total-of-start
+    (λ c. search needs)
+    (λ c. search needs)
+    (λ c. search needs)
+    (λ c. search needs)
     part-total-of-end
     total-of-requires
-    mul-largest-of
-    sub-largest-of
-    part-largest-of-start
+    (λ c. search needs)
+    (λ c. search needs)
+    (λ c. search needs)
     part-largest-of-end
     largest-of-requires
     total-of-requires-2

@@ -4,31 +4,13 @@ use borrow.Author.Needs.{needs}
 use Rattle.recipes.proofs.run.Statement.{statement}
 use Rattle.recipes.proofs.run.Tie as tie
 
-slice-aggregate-admit : tie.Need-slice-aggregate-admit
-slice-aggregate-admit c = search needs
-
-admit-requires : tie.Need-admit-requires
-admit-requires c κs = search needs
-
 returns : tie.Need-returns
 returns c =
     (no-answer (c .before .before .before .before .before .before .before .before .before .before .before .args .headers .now) (c .before .before .before .before .before .before .before .before .before .before .before .args .coefficients .now) (c .before .before .before .before .before .before .before .before .before .before .before .args .steps .now) (c .before .before .before .before .before .before .before .before .before .before .before .args .pool .now) (c .before .before .before .before .before .before .before .before .before .before .before .args .words .now) (c .before .before .before .before .before .before .before .before .before .before .before .args .scratch .now) (c .before .before .before .admit .ensures) (c .if1 .taken), (no-pool (c .before .before .before .before .before .before .before .before .before .before .before .args .headers .now) (c .before .before .before .before .before .before .before .before .before .before .before .args .coefficients .now) (c .before .before .before .before .before .before .before .before .before .before .before .args .steps .now) (c .before .before .before .before .before .before .before .before .before .before .before .args .pool .now) (c .before .before .before .before .before .before .before .before .before .before .before .args .words .now) (c .before .before .before .before .before .before .before .before .before .before .before .args .scratch .now) (c .before .before .before .admit .ensures) (c .if1 .taken), (no-words (c .before .before .before .before .before .before .before .before .before .before .before .args .headers .now) (c .before .before .before .before .before .before .before .before .before .before .before .args .coefficients .now) (c .before .before .before .before .before .before .before .before .before .before .before .args .steps .now) (c .before .before .before .before .before .before .before .before .before .before .before .args .pool .now) (c .before .before .before .before .before .before .before .before .before .before .before .args .words .now) (c .before .before .before .before .before .before .before .before .before .before .before .args .scratch .now) (c .before .before .before .admit .ensures) (c .if1 .taken), no-scratch (c .before .before .before .before .before .before .before .before .before .before .before .args .headers .now) (c .before .before .before .before .before .before .before .before .before .before .before .args .coefficients .now) (c .before .before .before .before .before .before .before .before .before .before .before .args .steps .now) (c .before .before .before .before .before .before .before .before .before .before .before .args .pool .now) (c .before .before .before .before .before .before .before .before .before .before .before .args .words .now) (c .before .before .before .before .before .before .before .before .before .before .before .args .scratch .now) (c .before .before .before .admit .ensures) (c .if1 .taken))))
 
-slice-aggregate-run-admitted : tie.Need-slice-aggregate-run-admitted
-slice-aggregate-run-admitted c = search needs
-
 run-admitted-requires : tie.Need-run-admitted-requires
 run-admitted-requires c κs =
     (admitted (c .before .before .before .before .before .before .before .before .before .before .before .before .before .before .before .args .headers .now) (c .before .before .before .before .before .before .before .before .before .before .before .before .before .before .before .args .coefficients .now) (c .before .before .before .before .before .before .before .before .before .before .before .before .before .before .before .args .steps .now) (c .before .before .before .before .before .before .before .before .before .before .before .before .before .before .before .args .pool .now) (c .before .before .before .before .before .before .before .before .before .before .before .before .before .before .before .args .words .now) (c .before .before .before .before .before .before .before .before .before .before .before .before .before .before .before .args .scratch .now) (c .before .before .before .before .before .before .before .admit .ensures) (c .before .before .before .before .if1 .left) (omega (arith, c .before .before .before .before .before .before .before .admit .ensures .len)), enough-words (c .before .before .before .before .before .before .before .before .before .before .before .before .before .before .before .args .headers .now) (c .before .before .before .before .before .before .before .before .before .before .before .before .before .before .before .args .coefficients .now) (c .before .before .before .before .before .before .before .before .before .before .before .before .before .before .before .args .steps .now) (c .before .before .before .before .before .before .before .before .before .before .before .before .before .before .before .args .pool .now) (c .before .before .before .before .before .before .before .before .before .before .before .before .before .before .before .args .words .now) (c .before .before .before .before .before .before .before .before .before .before .before .before .before .before .before .args .scratch .now) (c .before .before .before .before .before .before .before .admit .ensures) (c .before .before .before .before .if1 .left))
-
-same-length : tie.Need-same-length
-same-length c = search needs
-
-same-length-2 : tie.Need-same-length-2
-same-length-2 c = search needs
-
-same-length-3 : tie.Need-same-length-3
-same-length-3 c = search needs
 
 returns-2 : tie.Need-returns-2
 returns-2 c =
@@ -38,12 +20,12 @@ pub run-spec : {M : Type 1} → statement M
 run-spec =
     tie.close
     (tie.spec
-    slice-aggregate-admit
-    admit-requires
+    (λ c. search needs)
+    (λ c κs. search needs)
     returns
-    slice-aggregate-run-admitted
+    (λ c. search needs)
     run-admitted-requires
-    same-length
-    same-length-2
-    same-length-3
+    (λ c. search needs)
+    (λ c. search needs)
+    (λ c. search needs)
     returns-2)

@@ -10,12 +10,6 @@ size : (c : tie.Else1) → Sizes (c .before .before .before .before .args .heade
 unfolding rightSizes
 size c = sizes _ _ (not-false _ (c .if1 .left))
 
-add-if1 : tie.Need-add-if1
-add-if1 c = search needs
-
-at-requires : tie.Need-at-requires
-at-requires c κs = search needs
-
 returns : tie.Need-returns
 unfolding rightSizes
 returns c = rw (c .at .ensures) (judged-sizes _ _ _ (not-true _ (c .before .if1 .taken)))
@@ -32,9 +26,6 @@ note-inputs-requires c κs = omega (arith, size (c .before .before .before .befo
 steps-refusal-requires : tie.Need-steps-refusal-requires
 steps-refusal-requires c κs = ready _ _ (size (c .before .before .before .before .before .before .before .before)) (c .before .before .before .before .before .before .before .inputs-refusal .ensures) (c .before .before .before .before .before .if2 .left) ((c .before .before .before .before .before .before .before .before .before .before .before .before) .args .known .now) (c .before .before .before .note-inputs .last .1 .0) (c .before .before .before .before .before .before .before .before .before .before .before .before .pre) (c .before .before .before .note-inputs .ensures)
 
-same-length : tie.Need-same-length
-same-length c = search needs
-
 returns-3 : tie.Need-returns-3
 returns-3 c = judged-steps _ _ (size (c .before .before .before .before .before .before .before .before .before .before .before)) (c .before .before .before .before .before .before .before .before .before .before .inputs-refusal .ensures) (c .before .before .before .before .before .before .before .before .if2 .left) (c .before .before .before .before .before .before .before .before .before .before .before .before .before .before .before .pre) (c .before .before .before .before .before .before .note-inputs .ensures) (c .before .before .steps-refusal .ensures)
 
@@ -42,12 +33,12 @@ pub judge-spec : {M : Type 1} → statement M
 judge-spec =
     tie.close
     (tie.spec
-    add-if1
-    at-requires
+    (λ c. search needs)
+    (λ c κs. search needs)
     returns
     inputs-refusal-requires
     returns-2
     note-inputs-requires
     steps-refusal-requires
-    same-length
+    (λ c. search needs)
     returns-3)

@@ -16,26 +16,8 @@ abbrev μ-loop : tie.MeasureT-loop
 loop-holds : tie.Need-loop-holds Inv-loop μ-loop
 loop-holds c = topped-none _
 
-mul-header-of : tie.Need-mul-header-of Inv-loop μ-loop
-mul-header-of c = search needs
-
-shared-slice-read-header-of : tie.Need-shared-slice-read-header-of Inv-loop μ-loop
-shared-slice-read-header-of c = search needs
-
-header-of-requires : tie.Need-header-of-requires Inv-loop μ-loop
-header-of-requires c κs = search needs
-
 stored-of-requires : tie.Need-stored-of-requires Inv-loop μ-loop
 stored-of-requires c κs = rw (c .header-of .ensures) (word-ruled ((c .before .before .before .before .before) .args .words .now) (c .before .before .before .before .before .pre) (c .before .before .before .loop .i))
-
-most-requires : tie.Need-most-requires Inv-loop μ-loop
-most-requires c κs = search needs
-
-add-i : tie.Need-add-i Inv-loop μ-loop
-add-i c = search needs
-
-loop-less : tie.Need-loop-less Inv-loop μ-loop
-loop-less c = search needs
 
 loop-again : tie.Need-loop-again Inv-loop μ-loop
 loop-again c = topped-more (c .before .before .before .before .before .loop .inv) (c .before .before .before .before .loop-test .taken) (c .before .stored-of .ensures ∙ ap stored (c .before .before .header-of .ensures)) (c .most .ensures)
@@ -50,12 +32,12 @@ largest-of-spec =
     Inv-loop
     μ-loop
     loop-holds
-    mul-header-of
-    shared-slice-read-header-of
-    header-of-requires
+    (λ c. search needs)
+    (λ c. search needs)
+    (λ c κs. search needs)
     stored-of-requires
-    most-requires
-    add-i
-    loop-less
+    (λ c κs. search needs)
+    (λ c. search needs)
+    (λ c. search needs)
     loop-again
     returns)

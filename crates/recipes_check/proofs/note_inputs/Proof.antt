@@ -16,23 +16,11 @@ abbrev μ-loop : tie.MeasureT-loop
 loop-holds : tie.Need-loop-holds Inv-loop μ-loop
 loop-holds c = record { most = omega arith; is = refl }
 
-mul-known : tie.Need-mul-known Inv-loop μ-loop
-mul-known c = search needs
-
-shared-slice-read-known : tie.Need-shared-slice-read-known Inv-loop μ-loop
-shared-slice-read-known c = search needs
-
 mul-known-2 : tie.Need-mul-known-2 Inv-loop μ-loop
 mul-known-2 c = omega (arith, noted-len (c .before .before .before .pre) (c .before .before .loop .inv))
 
 slice-write-known : tie.Need-slice-write-known Inv-loop μ-loop
 slice-write-known c = omega (arith, noted-len (c .before .before .before .pre) (c .before .before .loop .inv))
-
-add-i : tie.Need-add-i Inv-loop μ-loop
-add-i c = search needs
-
-loop-less : tie.Need-loop-less Inv-loop μ-loop
-loop-less c = search needs
 
 loop-again : tie.Need-loop-again Inv-loop μ-loop
 loop-again c = noted-more (c .before .before .before .pre) (c .before .before .loop .inv) (c .before .loop-test .taken)
@@ -50,12 +38,12 @@ note-inputs-spec =
     Inv-loop
     μ-loop
     loop-holds
-    mul-known
-    shared-slice-read-known
+    (λ c. search needs)
+    (λ c. search needs)
     mul-known-2
     slice-write-known
-    add-i
-    loop-less
+    (λ c. search needs)
+    (λ c. search needs)
     loop-again
     same-length
     returns)

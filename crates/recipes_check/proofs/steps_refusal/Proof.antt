@@ -19,15 +19,6 @@ abbrev μ-loop : tie.MeasureT-loop
 loop-holds : tie.Need-loop-holds Inv-loop μ-loop
 loop-holds c = judging-none _ _ _ (c .before .before .pre .regular)
 
-mul-word : tie.Need-mul-word Inv-loop μ-loop
-mul-word c = search needs
-
-shared-slice-read-word : tie.Need-shared-slice-read-word Inv-loop μ-loop
-shared-slice-read-word c = search needs
-
-add-at : tie.Need-add-at Inv-loop μ-loop
-add-at c = search needs
-
 slice-reshare-prefix-gate : tie.Need-slice-reshare-prefix-gate Inv-loop μ-loop
 slice-reshare-prefix-gate c = omega (arith, judging-room (c .before .before .loop .inv) (c .before .before .before .before .before .pre) (c .before .loop-test .taken))
 
@@ -55,23 +46,11 @@ announce-requires c κs = c .before .before .before .before .before .before .bef
 pack-requires : tie.Need-pack-requires Inv-loop μ-loop
 pack-requires c κs = rw (c .announce .ensures) (step-regular _ (c .before .before .before .before .before .before .before .before .loop .inv .regular) .rules)
 
-mul-known : tie.Need-mul-known Inv-loop μ-loop
-mul-known c = search needs
-
 slice-write-known : tie.Need-slice-write-known Inv-loop μ-loop
 slice-write-known c = judging-room (c .before .before .before .before .before .before .before .before .before .loop .inv) (c .before .before .before .before .before .before .before .before .before .before .before .before .pre) (c .before .before .before .before .before .before .before .before .loop-test .taken)
 
-add-i : tie.Need-add-i Inv-loop μ-loop
-add-i c = search needs
-
-loop-less : tie.Need-loop-less Inv-loop μ-loop
-loop-less c = search needs
-
 loop-again : tie.Need-loop-again Inv-loop μ-loop
 loop-again c = judging-more (c .before .before .before .before .before .before .before .before .before .loop .inv) (c .before .before .before .before .before .before .before .before .loop-test .taken) (judging-room (c .before .before .before .before .before .before .before .before .before .loop .inv) (c .before .before .before .before .before .before .before .before .before .before .before .before .pre) (c .before .before .before .before .before .before .before .before .loop-test .taken)) (c .before .before .before .before .before .gate .ensures) (c .before .before .before .if1 .left) (c .before .announce .ensures) (c .pack .ensures)
-
-none-requires : tie.Need-none-requires Inv-loop μ-loop
-none-requires c κs = search needs
 
 same-length-2 : tie.Need-same-length-2 Inv-loop μ-loop
 same-length-2 c = c .before .before .loop .inv .len
@@ -86,9 +65,9 @@ steps-refusal-spec =
     Inv-loop
     μ-loop
     loop-holds
-    mul-word
-    shared-slice-read-word
-    add-at
+    (λ c. search needs)
+    (λ c. search needs)
+    (λ c. search needs)
     slice-reshare-prefix-gate
     slice-aggregate-gate
     gate-requires
@@ -98,11 +77,11 @@ steps-refusal-spec =
     slice-aggregate-announce
     announce-requires
     pack-requires
-    mul-known
+    (λ c. search needs)
     slice-write-known
-    add-i
-    loop-less
+    (λ c. search needs)
+    (λ c. search needs)
     loop-again
-    none-requires
+    (λ c κs. search needs)
     same-length-2
     returns-2)

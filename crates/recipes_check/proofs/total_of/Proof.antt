@@ -16,26 +16,11 @@ abbrev μ-loop : tie.MeasureT-loop
 loop-holds : tie.Need-loop-holds Inv-loop μ-loop
 loop-holds c = summed-none _
 
-mul-header-of : tie.Need-mul-header-of Inv-loop μ-loop
-mul-header-of c = search needs
-
-shared-slice-read-header-of : tie.Need-shared-slice-read-header-of Inv-loop μ-loop
-shared-slice-read-header-of c = search needs
-
-header-of-requires : tie.Need-header-of-requires Inv-loop μ-loop
-header-of-requires c κs = search needs
-
 stored-of-requires : tie.Need-stored-of-requires Inv-loop μ-loop
 stored-of-requires c κs = rw (c .header-of .ensures) (word-ruled ((c .before .before .before .before .before) .args .words .now) (c .before .before .before .before .before .pre .0) (c .before .before .before .loop .i))
 
 add-sum : tie.Need-add-sum Inv-loop μ-loop
 add-sum c = record { fits = summed-fits (c .before .before .before .before .loop .inv) (c .before .before .before .before .before .before .pre .0) (c .before .before .before .before .before .before .pre .1) (c .stored-of .ensures ∙ ap stored (c .before .header-of .ensures)) }
-
-add-i : tie.Need-add-i Inv-loop μ-loop
-add-i c = search needs
-
-loop-less : tie.Need-loop-less Inv-loop μ-loop
-loop-less c = search needs
 
 loop-again : tie.Need-loop-again Inv-loop μ-loop
 loop-again c = summed-more (c .before .before .before .before .loop .inv) (c .before .before .before .before .before .before .pre .0) (c .before .before .before .loop-test .taken) (c .stored-of .ensures ∙ ap stored (c .before .header-of .ensures))
@@ -50,12 +35,12 @@ total-of-spec =
     Inv-loop
     μ-loop
     loop-holds
-    mul-header-of
-    shared-slice-read-header-of
-    header-of-requires
+    (λ c. search needs)
+    (λ c. search needs)
+    (λ c κs. search needs)
     stored-of-requires
     add-sum
-    add-i
-    loop-less
+    (λ c. search needs)
+    (λ c. search needs)
     loop-again
     returns)

@@ -24,12 +24,6 @@ add-result c = omega (arith, ends1 c, c .before .good)
 mul-result : tie.Need-mul-result
 mul-result c = omega (arith, ends1 c, c .before .good)
 
-sub-result : tie.Need-sub-result
-sub-result c = search needs
-
-part-result-start : tie.Need-part-result-start
-part-result-start c = search needs
-
 part-result-end : tie.Need-part-result-end
 part-result-end c = ends1 c
 
@@ -41,12 +35,6 @@ add-result-2 c = omega (arith, ends2 c, c .before .good)
 
 mul-result-2 : tie.Need-mul-result-2
 mul-result-2 c = omega (arith, ends2 c, c .before .good)
-
-sub-result-2 : tie.Need-sub-result-2
-sub-result-2 c = search needs
-
-part-result-start-2 : tie.Need-part-result-start-2
-part-result-start-2 c = search needs
 
 part-result-end-2 : tie.Need-part-result-end-2
 part-result-end-2 c = ends2 c
@@ -60,13 +48,13 @@ operand-spec =
     (tie.spec
     add-result
     mul-result
-    sub-result
-    part-result-start
+    (λ c. search needs)
+    (λ c. search needs)
     part-result-end
     returns
     add-result-2
     mul-result-2
-    sub-result-2
-    part-result-start-2
+    (λ c. search needs)
+    (λ c. search needs)
     part-result-end-2
     returns-2)

@@ -13,24 +13,6 @@ use Rattle.recipes_operands.proofs.pad.Reads as reads
 use Rattle.recipes_operands.proofs.pad.Lts as lts
 use Rattle.blocks.proofs.clear.Reads as clear-reads
 
-mul-clear : tie.Need-mul-clear
-mul-clear c = search needs
-
-sub-clear : tie.Need-sub-clear
-sub-clear c = search needs
-
-part-clear-start : tie.Need-part-clear-start
-part-clear-start c = search needs
-
-part-clear-end : tie.Need-part-clear-end
-part-clear-end c = search needs
-
-clear-requires : tie.Need-clear-requires
-clear-requires c κs = search needs
-
-same-length : tie.Need-same-length
-same-length c = search needs
-
 returns : tie.Need-returns
 returns c = pad-kept (c .before .before .before .before .before .args .from) (c .before .before .before .before .before .args .to) (c .before .before .before .before .before .args .pool .now) (c .before .before .clear .ensures) (simp (length-take, length-drop) (omega (arith, c .before .before .before .before .before .pre))) (c .before .before .before .before .before .pre .0) (c .before .before .before .before .before .pre .1)
 
@@ -38,10 +20,10 @@ pub pad-spec : {M : Type 1} → statement M
 pad-spec =
     tie.close
     (tie.spec
-    mul-clear
-    sub-clear
-    part-clear-start
-    part-clear-end
-    clear-requires
-    same-length
+    (λ c. search needs)
+    (λ c. search needs)
+    (λ c. search needs)
+    (λ c. search needs)
+    (λ c κs. search needs)
+    (λ c. search needs)
     returns)

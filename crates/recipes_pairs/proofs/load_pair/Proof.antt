@@ -34,24 +34,6 @@ right-is c = c .operand2 .ensures ∙ ap (λ (k : ℕ). take k (drop (c .before 
 right-full : (c : tie.After-operand2) → length (c .operand2 .result .now) ≡ stored (c .before .before .before .before .before .before .before .before .before .args .y)
 right-full c = ap length (right-is c) ∙ length-operand (c .before .before .before .before .before .before .before .before .before .args .yf) (stored (c .before .before .before .before .before .before .before .before .before .args .y)) (source (c .before .before .before .before .before .before .before .before .before .args .yi) (c .before .before .before .before .before .before .before .before .before .args .coefficients .now) (c .before .before .before .before .before .before .before .before .before .args .pool .now)) (c .before .before .before .before .before .before .before .before .before .pre .1 .1 .1 .1)
 
-stored-of-requires : tie.Need-stored-of-requires
-stored-of-requires c κs = search needs
-
-stored-of-requires-2 : tie.Need-stored-of-requires-2
-stored-of-requires-2 c κs = search needs
-
-operand-requires : tie.Need-operand-requires
-operand-requires c κs = search needs
-
-operand-requires-2 : tie.Need-operand-requires-2
-operand-requires-2 c κs = search needs
-
-cut-to-requires : tie.Need-cut-to-requires
-cut-to-requires c κs = search needs
-
-cut-to-requires-2 : tie.Need-cut-to-requires-2
-cut-to-requires-2 c κs = search needs
-
 load-two-requires : tie.Need-load-two-requires
 load-two-requires c κs = rw (c .before .before .cut-to .ensures, c .before .cut-to2 .ensures, left-full (c .before .before .before), right-full (c .before .before .before)) (c .before .before .before .before .before .before .before .before .before .before .before .before .pre .0)
 
@@ -61,9 +43,6 @@ is-zero-requires c κs = rw (left-full (c .before .before .before .before .befor
 is-zero-requires-2 : tie.Need-is-zero-requires-2
 is-zero-requires-2 c κs = rw (right-full (c .before .before .before .before .before .before .before)) (count-pos (c .before .before .before .before .before .before .before .before .before .before .before .before .before .before .before .before .pre .0 .right))
 
-same-length : tie.Need-same-length
-same-length c = search needs
-
 returns : tie.Need-returns
 returns c = (zero-is (block (c .before .before .before .before .before .before .before .before .before .before .before .before .before .before .before .before .before .args .x .lengths) (take (stored (c .before .before .before .before .before .before .before .before .before .before .before .before .before .before .before .before .before .args .x)) (drop (c .before .before .before .before .before .before .before .before .before .before .before .before .before .before .before .before .before .args .xf) (source (c .before .before .before .before .before .before .before .before .before .before .before .before .before .before .before .before .before .args .xi) (c .before .before .before .before .before .before .before .before .before .before .before .before .before .before .before .before .before .args .coefficients .now) (c .before .before .before .before .before .before .before .before .before .before .before .before .before .before .before .before .before .args .pool .now))))) (block (c .before .before .before .before .before .before .before .before .before .before .before .before .before .before .before .before .before .args .y .lengths) (take (stored (c .before .before .before .before .before .before .before .before .before .before .before .before .before .before .before .before .before .args .y)) (drop (c .before .before .before .before .before .before .before .before .before .before .before .before .before .before .before .before .before .args .yf) (source (c .before .before .before .before .before .before .before .before .before .before .before .before .before .before .before .before .before .args .yi) (c .before .before .before .before .before .before .before .before .before .before .before .before .before .before .before .before .before .args .coefficients .now) (c .before .before .before .before .before .before .before .before .before .before .before .before .before .before .before .before .before .args .pool .now))))) (c .before .is-zero .ensures ∙ ap (λ (l : List Float). isZero (block (c .before .before .before .before .before .before .before .before .before .before .before .before .before .before .before .before .before .args .x .lengths) l)) (left-is (c .before .before .before .before .before .before .before .before))) (c .is-zero2 .ensures ∙ ap (λ (l : List Float). isZero (block (c .before .before .before .before .before .before .before .before .before .before .before .before .before .before .before .before .before .args .y .lengths) l)) (right-is (c .before .before .before .before .before .before .before .before))), rw (c .before .before .before .before .before .before .before .cut-to .ensures, c .before .before .before .before .before .before .cut-to2 .ensures, left-is (c .before .before .before .before .before .before .before .before), right-is (c .before .before .before .before .before .before .before .before)) at (c .before .before .before .before .load-two .ensures))
 
@@ -71,14 +50,14 @@ pub load-pair-spec : {M : Type 1} → statement M
 load-pair-spec =
     tie.close
     (tie.spec
-    stored-of-requires
-    stored-of-requires-2
-    operand-requires
-    operand-requires-2
-    cut-to-requires
-    cut-to-requires-2
+    (λ c κs. search needs)
+    (λ c κs. search needs)
+    (λ c κs. search needs)
+    (λ c κs. search needs)
+    (λ c κs. search needs)
+    (λ c κs. search needs)
     load-two-requires
     is-zero-requires
     is-zero-requires-2
-    same-length
+    (λ c. search needs)
     returns)

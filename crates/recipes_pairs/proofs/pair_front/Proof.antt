@@ -22,12 +22,6 @@ use Rattle.shape_words.proofs.places.count_of.Reads as count-of-reads
 ends : (c : tie.After-count-of2) → (c .before .count-of .result ≤ c .before .before .before .before .before .before .before .before .before .before .args .n) × (c .before .before .before .before .before .before .before .before .before .before .args .n + c .count-of2 .result ≤ 8 * c .before .before .before .before .before .before .before .before .before .before .args .n)
 ends c = let t = pair-two (c .before .before .before .before .before .before .before .before .before .before .pre .0) in (omega (arith, t .small-a, c .before .count-of .ensures ∙ ap count (c .before .before .before .cut-to .ensures)), omega (arith, t .small-b, c .count-of2 .ensures ∙ ap count (c .before .before .cut-to2 .ensures)))
 
-cut-to-requires : tie.Need-cut-to-requires
-cut-to-requires c κs = search needs
-
-cut-to-requires-2 : tie.Need-cut-to-requires-2
-cut-to-requires-2 c κs = search needs
-
 count-of-requires : tie.Need-count-of-requires
 count-of-requires c κs = rw (c .before .cut-to .ensures) (pair-two (c .before .before .before .before .before .before .before .before .pre .0) .cut-a)
 
@@ -37,23 +31,8 @@ count-of-requires-2 c κs = rw (c .before .cut-to2 .ensures) (pair-two (c .befor
 add-end : tie.Need-add-end
 add-end c = omega (arith, ends c .1, c .before .before .before .before .before .before .before .before .before .before .pre .1 .0, c .before .before .before .before .before .before .before .before .before .before .good)
 
-sub-combine : tie.Need-sub-combine
-sub-combine c = search needs
-
-part-combine-start : tie.Need-part-combine-start
-part-combine-start c = search needs
-
 part-combine-end : tie.Need-part-combine-end
 part-combine-end c = omega (arith, ends (c .before .before) .0, c .before .before .before .before .before .before .before .before .before .before .before .before .pre .1 .0)
-
-mul-combine : tie.Need-mul-combine
-mul-combine c = search needs
-
-sub-combine-2 : tie.Need-sub-combine-2
-sub-combine-2 c = search needs
-
-part-combine-start-2 : tie.Need-part-combine-start-2
-part-combine-start-2 c = search needs
 
 part-combine-end-2 : tie.Need-part-combine-end-2
 part-combine-end-2 c = omega (arith, ends (c .before .before .before) .1, c .before .before .before .before .before .before .before .before .before .before .before .before .before .pre .1 .0)
@@ -61,23 +40,11 @@ part-combine-end-2 c = omega (arith, ends (c .before .before .before) .1, c .bef
 combine-requires : tie.Need-combine-requires
 combine-requires c κs = let e = ends (c .before .before .before .before .before) in let l = c .before .before .before .before .before .before .before .before .before .before .before .before .before .before .before .pre .1 .0 in sum-combining (c .before .before .before .before .before .before .before .before .before .before .before .before .before .before .before .pre .0) (c .before .before .before .before .before .before .before .before .cut-to .ensures) (c .before .before .before .before .before .before .before .cut-to2 .ensures) (c .before .before .before .before .before .before .count-of .ensures) (c .before .before .before .before .before .count-of2 .ensures) (c .before .before .before .before .before .before .before .before .before .before .before .before .before .before .before .args .work .now) (c .before .before .before .before .before .before .before .before .before .before .before .before .before .before .before .args .zero) (c .before .before .before .before .if1 .taken) (simp (length-take, length-drop) (omega (arith, e .0))) (simp (length-take, length-drop) (omega (arith, e .1))) (c .before .before .before .before .before .before .before .before .before .before .before .before .before .before .before .pre .1 .1)
 
-same-length : tie.Need-same-length
-same-length c = search needs
-
-same-length-2 : tie.Need-same-length-2
-same-length-2 c = search needs
-
 returns : tie.Need-returns
 returns c = sum-stands (c .before .before .before .before .before .before .before .before .before .before .before .before .before .before .before .before .before .before .pre .0) (c .before .before .before .before .before .before .before .before .before .before .before .cut-to .ensures) (c .before .before .before .before .before .before .before .before .before .before .cut-to2 .ensures) (c .before .before .before .before .before .before .before .before .before .count-of .ensures) (c .before .before .before .before .before .before .before .before .count-of2 .ensures) (c .before .before .before .before .before .before .before .before .before .before .before .before .before .before .before .before .before .before .args .work .now) (c .before .before .before .before .before .before .before .before .before .before .before .before .before .before .before .before .before .before .args .zero) (c .before .before .before .before .before .before .before .if1 .taken) (c .before .before .combine .ensures)
 
 divide-loaded-requires : tie.Need-divide-loaded-requires
 divide-loaded-requires c κs = quotient-recurs (c .before .before .before .before .before .before .before .before .before .before .before .before .before .before .pre .0) (c .before .before .before .before .before .before .before .cut-to .ensures) (c .before .before .before .before .before .before .cut-to2 .ensures) (c .before .before .before .before .before .count-of .ensures) (c .before .before .before .before .count-of2 .ensures) (c .before .before .before .before .before .before .before .before .before .before .before .before .before .before .args .work .now) (c .before .before .before .before .before .before .before .before .before .before .before .before .before .before .args .zero) (c .before .before .before .if1 .left) (c .before .before .if2 .taken) (c .before .before .before .before .before .before .before .before .before .before .before .before .before .before .pre .1 .0) (c .before .before .before .before .before .before .before .before .before .before .before .before .before .before .pre .1 .1)
-
-same-length-3 : tie.Need-same-length-3
-same-length-3 c = search needs
-
-same-length-4 : tie.Need-same-length-4
-same-length-4 c = search needs
 
 returns-2 : tie.Need-returns-2
 returns-2 c = quotient-stands (c .before .before .before .before .before .before .before .before .before .before .before .before .before .before .before .before .before .before .before .pre .0) (c .before .before .before .before .before .before .before .before .before .before .before .before .cut-to .ensures) (c .before .before .before .before .before .before .before .before .before .before .before .cut-to2 .ensures) (c .before .before .before .before .before .before .before .before .before .before .count-of .ensures) (c .before .before .before .before .before .before .before .before .before .count-of2 .ensures) (c .before .before .before .before .before .before .before .before .before .before .before .before .before .before .before .before .before .before .before .args .work .now) (c .before .before .before .before .before .before .before .before .before .before .before .before .before .before .before .before .before .before .before .args .zero) (c .before .before .before .before .before .before .before .before .if1 .left) (c .before .before .before .before .before .before .before .if2 .taken) (c .before .before .before .before .before .before .before .before .before .before .before .before .before .before .before .before .before .before .before .pre .1 .0) (c .before .before .before .before .before .before .before .before .before .before .before .before .before .before .before .before .before .before .before .pre .1 .1) (c .before .before .before .before .divide-loaded .ensures)
@@ -85,23 +52,11 @@ returns-2 c = quotient-stands (c .before .before .before .before .before .before
 zero-to-requires : tie.Need-zero-to-requires
 zero-to-requires c κs = product-some (c .before .before .before .before .before .before .before .before .before .before .before .before .before .before .pre .0) (c .before .before .before .before .before .before .before .cut-to .ensures) (c .before .before .before .before .before .before .cut-to2 .ensures) (c .before .before .before .before .before .count-of .ensures) (c .before .before .before .before .count-of2 .ensures) (c .before .before .before .before .before .before .before .before .before .before .before .before .before .before .args .work .now) (c .before .before .before .before .before .before .before .before .before .before .before .before .before .before .args .zero) (c .before .before .before .if1 .left) (c .before .before .if2 .left) (c .before .before .before .before .before .before .before .before .before .before .before .before .before .before .pre .1 .1)
 
-same-length-5 : tie.Need-same-length-5
-same-length-5 c = search needs
-
 returns-3 : tie.Need-returns-3
 returns-3 c = zero-stands (c .before .before .before .before .before .before .before .before .before .before .before .before .before .before .before .before .before .pre .0) (c .before .before .before .before .before .before .before .before .before .before .cut-to .ensures) (c .before .before .before .before .before .before .before .before .before .cut-to2 .ensures) (c .before .before .before .before .before .before .before .before .count-of .ensures) (c .before .before .before .before .before .before .before .count-of2 .ensures) (c .before .before .before .before .before .before .before .before .before .before .before .before .before .before .before .before .before .args .work .now) (c .before .before .before .before .before .before .before .before .before .before .before .before .before .before .before .before .before .args .zero) (c .before .before .before .before .before .before .if1 .left) (c .before .before .before .before .before .if2 .left) (c .before .before .before .before .if3 .taken) (c .before .before .zero-to .ensures)
 
-mul-product : tie.Need-mul-product
-mul-product c = search needs
-
 product-requires : tie.Need-product-requires
 product-requires c κs = product-room (c .before .before .before .before .before .before .before .before .before .before .before .before .before .before .before .pre .0) (c .before .before .before .before .before .before .before .before .cut-to .ensures) (c .before .before .before .before .before .before .before .cut-to2 .ensures) (c .before .before .before .before .before .before .count-of .ensures) (c .before .before .before .before .before .count-of2 .ensures) (c .before .before .before .before .before .before .before .before .before .before .before .before .before .before .before .args .work .now) (c .before .before .before .before .before .before .before .before .before .before .before .before .before .before .before .args .zero) (c .before .before .before .before .if1 .left) (c .before .before .before .if2 .left) (c .before .before .before .before .before .before .before .before .before .before .before .before .before .before .before .pre .1 .0) (c .before .before .before .before .before .before .before .before .before .before .before .before .before .before .before .pre .1 .1)
-
-same-length-6 : tie.Need-same-length-6
-same-length-6 c = search needs
-
-same-length-7 : tie.Need-same-length-7
-same-length-7 c = search needs
 
 returns-4 : tie.Need-returns-4
 returns-4 c = product-stands (c .before .before .before .before .before .before .before .before .before .before .before .before .before .before .before .before .before .before .before .before .pre .0) (c .before .before .before .before .before .before .before .before .before .before .before .before .before .cut-to .ensures) (c .before .before .before .before .before .before .before .before .before .before .before .before .cut-to2 .ensures) (c .before .before .before .before .before .before .before .before .before .before .before .count-of .ensures) (c .before .before .before .before .before .before .before .before .before .before .count-of2 .ensures) (c .before .before .before .before .before .before .before .before .before .before .before .before .before .before .before .before .before .before .before .before .args .work .now) (c .before .before .before .before .before .before .before .before .before .before .before .before .before .before .before .before .before .before .before .before .args .zero) (c .before .before .before .before .before .before .before .before .before .if1 .left) (c .before .before .before .before .before .before .before .before .if2 .left) (c .before .before .before .before .before .before .before .if3 .left) (c .before .before .before .before .product .ensures)
@@ -110,31 +65,31 @@ pub pair-front-spec : {M : Type 1} → statement M
 pair-front-spec =
     tie.close
     (tie.spec
-    cut-to-requires
-    cut-to-requires-2
+    (λ c κs. search needs)
+    (λ c κs. search needs)
     count-of-requires
     count-of-requires-2
     add-end
-    sub-combine
-    part-combine-start
+    (λ c. search needs)
+    (λ c. search needs)
     part-combine-end
-    mul-combine
-    sub-combine-2
-    part-combine-start-2
+    (λ c. search needs)
+    (λ c. search needs)
+    (λ c. search needs)
     part-combine-end-2
     combine-requires
-    same-length
-    same-length-2
+    (λ c. search needs)
+    (λ c. search needs)
     returns
     divide-loaded-requires
-    same-length-3
-    same-length-4
+    (λ c. search needs)
+    (λ c. search needs)
     returns-2
     zero-to-requires
-    same-length-5
+    (λ c. search needs)
     returns-3
-    mul-product
+    (λ c. search needs)
     product-requires
-    same-length-6
-    same-length-7
+    (λ c. search needs)
+    (λ c. search needs)
     returns-4)

@@ -34,17 +34,8 @@ stands c = rw (take-at (c .before .before .before .before .before .load-pair .la
 lasts : (c : tie.After-pair-front) → length (c .pair-front .last .1 .1 .1 .1 .1 .1 .1 .0) ≡ c .before .before .before .before .before .before .before .before .before .before .before .before .args .n
 lasts c = let g = c .before .before .before .before .before .before .before .before .before .before .before .before .pre .1 .1 .1 in c .pair-front .kept .1 .1 .1 .1 .1 .1 .1 .0 ∙ simp (length-take, length-drop) (omega (arith, g .room))
 
-mul-room : tie.Need-mul-room
-mul-room c = search needs
-
-slice-reshare-prefix-load-pair : tie.Need-slice-reshare-prefix-load-pair
-slice-reshare-prefix-load-pair c = search needs
-
 slice-aggregate-load-pair : tie.Need-slice-aggregate-load-pair
 slice-aggregate-load-pair c = sym (length-take-le _ _ (ends (c .before .before .before .before .before) .0))
-
-slice-relend-prefix-load-pair : tie.Need-slice-relend-prefix-load-pair
-slice-relend-prefix-load-pair c = search needs
 
 slice-aggregate-load-pair-2 : tie.Need-slice-aggregate-load-pair-2
 slice-aggregate-load-pair-2 c = sym (length-take-le _ _ (ends (c .before .before .before .before .before .before) .1))
@@ -55,23 +46,11 @@ load-pair-requires c κs = (rw (length-take-le _ _ (ends (c .before .before .bef
 add-end : tie.Need-add-end
 add-end c = let g = c .before .before .before .before .before .before .before .before .before .pre .1 .1 .1 in omega (arith, g .room, c .before .before .before .before .before .before .before .before .before .good)
 
-slice-relend-prefix-pair-front : tie.Need-slice-relend-prefix-pair-front
-slice-relend-prefix-pair-front c = search needs
-
 slice-aggregate-pair-front : tie.Need-slice-aggregate-pair-front
 slice-aggregate-pair-front c = sym (length-take-le _ _ (rooms (c .before .before .before)))
 
 mul-pair-front : tie.Need-mul-pair-front
 mul-pair-front c = let g = c .before .before .before .before .before .before .before .before .before .before .pre .1 .1 .1 in omega (arith, g .room, c .before .before .before .before .before .before .before .before .before .before .good)
-
-sub-pair-front : tie.Need-sub-pair-front
-sub-pair-front c = search needs
-
-part-pair-front-start : tie.Need-part-pair-front-start
-part-pair-front-start c = search needs
-
-part-pair-front-end : tie.Need-part-pair-front-end
-part-pair-front-end c = search needs
 
 pair-front-requires : tie.Need-pair-front-requires
 pair-front-requires c κs = let g = c .before .before .before .before .before .before .before .before .before .before .before .pre .1 .1 .1 in (c .before .before .before .before .before .before .before .before .before .before .before .pre .0, (length-take-le _ _ (rooms (c .before .before .before .before)), simp (length-take, length-drop) (omega (arith, g .room))))
@@ -85,12 +64,6 @@ add-pad c = let g = c .before .before .before .before .before .before .before .b
 pad-requires : tie.Need-pad-requires
 pad-requires c κs = let g = c .before .before .before .before .before .before .before .before .before .before .before .before .before .before .before .before .before .before .pre .1 .1 .1 in let l = lasts (c .before .before .before .before .before .before) in (omega (arith, c .before .count-of .ensures, value-count (c .before .before .before .before .before .before .before .before .before .before .before .before .before .before .before .before .before .before .pre .0) (lying (c .before .before .before .before .before .before .before .before .before .before .before .before .before .before .before .before .before .before .args .xi) (c .before .before .before .before .before .before .before .before .before .before .before .before .before .before .before .before .before .before .args .coefficients .now) (take (c .before .before .before .before .before .before .before .before .before .before .before .before .before .before .before .before .before .before .args .at) (c .before .before .before .before .before .before .before .before .before .before .before .before .before .before .before .before .before .before .args .pool .now)) (c .before .before .before .before .before .before .before .before .before .before .before .before .before .before .before .before .before .before .args .xf) (c .before .before .before .before .before .before .before .before .before .before .before .before .before .before .before .before .before .before .args .x) .coeffs) (lying (c .before .before .before .before .before .before .before .before .before .before .before .before .before .before .before .before .before .before .args .yi) (c .before .before .before .before .before .before .before .before .before .before .before .before .before .before .before .before .before .before .args .coefficients .now) (take (c .before .before .before .before .before .before .before .before .before .before .before .before .before .before .before .before .before .before .args .at) (c .before .before .before .before .before .before .before .before .before .before .before .before .before .before .before .before .before .before .args .pool .now)) (c .before .before .before .before .before .before .before .before .before .before .before .before .before .before .before .before .before .before .args .yf) (c .before .before .before .before .before .before .before .before .before .before .before .before .before .before .before .before .before .before .args .y) .coeffs) (c .before .before .before .before .before .before .before .before .before .before .before .load-pair .ensures .1) (c .before .before .before .before .before .before .before .before .before .before .before .load-pair .ensures .0) (stands (c .before .before .before .before .before .before))), omega (arith, g .room, l))
 
-same-length : tie.Need-same-length
-same-length c = search needs
-
-same-length-2 : tie.Need-same-length-2
-same-length-2 c = search needs
-
 returns : tie.Need-returns
 returns c = let g = c .before .before .before .before .before .before .before .before .before .before .before .before .before .before .before .before .before .before .before .before .before .pre .1 .1 .1 in (value-head (c .before .before .before .before .before .before .before .before .before .before .before .before .before .before .before .before .before .before .before .before .before .pre .0) (lying (c .before .before .before .before .before .before .before .before .before .before .before .before .before .before .before .before .before .before .before .before .before .args .xi) (c .before .before .before .before .before .before .before .before .before .before .before .before .before .before .before .before .before .before .before .before .before .args .coefficients .now) (take (c .before .before .before .before .before .before .before .before .before .before .before .before .before .before .before .before .before .before .before .before .before .args .at) (c .before .before .before .before .before .before .before .before .before .before .before .before .before .before .before .before .before .before .before .before .before .args .pool .now)) (c .before .before .before .before .before .before .before .before .before .before .before .before .before .before .before .before .before .before .before .before .before .args .xf) (c .before .before .before .before .before .before .before .before .before .before .before .before .before .before .before .before .before .before .before .before .before .args .x) .coeffs) (lying (c .before .before .before .before .before .before .before .before .before .before .before .before .before .before .before .before .before .before .before .before .before .args .yi) (c .before .before .before .before .before .before .before .before .before .before .before .before .before .before .before .before .before .before .before .before .before .args .coefficients .now) (take (c .before .before .before .before .before .before .before .before .before .before .before .before .before .before .before .before .before .before .before .before .before .args .at) (c .before .before .before .before .before .before .before .before .before .before .before .before .before .before .before .before .before .before .before .before .before .args .pool .now)) (c .before .before .before .before .before .before .before .before .before .before .before .before .before .before .before .before .before .before .before .before .before .args .yf) (c .before .before .before .before .before .before .before .before .before .before .before .before .before .before .before .before .before .before .before .before .before .args .y) .coeffs) (c .before .before .before .before .before .before .before .before .before .before .before .before .before .before .load-pair .ensures .1) (c .before .before .before .before .before .before .before .before .before .before .before .before .before .before .load-pair .ensures .0) (stands (c .before .before .before .before .before .before .before .before .before)), value-kept (c .before .before .before .before .before .before .before .before .before .before .before .before .before .before .before .before .before .before .before .before .before .pre .0) (lying (c .before .before .before .before .before .before .before .before .before .before .before .before .before .before .before .before .before .before .before .before .before .args .xi) (c .before .before .before .before .before .before .before .before .before .before .before .before .before .before .before .before .before .before .before .before .before .args .coefficients .now) (take (c .before .before .before .before .before .before .before .before .before .before .before .before .before .before .before .before .before .before .before .before .before .args .at) (c .before .before .before .before .before .before .before .before .before .before .before .before .before .before .before .before .before .before .before .before .before .args .pool .now)) (c .before .before .before .before .before .before .before .before .before .before .before .before .before .before .before .before .before .before .before .before .before .args .xf) (c .before .before .before .before .before .before .before .before .before .before .before .before .before .before .before .before .before .before .before .before .before .args .x) .coeffs) (lying (c .before .before .before .before .before .before .before .before .before .before .before .before .before .before .before .before .before .before .before .before .before .args .yi) (c .before .before .before .before .before .before .before .before .before .before .before .before .before .before .before .before .before .before .before .before .before .args .coefficients .now) (take (c .before .before .before .before .before .before .before .before .before .before .before .before .before .before .before .before .before .before .before .before .before .args .at) (c .before .before .before .before .before .before .before .before .before .before .before .before .before .before .before .before .before .before .before .before .before .args .pool .now)) (c .before .before .before .before .before .before .before .before .before .before .before .before .before .before .before .before .before .before .before .before .before .args .yf) (c .before .before .before .before .before .before .before .before .before .before .before .before .before .before .before .before .before .before .before .before .before .args .y) .coeffs) (c .before .before .before .before .before .before .before .before .before .before .before .before .before .before .load-pair .ensures .1) (c .before .before .before .before .before .before .before .before .before .before .before .before .before .before .load-pair .ensures .0) (stands (c .before .before .before .before .before .before .before .before .before)) (c .before .before .before .before .count-of .ensures) refl (part-kept (c .before .before .before .before .before .before .before .before .before .before .before .before .before .before .before .before .before .before .before .before .before .args .at) (c .before .before .before .before .before .before .before .before .before .before .before .before .before .before .before .before .before .before .before .before .before .args .at + c .before .before .before .before .before .before .before .before .before .before .before .before .before .before .before .before .before .before .before .before .before .args .n) (c .before .before .before .before .before .before .before .before .before .before .before .before .before .before .before .before .before .before .before .before .before .args .pool .now) (c .before .before .before .before .before .before .before .before .before .pair-front .last .1 .1 .1 .1 .1 .1 .1 .0) (c .before .before .before .before .before .before .before .before .before .pair-front .kept .1 .1 .1 .1 .1 .1 .1 .0 ∙ simp (length-take, length-drop) (omega (arith, g .room))) (omega arith) (g .room)) (c .before .before .pad .ensures))
 
@@ -98,23 +71,23 @@ pub pair-to-spec : {M : Type 1} → statement M
 pair-to-spec =
     tie.close
     (tie.spec
-    mul-room
-    slice-reshare-prefix-load-pair
+    (λ c. search needs)
+    (λ c. search needs)
     slice-aggregate-load-pair
-    slice-relend-prefix-load-pair
+    (λ c. search needs)
     slice-aggregate-load-pair-2
     load-pair-requires
     add-end
-    slice-relend-prefix-pair-front
+    (λ c. search needs)
     slice-aggregate-pair-front
     mul-pair-front
-    sub-pair-front
-    part-pair-front-start
-    part-pair-front-end
+    (λ c. search needs)
+    (λ c. search needs)
+    (λ c. search needs)
     pair-front-requires
     count-of-requires
     add-pad
     pad-requires
-    same-length
-    same-length-2
+    (λ c. search needs)
+    (λ c. search needs)
     returns)

@@ -20,29 +20,14 @@ use Rattle.recipes_singles.proofs.change_from.Reads as change-from-read
 ends : (c : tie.Start) → (c .args .at ≤ length (c .args .pool .now)) × (c .args .n ≤ length (c .args .scratch .now))
 ends c = let g = c .pre .1 .1 in (omega (arith, g .room), omega (arith, g .spare))
 
-slice-reshare-prefix-change-from : tie.Need-slice-reshare-prefix-change-from
-slice-reshare-prefix-change-from c = search needs
-
 slice-aggregate-change-from : tie.Need-slice-aggregate-change-from
 slice-aggregate-change-from c = sym (length-take-le _ _ (ends (c .before .before .before .before) .0))
-
-slice-relend-prefix-change-from : tie.Need-slice-relend-prefix-change-from
-slice-relend-prefix-change-from c = search needs
 
 slice-aggregate-change-from-2 : tie.Need-slice-aggregate-change-from-2
 slice-aggregate-change-from-2 c = sym (length-take-le _ _ (ends (c .before .before .before .before .before) .1))
 
 change-from-requires : tie.Need-change-from-requires
 change-from-requires c κs = (rw (length-take-le _ _ (ends (c .before .before .before .before .before) .1)) (c .before .before .before .before .before .pre .0), lies-source (c .before .before .before .before .before .args .coefficients .now) (take (c .before .before .before .before .before .args .at) (c .before .before .before .before .before .args .pool .now)) (c .before .before .before .before .before .pre .1 .0) (length-take-le _ _ (ends (c .before .before .before .before .before) .0)))
-
-keep-requires : tie.Need-keep-requires
-keep-requires c κs = search needs
-
-same-length : tie.Need-same-length
-same-length c = search needs
-
-same-length-2 : tie.Need-same-length-2
-same-length-2 c = search needs
 
 returns : tie.Need-returns
 returns c = (c .before .before .before .before .before .before .before .change-from .ensures .0, front-kept (c .before .before .before .before .before .before .before .change-from .last .1 .1 .1 .1 .1 .1 .1 .1 .1 .0) (drop (c .before .before .before .before .before .before .before .before .before .before .before .before .before .args .n) (c .before .before .before .before .before .before .before .before .before .before .before .before .before .args .scratch .now)) (c .before .before .keep .ensures) (c .before .before .before .before .before .before .before .change-from .kept .1 .1 .1 .1 .1 .1 .1 .1 .1 .0 ∙ length-take-le _ _ (ends (c .before .before .before .before .before .before .before .before .before .before .before .before .before) .1)) (c .before .before .before .before .before .before .before .change-from .ensures .1 ∙ ap (λ (k : ℕ). padded k (changedPoly (c .before .before .before .before .before .before .before .before .before .before .before .before .before .args .kind) (c .before .before .before .before .before .before .before .before .before .before .before .before .before .args .v) (c .before .before .before .before .before .before .before .before .before .before .before .before .before .args .d) (lying (c .before .before .before .before .before .before .before .before .before .before .before .before .before .args .input) (c .before .before .before .before .before .before .before .before .before .before .before .before .before .args .coefficients .now) (take (c .before .before .before .before .before .before .before .before .before .before .before .before .before .args .at) (c .before .before .before .before .before .before .before .before .before .before .before .before .before .args .pool .now)) (c .before .before .before .before .before .before .before .before .before .before .before .before .before .args .from) (c .before .before .before .before .before .before .before .before .before .before .before .before .before .args .x)) .coeffs)) (sym (c .before .before .before .before .before .before .before .before .before .before .before .before .before .pre .0 .room))))
@@ -51,12 +36,12 @@ pub change-to-spec : {M : Type 1} → statement M
 change-to-spec =
     tie.close
     (tie.spec
-    slice-reshare-prefix-change-from
+    (λ c. search needs)
     slice-aggregate-change-from
-    slice-relend-prefix-change-from
+    (λ c. search needs)
     slice-aggregate-change-from-2
     change-from-requires
-    keep-requires
-    same-length
-    same-length-2
+    (λ c κs. search needs)
+    (λ c. search needs)
+    (λ c. search needs)
     returns)

@@ -21,26 +21,17 @@ use Rattle.sums_negation.proofs.negate_into.Reads as negate-into-reads
 negate-into-requires : tie.Need-negate-into-requires
 negate-into-requires c κs = same-room (c .before .before .before .before .pre) (c .before .if1 .taken)
 
-same-length : tie.Need-same-length
-same-length c = search needs
-
 returns : tie.Need-returns
 returns c = (same-head (c .before .before .before .before .before .before .before .pre) (c .before .before .before .before .if1 .taken) (c .before .before .before .before .before .before .before .args .a .now), c .before .before .negate-into .ensures ∙ same-places (c .before .before .before .before .before .before .before .pre) (c .before .before .before .before .if1 .taken) (c .before .before .before .before .before .before .before .args .a .now) (c .before .before .before .before .before .before .before .args .to .now) refl)
 
 shift-rows-requires : tie.Need-shift-rows-requires
 shift-rows-requires c κs = shifting (c .before .before .before .before .before .pre) (c .before .before .if1 .left)
 
-same-length-2 : tie.Need-same-length-2
-same-length-2 c = search needs
-
 returns-2 : tie.Need-returns-2
 returns-2 c = (down-head (c .before .before .before .before .before .before .before .before .pre) (c .before .before .before .before .before .if1 .left) (c .before .before .before .before .if2 .taken) (c .before .before .before .before .before .before .before .before .args .a .now), down-places (c .before .before .before .before .before .before .before .before .pre) (c .before .before .before .before .before .if1 .left) (c .before .before .before .before .if2 .taken) (c .before .before .before .before .before .before .before .before .args .a .now) (c .before .before .shift-rows .ensures))
 
 take-rows-requires : tie.Need-take-rows-requires
 take-rows-requires c κs = shifting (c .before .before .before .before .before .pre) (c .before .before .if1 .left)
-
-same-length-3 : tie.Need-same-length-3
-same-length-3 c = search needs
 
 returns-3 : tie.Need-returns-3
 returns-3 c = (c .before .before .take-rows .ensures .0 ∙ ap (λ (p : Poly). p .head) (scaled-is (c .before .before .before .before .before .before .before .before .pre) (c .before .before .before .before .before .if1 .left) (c .before .before .before .before .if2 .left) (c .before .before .before .before .before .before .before .before .args .a .now)), c .before .before .take-rows .ensures .1 ∙ ap (λ (p : Poly). padded (stored (c .before .before .before .before .before .before .before .before .args .r)) (p .coeffs)) (scaled-is (c .before .before .before .before .before .before .before .before .pre) (c .before .before .before .before .before .if1 .left) (c .before .before .before .before .if2 .left) (c .before .before .before .before .before .before .before .before .args .a .now)))
@@ -50,11 +41,11 @@ changed-spec =
     tie.close
     (tie.spec
     negate-into-requires
-    same-length
+    (λ c. search needs)
     returns
     shift-rows-requires
-    same-length-2
+    (λ c. search needs)
     returns-2
     take-rows-requires
-    same-length-3
+    (λ c. search needs)
     returns-3)

@@ -32,17 +32,8 @@ rooms c = simp length-append (omega (arith, used c))
 loaded : (c : tie.After-load-base) → Loaded (c .before .before .before .before .before .before .before .before .args .e) (lying (c .before .before .before .before .before .before .before .before .args .input) (c .before .before .before .before .before .before .before .before .args .coefficients .now) (take (c .before .before .before .before .before .before .before .before .args .at) (c .before .before .before .before .before .before .before .before .args .pool .now)) (c .before .before .before .before .before .before .before .before .args .from) (c .before .before .before .before .before .before .before .before .args .x) .coeffs) (take (8 * c .before .before .before .before .before .before .before .before .args .n) ((c .load-base .last .1 .1 .1 .1 .1 .1 .0) ++ drop (8 * c .before .before .before .before .before .before .before .before .args .n) (c .before .before .before .before .before .before .before .before .args .scratch .now)))
 loaded c = rw (take-at (c .load-base .last .1 .1 .1 .1 .1 .1 .0) (drop (8 * c .before .before .before .before .before .before .before .before .args .n) (c .before .before .before .before .before .before .before .before .args .scratch .now)) (8 * c .before .before .before .before .before .before .before .before .args .n) (used c)) (c .load-base .ensures)
 
-mul-room : tie.Need-mul-room
-mul-room c = search needs
-
-slice-reshare-prefix-load-base : tie.Need-slice-reshare-prefix-load-base
-slice-reshare-prefix-load-base c = search needs
-
 slice-aggregate-load-base : tie.Need-slice-aggregate-load-base
 slice-aggregate-load-base c = sym (length-take-le _ _ (ends (c .before .before .before .before .before .before) .0))
-
-slice-relend-prefix-load-base : tie.Need-slice-relend-prefix-load-base
-slice-relend-prefix-load-base c = search needs
 
 slice-aggregate-load-base-2 : tie.Need-slice-aggregate-load-base-2
 slice-aggregate-load-base-2 c = sym (length-take-le _ _ (ends (c .before .before .before .before .before .before .before) .1))
@@ -50,35 +41,11 @@ slice-aggregate-load-base-2 c = sym (length-take-le _ _ (ends (c .before .before
 load-base-requires : tie.Need-load-base-requires
 load-base-requires c κs = (c .before .before .before .before .before .before .before .pre .0 .left .regular .rules, (base-fits (c .before .before .before .before .before .before .before .pre .0) (length-take-le _ _ (ends (c .before .before .before .before .before .before .before) .1)), bounds (c .before .before .before .before .before .before .before)))
 
-add-end : tie.Need-add-end
-add-end c = search needs
-
-slice-relend-prefix-power-loaded : tie.Need-slice-relend-prefix-power-loaded
-slice-relend-prefix-power-loaded c = search needs
-
 slice-aggregate-power-loaded : tie.Need-slice-aggregate-power-loaded
 slice-aggregate-power-loaded c = sym (length-take-le _ _ (rooms (c .before .before .before)))
 
-mul-power-loaded : tie.Need-mul-power-loaded
-mul-power-loaded c = search needs
-
-sub-power-loaded : tie.Need-sub-power-loaded
-sub-power-loaded c = search needs
-
-part-power-loaded-start : tie.Need-part-power-loaded-start
-part-power-loaded-start c = search needs
-
-part-power-loaded-end : tie.Need-part-power-loaded-end
-part-power-loaded-end c = search needs
-
 power-loaded-requires : tie.Need-power-loaded-requires
 power-loaded-requires c κs = let g = c .before .before .before .before .before .before .before .before .before .before .before .before .pre .1 .1 in powering (c .before .before .before .before .before .before .before .before .before .before .before .before .pre .0) (length-take-le _ _ (rooms (c .before .before .before .before))) (simp (length-take, length-drop) (omega (arith, g .room)))
-
-same-length : tie.Need-same-length
-same-length c = search needs
-
-same-length-2 : tie.Need-same-length-2
-same-length-2 c = search needs
 
 returns : tie.Need-returns
 returns c = let g = c .before .before .before .before .before .before .before .before .before .before .before .before .before .before .before .before .before .pre .1 .1 in (power-head (c .before .before .before .before .before .before .before .before .before .before .before .before .before .before .before .before .before .pre .0) (lying (c .before .before .before .before .before .before .before .before .before .before .before .before .before .before .before .before .before .args .input) (c .before .before .before .before .before .before .before .before .before .before .before .before .before .before .before .before .before .args .coefficients .now) (take (c .before .before .before .before .before .before .before .before .before .before .before .before .before .before .before .before .before .args .at) (c .before .before .before .before .before .before .before .before .before .before .before .before .before .before .before .before .before .args .pool .now)) (c .before .before .before .before .before .before .before .before .before .before .before .before .before .before .before .before .before .args .from) (c .before .before .before .before .before .before .before .before .before .before .before .before .before .before .before .before .before .args .x) .coeffs) (loaded (c .before .before .before .before .before .before .before .before .before)) (length-operand (c .before .before .before .before .before .before .before .before .before .before .before .before .before .before .before .before .before .args .from) (stored (c .before .before .before .before .before .before .before .before .before .before .before .before .before .before .before .before .before .args .x)) (source (c .before .before .before .before .before .before .before .before .before .before .before .before .before .before .before .before .before .args .input) (c .before .before .before .before .before .before .before .before .before .before .before .before .before .before .before .before .before .args .coefficients .now) (take (c .before .before .before .before .before .before .before .before .before .before .before .before .before .before .before .before .before .args .at) (c .before .before .before .before .before .before .before .before .before .before .before .before .before .before .before .before .before .args .pool .now))) (bounds (c .before .before .before .before .before .before .before .before .before .before .before .before .before .before .before .before .before))) (c .before .before .before .before .power-loaded .ensures .0), kept-as (power-places (c .before .before .before .before .before .before .before .before .before .before .before .before .before .before .before .before .before .pre .0) (lying (c .before .before .before .before .before .before .before .before .before .before .before .before .before .before .before .before .before .args .input) (c .before .before .before .before .before .before .before .before .before .before .before .before .before .before .before .before .before .args .coefficients .now) (take (c .before .before .before .before .before .before .before .before .before .before .before .before .before .before .before .before .before .args .at) (c .before .before .before .before .before .before .before .before .before .before .before .before .before .before .before .before .before .args .pool .now)) (c .before .before .before .before .before .before .before .before .before .before .before .before .before .before .before .before .before .args .from) (c .before .before .before .before .before .before .before .before .before .before .before .before .before .before .before .before .before .args .x) .coeffs) (loaded (c .before .before .before .before .before .before .before .before .before)) (length-operand (c .before .before .before .before .before .before .before .before .before .before .before .before .before .before .before .before .before .args .from) (stored (c .before .before .before .before .before .before .before .before .before .before .before .before .before .before .before .before .before .args .x)) (source (c .before .before .before .before .before .before .before .before .before .before .before .before .before .before .before .before .before .args .input) (c .before .before .before .before .before .before .before .before .before .before .before .before .before .before .before .before .before .args .coefficients .now) (take (c .before .before .before .before .before .before .before .before .before .before .before .before .before .before .before .before .before .args .at) (c .before .before .before .before .before .before .before .before .before .before .before .before .before .before .before .before .before .args .pool .now))) (bounds (c .before .before .before .before .before .before .before .before .before .before .before .before .before .before .before .before .before))) (c .before .before .before .before .power-loaded .ensures .1)) (part-kept (c .before .before .before .before .before .before .before .before .before .before .before .before .before .before .before .before .before .args .at) (c .before .before .before .before .before .before .before .before .before .before .before .before .before .before .before .before .before .args .at + c .before .before .before .before .before .before .before .before .before .before .before .before .before .before .before .before .before .args .n) (c .before .before .before .before .before .before .before .before .before .before .before .before .before .before .before .before .before .args .pool .now) (c .before .before .before .before .power-loaded .last .1 .1 .1 .1 .1 .0) (c .before .before .before .before .power-loaded .kept .1 .1 .1 .1 .1 .0 ∙ simp (length-take, length-drop) (omega (arith, g .room))) (omega arith) (g .room)))
@@ -87,20 +54,20 @@ pub power-to-spec : {M : Type 1} → statement M
 power-to-spec =
     tie.close
     (tie.spec
-    mul-room
-    slice-reshare-prefix-load-base
+    (λ c. search needs)
+    (λ c. search needs)
     slice-aggregate-load-base
-    slice-relend-prefix-load-base
+    (λ c. search needs)
     slice-aggregate-load-base-2
     load-base-requires
-    add-end
-    slice-relend-prefix-power-loaded
+    (λ c. search needs)
+    (λ c. search needs)
     slice-aggregate-power-loaded
-    mul-power-loaded
-    sub-power-loaded
-    part-power-loaded-start
-    part-power-loaded-end
+    (λ c. search needs)
+    (λ c. search needs)
+    (λ c. search needs)
+    (λ c. search needs)
     power-loaded-requires
-    same-length
-    same-length-2
+    (λ c. search needs)
+    (λ c. search needs)
     returns)

@@ -13,41 +13,17 @@ Inv-loop k₀ k = k ≤ 12
 abbrev μ-loop : tie.MeasureT-loop
 μ-loop k₀ k = 12 - k
 
-loop-holds : tie.Need-loop-holds Inv-loop μ-loop
-loop-holds c = omega arith
-
-mul-show-ones : tie.Need-mul-show-ones Inv-loop μ-loop
-mul-show-ones c = omega arith
-
-array-read-show-ones : tie.Need-array-read-show-ones Inv-loop μ-loop
-array-read-show-ones c = omega arith
-
-show-ones-requires : tie.Need-show-ones-requires Inv-loop μ-loop
-show-ones-requires c κs = search needs
-
-add-k : tie.Need-add-k Inv-loop μ-loop
-add-k c = omega arith
-
-loop-less : tie.Need-loop-less Inv-loop μ-loop
-loop-less c = omega arith
-
-loop-again : tie.Need-loop-again Inv-loop μ-loop
-loop-again c = omega arith
-
-returns : tie.Need-returns Inv-loop μ-loop
-returns c = search needs
-
 pub show-all-ones-spec : {M : Type 1} → statement M
 show-all-ones-spec =
     tie.close
     (tie.spec
     Inv-loop
     μ-loop
-    loop-holds
-    mul-show-ones
-    array-read-show-ones
-    show-ones-requires
-    add-k
-    loop-less
-    loop-again
-    returns)
+    (λ c. omega arith)
+    (λ c. omega arith)
+    (λ c. omega arith)
+    (λ c κs. search needs)
+    (λ c. omega arith)
+    (λ c. omega arith)
+    (λ c. omega arith)
+    (λ c. search needs))

@@ -17,30 +17,6 @@ use Rattle.report.proofs.refusal.put_refusal_report.Reads as put-refusa
 use Rattle.report_lines.proofs.put_limits.Reads as put-limits-reads
 use Rattle.sheet.proofs.solve.Reads as solve-reads
 
-floats-requires : tie.Need-floats-requires
-floats-requires c κs = search needs
-
-slice-aggregate-solve : tie.Need-slice-aggregate-solve
-slice-aggregate-solve c = search needs
-
-slice-aggregate-solve-2 : tie.Need-slice-aggregate-solve-2
-slice-aggregate-solve-2 c = search needs
-
-slice-aggregate-solve-3 : tie.Need-slice-aggregate-solve-3
-slice-aggregate-solve-3 c = search needs
-
-slice-aggregate-solve-4 : tie.Need-slice-aggregate-solve-4
-slice-aggregate-solve-4 c = search needs
-
-solve-requires : tie.Need-solve-requires
-solve-requires c κs = search needs
-
-put-refusal-report-requires : tie.Need-put-refusal-report-requires
-put-refusal-report-requires c κs = search needs
-
-same-length : tie.Need-same-length
-same-length c = search needs
-
 returns : tie.Need-returns
 returns c = rw (told-refused _ (sym (c .before .before .before .before .before .before .before .before .before .before .before .solve .ensures .refusal)) (c .before .before .before .before .if1 .taken)) (c .before .before .put-refusal-report .ensures [] _ (printed-none _))
 
@@ -68,20 +44,11 @@ add-end c = omega (arith, (c .before .before .before .before .before .before .be
 mul-put-figures : tie.Need-mul-put-figures
 mul-put-figures c = omega (arith, (c .before .before .before .before .before .before .before .before .before .before .before .before .before .before .before .solve .ensures .done (c .before .before .before .before .before .before .before .before .if1 .left)) .last .within)
 
-sub-put-figures : tie.Need-sub-put-figures
-sub-put-figures c = search needs
-
-part-put-figures-start : tie.Need-part-put-figures-start
-part-put-figures-start c = search needs
-
 part-put-figures-end : tie.Need-part-put-figures-end
 part-put-figures-end c = omega (arith, (c .before .before .before .before .before .before .before .before .before .before .before .before .before .before .before .before .solve .ensures .done (c .before .before .before .before .before .before .before .before .before .if1 .left)) .last .held)
 
 put-figures-requires : tie.Need-put-figures-requires
 put-figures-requires c κs = simp (length-take, length-drop) (omega (arith, (c .before .before .before .before .before .before .before .before .before .before .before .before .before .before .before .before .before .before .solve .ensures .done (c .before .before .before .before .before .before .before .before .before .before .before .if1 .left)) .last .full, (c .before .before .before .before .before .before .before .before .before .before .before .before .before .before .before .before .before .before .solve .ensures .done (c .before .before .before .before .before .before .before .before .before .before .before .if1 .left)) .last .held))
-
-same-length-2 : tie.Need-same-length-2
-same-length-2 c = search needs
 
 returns-2 : tie.Need-returns-2
 returns-2 c = rw (told-solved (c .before .before .before .before .before .before .before .before .before .before .before .before .before .before .before .before .before .before .before .before .before .solve .ensures .done (c .before .before .before .before .before .before .before .before .before .before .before .before .before .before .if1 .left)) (ap (λ (r : Refusal). r .number) (sym (c .before .before .before .before .before .before .before .before .before .before .before .before .before .before .before .before .before .before .before .before .before .solve .ensures .refusal)) ∙ c .before .before .before .before .before .before .before .before .before .before .before .before .before .before .if1 .left)) (puts-then (c .before .before .before .before .before .before .before .before .before .put-limits .ensures) (c .before .before .put-figures .ensures) [] _ (printed-none _))
@@ -90,14 +57,14 @@ pub answer-spec : {M : Type 1} → statement M
 answer-spec =
     tie.close
     (tie.spec
-    floats-requires
-    slice-aggregate-solve
-    slice-aggregate-solve-2
-    slice-aggregate-solve-3
-    slice-aggregate-solve-4
-    solve-requires
-    put-refusal-report-requires
-    same-length
+    (λ c κs. search needs)
+    (λ c. search needs)
+    (λ c. search needs)
+    (λ c. search needs)
+    (λ c. search needs)
+    (λ c κs. search needs)
+    (λ c κs. search needs)
+    (λ c. search needs)
     returns
     add-n
     array-share-prefix-known
@@ -107,9 +74,9 @@ answer-spec =
     put-limits-requires
     add-end
     mul-put-figures
-    sub-put-figures
-    part-put-figures-start
+    (λ c. search needs)
+    (λ c. search needs)
     part-put-figures-end
     put-figures-requires
-    same-length-2
+    (λ c. search needs)
     returns-2)

@@ -13,39 +13,6 @@ use Rattle.report_lines.proofs.cuts.put_verdict.Reads as put-verdict-re
 use Rattle.report_lines.proofs.lines.put_places.Reads as put-places-reads
 use Rattle.report_lines.proofs.put.put.Reads as put-reads
 
-slice-aggregate-put : tie.Need-slice-aggregate-put
-slice-aggregate-put c = search needs
-
-put-requires : tie.Need-put-requires
-put-requires c κs = search needs
-
-slice-aggregate-put-2 : tie.Need-slice-aggregate-put-2
-slice-aggregate-put-2 c = search needs
-
-put-requires-2 : tie.Need-put-requires-2
-put-requires-2 c κs = search needs
-
-put-places-requires : tie.Need-put-places-requires
-put-places-requires c κs = search needs
-
-put-cuts-requires : tie.Need-put-cuts-requires
-put-cuts-requires c κs = search needs
-
-sub-put-ends : tie.Need-sub-put-ends
-sub-put-ends c = search needs
-
-put-ends-requires : tie.Need-put-ends-requires
-put-ends-requires c κs = search needs
-
-sub-put-verdict : tie.Need-sub-put-verdict
-sub-put-verdict c = search needs
-
-put-verdict-requires : tie.Need-put-verdict-requires
-put-verdict-requires c κs = search needs
-
-same-length : tie.Need-same-length
-same-length c = omega arith
-
 returns : tie.Need-returns
 unfolding limitsText bytes
 returns c = puts-then (c .before .before .before .before .before .before .before .before .before .before .before .before .before .before .before .before .before .before .before .before .before .before .before .put .ensures) (puts-then (c .before .before .before .before .before .before .before .before .before .before .before .before .before .before .before .before .before .before .put2 .ensures) (puts-then (c .before .before .before .before .before .before .before .before .before .before .before .before .before .before .put-places .ensures) (puts-then (c .before .before .before .before .before .before .before .before .before .before .put-cuts .ensures) (puts-then (c .before .before .before .before .before .before .put-ends .ensures) (c .before .before .put-verdict .ensures)))))
@@ -54,15 +21,15 @@ pub put-limits-spec : {M : Type 1} → statement M
 put-limits-spec =
     tie.close
     (tie.spec
-    slice-aggregate-put
-    put-requires
-    slice-aggregate-put-2
-    put-requires-2
-    put-places-requires
-    put-cuts-requires
-    sub-put-ends
-    put-ends-requires
-    sub-put-verdict
-    put-verdict-requires
-    same-length
+    (λ c. search needs)
+    (λ c κs. search needs)
+    (λ c. search needs)
+    (λ c κs. search needs)
+    (λ c κs. search needs)
+    (λ c κs. search needs)
+    (λ c. search needs)
+    (λ c κs. search needs)
+    (λ c. search needs)
+    (λ c κs. search needs)
+    (λ c. omega arith)
     returns)

@@ -53,18 +53,9 @@ used c = c .log-into .kept .1 .1 .1 .1 .1 .1 .0 ∙ length-take-le _ _ (fits (c 
 rooms : (c : tie.After-log-into) → 8 * c .before .before .before .before .stored-of2 .result ≤ length (c .log-into .last .1 .1 .1 .1 .1 .1 .0 ++ drop (8 * c .before .before .before .before .stored-of2 .result) ((c .before .before .before .before .before .before .before .before .before .before .before .before .before .before .before .before .before) .args .scratch .now))
 rooms c = simp length-append (omega (arith, used c))
 
-work-gate-requires : tie.Need-work-gate-requires
-work-gate-requires c κs = search needs
-
 returns : tie.Need-returns
 unfolding logAnswer logOut seriesScratch
 returns c = (refused-answer (c .before .before .work-gate .ensures) (announcedOne Series ((c .before .before .before .before .before .before) .args .word)) (logPoly ((c .before .before .before .before .before .before) .args .head) (held ((c .before .before .before .before .before .before) .args .word) ((c .before .before .before .before .before .before) .args .a .now))) (c .if1 .taken), (refused-out (c .before .before .work-gate .ensures) (announcedOne Series ((c .before .before .before .before .before .before) .args .word)) (logPoly ((c .before .before .before .before .before .before) .args .head) (held ((c .before .before .before .before .before .before) .args .word) ((c .before .before .before .before .before .before) .args .a .now))) (c .if1 .taken) ((c .before .before .before .before .before .before) .args .out .now), refused-scratch (c .before .before .work-gate .ensures) (announcedOne Series ((c .before .before .before .before .before .before) .args .word)) (logPoly ((c .before .before .before .before .before .before) .args .head) (held ((c .before .before .before .before .before .before) .args .word) ((c .before .before .before .before .before .before) .args .a .now))) (c .if1 .taken) ((c .before .before .before .before .before .before) .args .scratch .now)))
-
-header-of-requires : tie.Need-header-of-requires
-header-of-requires c κs = search needs
-
-none-requires : tie.Need-none-requires
-none-requires c κs = search needs
 
 announced-of-requires : tie.Need-announced-of-requires
 announced-of-requires c κs = (rw (c .before .header-of .ensures) (ready (c .before .before) .one .good .regular .rules), rw (c .none .ensures) (none-regular .rules))
@@ -102,17 +93,8 @@ slice-relend-prefix-clear c = rooms (c .before .before .before .before)
 slice-aggregate-clear : tie.Need-slice-aggregate-clear
 slice-aggregate-clear c = sym (length-take-le _ _ (rooms (c .before .before .before .before .before)))
 
-clear-requires : tie.Need-clear-requires
-clear-requires c κs = search needs
-
 pack-requires : tie.Need-pack-requires
 pack-requires c κs = ruled (c .before .before .before .before .before .before .before .before .before .before .before .before .before .before .before .before)
-
-same-length : tie.Need-same-length
-same-length c = search needs
-
-same-length-2 : tie.Need-same-length-2
-same-length-2 c = search needs
 
 returns-2 : tie.Need-returns-2
 unfolding logAnswer logOut seriesScratch
@@ -122,10 +104,10 @@ pub log-spec : {M : Type 1} → statement M
 log-spec =
     tie.close
     (tie.spec
-    work-gate-requires
+    (λ c κs. search needs)
     returns
-    header-of-requires
-    none-requires
+    (λ c κs. search needs)
+    (λ c κs. search needs)
     announced-of-requires
     stored-of-requires
     stored-of-requires-2
@@ -138,8 +120,8 @@ log-spec =
     log-into-requires
     slice-relend-prefix-clear
     slice-aggregate-clear
-    clear-requires
+    (λ c κs. search needs)
     pack-requires
-    same-length
-    same-length-2
+    (λ c. search needs)
+    (λ c. search needs)
     returns-2)

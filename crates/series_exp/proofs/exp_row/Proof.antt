@@ -26,41 +26,11 @@ made : (c : tie.After-divide-by) → length (c .divide-by .last .1 .0) ≡ inRow
 unfolding gathered
 made c = ap length (c .divide-by .ensures) ∙ (length-table _ _ ∙ (ap length (c .before .before .before .before .gather .ensures) ∙ length-table _ _))
 
-mul-at : tie.Need-mul-at
-mul-at c = search needs
-
-array-read-at : tie.Need-array-read-at
-array-read-at c = search needs
-
 mul-at-2 : tie.Need-mul-at-2
 mul-at-2 c = omega (arith, fits (c .before .before), (c .before .before) .pre .1 .ends, (c .before .before) .pre .1 .room)
 
-mul-end : tie.Need-mul-end
-mul-end c = search needs
-
-array-read-end : tie.Need-array-read-end
-array-read-end c = search needs
-
 add-end : tie.Need-add-end
 add-end c = omega (arith, fits (c .before .before), (c .before .before) .pre .1 .ends, (c .before .before) .pre .1 .room)
-
-mul-gather : tie.Need-mul-gather
-mul-gather c = search needs
-
-sub-gather : tie.Need-sub-gather
-sub-gather c = search needs
-
-part-gather-start : tie.Need-part-gather-start
-part-gather-start c = search needs
-
-part-gather-end : tie.Need-part-gather-end
-part-gather-end c = search needs
-
-sub-gather-2 : tie.Need-sub-gather-2
-sub-gather-2 c = search needs
-
-part-gather-start-2 : tie.Need-part-gather-start-2
-part-gather-start-2 c = search needs
 
 part-gather-end-2 : tie.Need-part-gather-end-2
 part-gather-end-2 c = omega (arith, fits (c .before .before .before .before), (c .before .before .before .before) .pre .1 .ends, (c .before .before .before .before) .pre .1 .room)
@@ -74,23 +44,11 @@ divide-by-requires c κs = row-small ((c .before .before .before .before .before
 mul-copy : tie.Need-mul-copy
 mul-copy c = omega (arith, fits (c .before .before .before .before .before .before .before .before .before .before .before .before .before .before), (c .before .before .before .before .before .before .before .before .before .before .before .before .before .before) .pre .1 .ends, (c .before .before .before .before .before .before .before .before .before .before .before .before .before .before) .pre .1 .room)
 
-sub-copy : tie.Need-sub-copy
-sub-copy c = search needs
-
-part-copy-start : tie.Need-part-copy-start
-part-copy-start c = search needs
-
 part-copy-end : tie.Need-part-copy-end
 part-copy-end c = omega (arith, fits (c .before .before .before .before .before .before .before .before .before .before .before .before .before .before), (c .before .before .before .before .before .before .before .before .before .before .before .before .before .before) .pre .1 .ends, (c .before .before .before .before .before .before .before .before .before .before .before .before .before .before) .pre .1 .room)
 
 copy-requires : tie.Need-copy-requires
 copy-requires c κs = let s : ℕ = at ((c .before .before .before .before .before .before .before .before .before .before .before .before .before .before .before) .args .t7) ((c .before .before .before .before .before .before .before .before .before .before .before .before .before .before .before) .args .v) in let z = length-part ((c .before .before .before .before .before .before .before .before .before .before .before .before .before .before .before) .args .k * s) ((c .before .before .before .before .before .before .before .before .before .before .before .before .before .before .before) .args .k * s + s) ((c .before .before .before .before .before .before .before .before .before .before .before .before .before .before .before) .args .work .now) (omega arith) (omega (arith, fits (c .before .before .before .before .before .before .before .before .before .before .before .before .before .before .before), (c .before .before .before .before .before .before .before .before .before .before .before .before .before .before .before) .pre .1 .ends, (c .before .before .before .before .before .before .before .before .before .before .before .before .before .before .before) .pre .1 .room)) in omega (arith, z, made (c .before .before .before .before), stride-at ((c .before .before .before .before .before .before .before .before .before .before .before .before .before .before .before) .args .r) ((c .before .before .before .before .before .before .before .before .before .before .before .before .before .before .before) .pre .0 .strided .by-r) ((c .before .before .before .before .before .before .before .before .before .before .before .before .before .before .before) .pre .1 .some))
-
-same-length : tie.Need-same-length
-same-length c = search needs
-
-same-length-2 : tie.Need-same-length-2
-same-length-2 c = search needs
 
 returns : tie.Need-returns
 returns c = let s : ℕ = at ((c .before .before .before .before .before .before .before .before .before .before .before .before .before .before .before .before .before .before) .args .t7) ((c .before .before .before .before .before .before .before .before .before .before .before .before .before .before .before .before .before .before) .args .v) in let d : (c .before .before .before .before .before .before .before .before .before .before .before .before .before .before .before .before .before .before) .args .k * s + s - (c .before .before .before .before .before .before .before .before .before .before .before .before .before .before .before .before .before .before) .args .k * s ≡ s = omega arith in row-kept ((c .before .before .before .before .before .before .before .before .before .before .before .before .before .before .before .before .before .before) .pre .0) ((c .before .before .before .before .before .before .before .before .before .before .before .before .before .before .before .before .before .before) .args .work .now) ((c .before .before .before .before .before .before .before .before .before .before .before .before .before .before .before .before .before .before) .pre .1) (c .before .before .before .before .before .before .before .before .before .before .before .gather .ensures) (c .before .before .before .before .before .before .before .divide-by .ensures) (c .before .before .copy .ensures) (length-part ((c .before .before .before .before .before .before .before .before .before .before .before .before .before .before .before .before .before .before) .args .k * s) ((c .before .before .before .before .before .before .before .before .before .before .before .before .before .before .before .before .before .before) .args .k * s + s) ((c .before .before .before .before .before .before .before .before .before .before .before .before .before .before .before .before .before .before) .args .work .now) (omega arith) (omega (arith, fits (c .before .before .before .before .before .before .before .before .before .before .before .before .before .before .before .before .before .before), (c .before .before .before .before .before .before .before .before .before .before .before .before .before .before .before .before .before .before) .pre .1 .ends, (c .before .before .before .before .before .before .before .before .before .before .before .before .before .before .before .before .before .before) .pre .1 .room)) ∙ d) d
@@ -99,26 +57,26 @@ pub exp-row-spec : {M : Type 1} → statement M
 exp-row-spec =
     tie.close
     (tie.spec
-    mul-at
-    array-read-at
+    (λ c. search needs)
+    (λ c. search needs)
     mul-at-2
-    mul-end
-    array-read-end
+    (λ c. search needs)
+    (λ c. search needs)
     add-end
-    mul-gather
-    sub-gather
-    part-gather-start
-    part-gather-end
-    sub-gather-2
-    part-gather-start-2
+    (λ c. search needs)
+    (λ c. search needs)
+    (λ c. search needs)
+    (λ c. search needs)
+    (λ c. search needs)
+    (λ c. search needs)
     part-gather-end-2
     gather-requires
     divide-by-requires
     mul-copy
-    sub-copy
-    part-copy-start
+    (λ c. search needs)
+    (λ c. search needs)
     part-copy-end
     copy-requires
-    same-length
-    same-length-2
+    (λ c. search needs)
+    (λ c. search needs)
     returns)

@@ -13,20 +13,8 @@ use Rattle.product_lines.proofs.sum_on.Reads as sum-on-reads
 use Rattle.product_lines.proofs.upto.Reads as upto-reads
 use Rattle.series_gathering.proofs.gather_rows.Reads as gather-rows-reads
 
-mul-upto : tie.Need-mul-upto
-mul-upto c = search needs
-
-array-read-upto : tie.Need-array-read-upto
-array-read-upto c = search needs
-
 upto-requires : tie.Need-upto-requires
 upto-requires c κs = row-small ((c .before .before .before) .pre .0 .strided .result) ((c .before .before .before) .pre .1 .some) ((c .before .before .before) .pre .1 .turn)
-
-mul-if1 : tie.Need-mul-if1
-mul-if1 c = search needs
-
-array-read-if1 : tie.Need-array-read-if1
-array-read-if1 c = search needs
 
 sum-on-requires : tie.Need-sum-on-requires
 sum-on-requires c κs = sums ((c .before .before .before .before .before) .pre .0) ((c .before .before .before .before .before) .pre .1) (c .if1 .taken) (c .before .upto .ensures)
@@ -34,17 +22,11 @@ sum-on-requires c κs = sums ((c .before .before .before .before .before) .pre .
 slice-write-row : tie.Need-slice-write-row
 slice-write-row c = omega (arith, (c .before .before .before .before .before .before) .pre .1 .full, row-one ((c .before .before .before .before .before .before) .pre .0) ((c .before .before .before .before .before .before) .pre .1) (c .before .if1 .taken))
 
-same-length : tie.Need-same-length
-same-length c = search needs
-
 returns : tie.Need-returns
 returns c = sum-is ((c .before .before .before .before .before .before) .pre .0) ((c .before .before .before .before .before .before) .pre .1) (c .before .if1 .taken) ((c .before .before .before .before .before .before) .args .xs .now) ((c .before .before .before .before .before .before) .args .done .now) ((c .before .before .before .before .before .before) .args .row .now) (c .before .before .upto .ensures) refl (c .sum-on .ensures)
 
 gather-rows-requires : tie.Need-gather-rows-requires
 gather-rows-requires c κs = ((c .before .before .before .before .before .before) .pre .0 .strided, ((c .before .before .before .before .before .before) .pre .1, exp-reach (c .before .before .upto .ensures)))
-
-same-length-2 : tie.Need-same-length-2
-same-length-2 c = search needs
 
 returns-2 : tie.Need-returns-2
 returns-2 c = c .before .before .gather-rows .ensures ∙ ap (λ (b : ℕ). gathered false ((c .before .before .before .before .before .before .before .before .before) .args .t2) ((c .before .before .before .before .before .before .before .before .before) .args .r) ((c .before .before .before .before .before .before .before .before .before) .args .v) ((c .before .before .before .before .before .before .before .before .before) .args .k) 1 b ((c .before .before .before .before .before .before .before .before .before) .args .xs .now) ((c .before .before .before .before .before .before .before .before .before) .args .done .now)) (c .before .before .before .before .before .upto .ensures)
@@ -53,15 +35,15 @@ pub gather-spec : {M : Type 1} → statement M
 gather-spec =
     tie.close
     (tie.spec
-    mul-upto
-    array-read-upto
+    (λ c. search needs)
+    (λ c. search needs)
     upto-requires
-    mul-if1
-    array-read-if1
+    (λ c. search needs)
+    (λ c. search needs)
     sum-on-requires
     slice-write-row
-    same-length
+    (λ c. search needs)
     returns
     gather-rows-requires
-    same-length-2
+    (λ c. search needs)
     returns-2)

@@ -32,9 +32,6 @@ right c = right-in ((c .before .before .before .before .before .before .before .
 under : (c : tie.After-left-row Inv-loop μ-loop) → c .left-row .result ≤ (c .before .before .before .before .before .before .before .before .before .before) .args .k
 under c = below ((c .before .before .before .before .before .before .before .before .before .before) .pre .0) ((c .before .before .before .before .before .before .before .before .before .before) .args .xs .now) ((c .before .before .before .before .before .before .before .before .before .before) .args .ys .now) ((c .before .before .before .before .before .before .before .before .before .before) .pre .1 .0) ((c .before .before .before .before .before .before .before .before .before .before) .pre .1 .1) (c .before .before .loop .inv .1 .from) (c .before .loop-test .taken) (c .left-row .ensures)
 
-clear-requires : tie.Need-clear-requires Inv-loop μ-loop
-clear-requires c κs = search needs
-
 add-w : tie.Need-add-w Inv-loop μ-loop
 add-w c = let h = (c .before .before .before .before .before .before .before) .pre .1 .0 .some in omega arith
 
@@ -119,7 +116,7 @@ gather-rows-spec =
     (tie.spec
     Inv-loop
     μ-loop
-    clear-requires
+    (λ c κs. search needs)
     add-w
     mul-t
     array-read-t

@@ -29,18 +29,6 @@ made c = ap length (c .turn .ensures) ∙ (length-table _ _ ∙ (ap length (c .b
 rooms : (c : tie.After-slice-known2) → 8 * length ((c .before .before .before) .args .work .now) < 18446744073709551616
 rooms c = omega arith
 
-mul-m : tie.Need-mul-m
-mul-m c = search needs
-
-array-read-m : tie.Need-array-read-m
-array-read-m c = search needs
-
-mul-at : tie.Need-mul-at
-mul-at c = search needs
-
-array-read-at : tie.Need-array-read-at
-array-read-at c = search needs
-
 mul-at-2 : tie.Need-mul-at-2
 mul-at-2 c = omega (arith, log-fits ((c .before .before .before) .pre .0) ((c .before .before .before) .pre .1), ((c .before .before .before) .pre .1) .work)
 
@@ -50,62 +38,23 @@ first-turn-requires c κs = row-small (((c .before .before .before) .pre .0) .st
 add-gather-rows : tie.Need-add-gather-rows
 add-gather-rows c = omega (arith, log-fits ((c .before .before .before .before) .pre .0) ((c .before .before .before .before) .pre .1), ((c .before .before .before .before) .pre .1) .work)
 
-mul-gather-rows : tie.Need-mul-gather-rows
-mul-gather-rows c = search needs
-
-sub-gather-rows : tie.Need-sub-gather-rows
-sub-gather-rows c = search needs
-
-part-gather-rows-start : tie.Need-part-gather-rows-start
-part-gather-rows-start c = search needs
-
 part-gather-rows-end : tie.Need-part-gather-rows-end
 part-gather-rows-end c = omega (arith, log-fits ((c .before .before .before .before .before) .pre .0) ((c .before .before .before .before .before) .pre .1), ((c .before .before .before .before .before) .pre .1) .work)
 
 gather-rows-requires : tie.Need-gather-rows-requires
 gather-rows-requires c κs = (((c .before .before .before .before .before .before .before) .pre .0) .strided, (log-gathers ((c .before .before .before .before .before .before .before) .pre .0) ((c .before .before .before .before .before .before .before) .pre .1) (length-part ((c .before .before .before .before .before .before .before) .args .n) (((c .before .before .before .before .before .before .before) .args .n) + ((c .before .before .before .before .before .before .before) .args .k) * (at ((c .before .before .before .before .before .before .before) .args .t5) ((c .before .before .before .before .before .before .before) .args .v))) ((c .before .before .before .before .before .before .before) .args .work .now) (omega arith) (omega (arith, log-fits ((c .before .before .before .before .before .before .before) .pre .0) ((c .before .before .before .before .before .before .before) .pre .1), ((c .before .before .before .before .before .before .before) .pre .1) .work))) refl, log-reach (some-rows ((c .before .before .before .before .before .before .before) .pre .0) ((c .before .before .before .before .before .before .before) .pre .1)) (c .before .before .before .first-turn .ensures)))
 
-turn-requires : tie.Need-turn-requires
-turn-requires c κs = search needs
-
-same-length : tie.Need-same-length
-same-length c = search needs
-
-same-length-2 : tie.Need-same-length-2
-same-length-2 c = search needs
-
 returns : tie.Need-returns
 returns c = (left-short ((c .before .before .before .before .before .before .before .before .before .before .before .before .before .before .before) .pre .0) ((c .before .before .before .before .before .before .before .before .before .before .before .before .before .before .before) .pre .1) ((c .before .before .before .before .before .before .before .before .before .before .before .before .before .before .before) .args .xs .now) ((c .before .before .before .before .before .before .before .before .before .before .before .before .before .before .before) .args .work .now) (c .before .before .before .before .before .before .before .before .before .before .before .first-turn .ensures) (c .before .before .before .before .before .before .before .gather-rows .ensures) (c .before .before .before .turn .ensures) (c .if1 .taken), below-same)
 
-mul-t : tie.Need-mul-t
-mul-t c = search needs
-
-array-read-t : tie.Need-array-read-t
-array-read-t c = search needs
-
 mul-from : tie.Need-mul-from
 mul-from c = omega (arith, operand-in ((c .before .before .before .before .before .before .before .before .before .before .before .before .before .before .before) .pre .0) ((c .before .before .before .before .before .before .before .before .before .before .before .before .before .before .before) .pre .1) (c .if1 .left))
-
-mul-p : tie.Need-mul-p
-mul-p c = search needs
-
-after-of-requires : tie.Need-after-of-requires
-after-of-requires c κs = search needs
-
-after-of-requires-2 : tie.Need-after-of-requires-2
-after-of-requires-2 c κs = search needs
 
 add-add-operand : tie.Need-add-add-operand
 add-add-operand c = omega (arith, operand-in ((c .before .before .before .before .before .before .before .before .before .before .before .before .before .before .before .before .before) .pre .0) ((c .before .before .before .before .before .before .before .before .before .before .before .before .before .before .before .before .before) .pre .1) (c .before .before .if1 .left))
 
 mul-add-operand : tie.Need-mul-add-operand
 mul-add-operand c = omega (arith, operand-in ((c .before .before .before .before .before .before .before .before .before .before .before .before .before .before .before .before .before) .pre .0) ((c .before .before .before .before .before .before .before .before .before .before .before .before .before .before .before .before .before) .pre .1) (c .before .before .if1 .left))
-
-sub-add-operand : tie.Need-sub-add-operand
-sub-add-operand c = search needs
-
-part-add-operand-start : tie.Need-part-add-operand-start
-part-add-operand-start c = search needs
 
 part-add-operand-end : tie.Need-part-add-operand-end
 part-add-operand-end c = omega (arith, operand-in ((c .before .before .before .before .before .before .before .before .before .before .before .before .before .before .before .before .before) .pre .0) ((c .before .before .before .before .before .before .before .before .before .before .before .before .before .before .before .before .before) .pre .1) (c .before .before .if1 .left))
@@ -116,20 +65,11 @@ add-add-operand-2 c = omega (arith, operand-less ((c .before .before .before .be
 mul-add-operand-2 : tie.Need-mul-add-operand-2
 mul-add-operand-2 c = omega (arith, operand-less ((c .before .before .before .before .before .before .before .before .before .before .before .before .before .before .before .before .before .before) .pre .0) ((c .before .before .before .before .before .before .before .before .before .before .before .before .before .before .before .before .before .before) .pre .1), ((c .before .before .before .before .before .before .before .before .before .before .before .before .before .before .before .before .before .before) .pre .1) .work, rooms (c .before .before .before .before .before .before .before .before .before .before .before .before .before .before .before))
 
-sub-add-operand-2 : tie.Need-sub-add-operand-2
-sub-add-operand-2 c = search needs
-
-part-add-operand-start-2 : tie.Need-part-add-operand-start-2
-part-add-operand-start-2 c = search needs
-
 part-add-operand-end-2 : tie.Need-part-add-operand-end-2
 part-add-operand-end-2 c = omega (arith, operand-less ((c .before .before .before .before .before .before .before .before .before .before .before .before .before .before .before .before .before .before) .pre .0) ((c .before .before .before .before .before .before .before .before .before .before .before .before .before .before .before .before .before .before) .pre .1), ((c .before .before .before .before .before .before .before .before .before .before .before .before .before .before .before .before .before .before) .pre .1) .work)
 
 add-operand-requires : tie.Need-add-operand-requires
 add-operand-requires c κs = let d : ((c .before .before .before .before .before .before .before .before .before .before .before .before .before .before .before .before .before .before .before .before) .args .k) * (at ((c .before .before .before .before .before .before .before .before .before .before .before .before .before .before .before .before .before .before .before .before) .args .t3) ((c .before .before .before .before .before .before .before .before .before .before .before .before .before .before .before .before .before .before .before .before) .args .v)) + (at ((c .before .before .before .before .before .before .before .before .before .before .before .before .before .before .before .before .before .before .before .before) .args .t3) ((c .before .before .before .before .before .before .before .before .before .before .before .before .before .before .before .before .before .before .before .before) .args .v)) - ((c .before .before .before .before .before .before .before .before .before .before .before .before .before .before .before .before .before .before .before .before) .args .k) * (at ((c .before .before .before .before .before .before .before .before .before .before .before .before .before .before .before .before .before .before .before .before) .args .t3) ((c .before .before .before .before .before .before .before .before .before .before .before .before .before .before .before .before .before .before .before .before) .args .v)) ≡ (at ((c .before .before .before .before .before .before .before .before .before .before .before .before .before .before .before .before .before .before .before .before) .args .t3) ((c .before .before .before .before .before .before .before .before .before .before .before .before .before .before .before .before .before .before .before .before) .args .v)) = omega arith in let e : 2 * ((c .before .before .before .before .before .before .before .before .before .before .before .before .before .before .before .before .before .before .before .before) .args .n) + (at ((c .before .before .before .before .before .before .before .before .before .before .before .before .before .before .before .before .before .before .before .before) .args .t3) ((c .before .before .before .before .before .before .before .before .before .before .before .before .before .before .before .before .before .before .before .before) .args .v)) - 2 * ((c .before .before .before .before .before .before .before .before .before .before .before .before .before .before .before .before .before .before .before .before) .args .n) ≡ (at ((c .before .before .before .before .before .before .before .before .before .before .before .before .before .before .before .before .before .before .before .before) .args .t3) ((c .before .before .before .before .before .before .before .before .before .before .before .before .before .before .before .before .before .before .before .before) .args .v)) = omega arith in (row-small (((c .before .before .before .before .before .before .before .before .before .before .before .before .before .before .before .before .before .before .before .before) .pre .0) .strided .result) (((c .before .before .before .before .before .before .before .before .before .before .before .before .before .before .before .before .before .before .before .before) .pre .1) .some) (((c .before .before .before .before .before .before .before .before .before .before .before .before .before .before .before .before .before .before .before .before) .pre .1) .turn), ((length-part (2 * ((c .before .before .before .before .before .before .before .before .before .before .before .before .before .before .before .before .before .before .before .before) .args .n)) (2 * ((c .before .before .before .before .before .before .before .before .before .before .before .before .before .before .before .before .before .before .before .before) .args .n) + (at ((c .before .before .before .before .before .before .before .before .before .before .before .before .before .before .before .before .before .before .before .before) .args .t3) ((c .before .before .before .before .before .before .before .before .before .before .before .before .before .before .before .before .before .before .before .before) .args .v))) ((c .before .before .before .before .before .before .before .before .before .before .before .before .before .before .before .before .before .before .before .before) .args .work .now) (omega arith) (omega (arith, operand-less ((c .before .before .before .before .before .before .before .before .before .before .before .before .before .before .before .before .before .before .before .before) .pre .0) ((c .before .before .before .before .before .before .before .before .before .before .before .before .before .before .before .before .before .before .before .before) .pre .1), ((c .before .before .before .before .before .before .before .before .before .before .before .before .before .before .before .before .before .before .before .before) .pre .1) .work)) ∙ e) ∙ sym (length-part (((c .before .before .before .before .before .before .before .before .before .before .before .before .before .before .before .before .before .before .before .before) .args .k) * (at ((c .before .before .before .before .before .before .before .before .before .before .before .before .before .before .before .before .before .before .before .before) .args .t3) ((c .before .before .before .before .before .before .before .before .before .before .before .before .before .before .before .before .before .before .before .before) .args .v))) (((c .before .before .before .before .before .before .before .before .before .before .before .before .before .before .before .before .before .before .before .before) .args .k) * (at ((c .before .before .before .before .before .before .before .before .before .before .before .before .before .before .before .before .before .before .before .before) .args .t3) ((c .before .before .before .before .before .before .before .before .before .before .before .before .before .before .before .before .before .before .before .before) .args .v)) + (at ((c .before .before .before .before .before .before .before .before .before .before .before .before .before .before .before .before .before .before .before .before) .args .t3) ((c .before .before .before .before .before .before .before .before .before .before .before .before .before .before .before .before .before .before .before .before) .args .v))) ((c .before .before .before .before .before .before .before .before .before .before .before .before .before .before .before .before .before .before .before .before) .args .xs .now) (omega arith) (omega (arith, operand-in ((c .before .before .before .before .before .before .before .before .before .before .before .before .before .before .before .before .before .before .before .before) .pre .0) ((c .before .before .before .before .before .before .before .before .before .before .before .before .before .before .before .before .before .before .before .before) .pre .1) (c .before .before .before .before .before .if1 .left))) ∙ d), joins ((c .before .before .before .before .before .before .before .before .before .before .before .before .before .before .before .before .before .before .before .before) .pre .0) ((c .before .before .before .before .before .before .before .before .before .before .before .before .before .before .before .before .before .before .before .before) .pre .1) (c .before .before .before .before .after-of .ensures) (c .before .before .before .after-of2 .ensures) (length-part (((c .before .before .before .before .before .before .before .before .before .before .before .before .before .before .before .before .before .before .before .before) .args .k) * (at ((c .before .before .before .before .before .before .before .before .before .before .before .before .before .before .before .before .before .before .before .before) .args .t3) ((c .before .before .before .before .before .before .before .before .before .before .before .before .before .before .before .before .before .before .before .before) .args .v))) (((c .before .before .before .before .before .before .before .before .before .before .before .before .before .before .before .before .before .before .before .before) .args .k) * (at ((c .before .before .before .before .before .before .before .before .before .before .before .before .before .before .before .before .before .before .before .before) .args .t3) ((c .before .before .before .before .before .before .before .before .before .before .before .before .before .before .before .before .before .before .before .before) .args .v)) + (at ((c .before .before .before .before .before .before .before .before .before .before .before .before .before .before .before .before .before .before .before .before) .args .t3) ((c .before .before .before .before .before .before .before .before .before .before .before .before .before .before .before .before .before .before .before .before) .args .v))) ((c .before .before .before .before .before .before .before .before .before .before .before .before .before .before .before .before .before .before .before .before) .args .xs .now) (omega arith) (omega (arith, operand-in ((c .before .before .before .before .before .before .before .before .before .before .before .before .before .before .before .before .before .before .before .before) .pre .0) ((c .before .before .before .before .before .before .before .before .before .before .before .before .before .before .before .before .before .before .before .before) .pre .1) (c .before .before .before .before .before .if1 .left))) ∙ d) (made (c .before .before .before .before .before .before .before .before))))
-
-same-length-3 : tie.Need-same-length-3
-same-length-3 c = search needs
 
 same-length-4 : tie.Need-same-length-4
 same-length-4 c = c .before .before .before .before .add-operand .kept .1 .1 .1 .1 .1 .0 ∙ (c .before .before .before .before .before .before .before .before .before .before .before .before .before .turn .kept .0 ∙ c .before .before .before .before .before .before .before .before .before .before .before .before .before .before .before .before .before .gather-rows .kept .1 .1 .1 .1 .1 .1 .1 .1 .1 .1 .1 .0)
@@ -141,39 +81,39 @@ pub log-gather-spec : {M : Type 1} → statement M
 log-gather-spec =
     tie.close
     (tie.spec
-    mul-m
-    array-read-m
-    mul-at
-    array-read-at
+    (λ c. search needs)
+    (λ c. search needs)
+    (λ c. search needs)
+    (λ c. search needs)
     mul-at-2
     first-turn-requires
     add-gather-rows
-    mul-gather-rows
-    sub-gather-rows
-    part-gather-rows-start
+    (λ c. search needs)
+    (λ c. search needs)
+    (λ c. search needs)
     part-gather-rows-end
     gather-rows-requires
-    turn-requires
-    same-length
-    same-length-2
+    (λ c κs. search needs)
+    (λ c. search needs)
+    (λ c. search needs)
     returns
-    mul-t
-    array-read-t
+    (λ c. search needs)
+    (λ c. search needs)
     mul-from
-    mul-p
-    after-of-requires
-    after-of-requires-2
+    (λ c. search needs)
+    (λ c κs. search needs)
+    (λ c κs. search needs)
     add-add-operand
     mul-add-operand
-    sub-add-operand
-    part-add-operand-start
+    (λ c. search needs)
+    (λ c. search needs)
     part-add-operand-end
     add-add-operand-2
     mul-add-operand-2
-    sub-add-operand-2
-    part-add-operand-start-2
+    (λ c. search needs)
+    (λ c. search needs)
     part-add-operand-end-2
     add-operand-requires
-    same-length-3
+    (λ c. search needs)
     same-length-4
     returns-2)

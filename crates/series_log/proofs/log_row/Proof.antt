@@ -37,38 +37,8 @@ len2 c = same-len-mid (2 * ((c .before .before .before .before .before .before .
 len3 : (c : tie.After-copy) → length (putMid (((c .before .before .before .before .before .before .before .before .before .before .before .before .before .before .before .before .before .before .before .before .before .before .before .before .before .before .before) .args .k) * (at ((c .before .before .before .before .before .before .before .before .before .before .before .before .before .before .before .before .before .before .before .before .before .before .before .before .before .before .before) .args .t5) ((c .before .before .before .before .before .before .before .before .before .before .before .before .before .before .before .before .before .before .before .before .before .before .before .before .before .before .before) .args .v))) (((c .before .before .before .before .before .before .before .before .before .before .before .before .before .before .before .before .before .before .before .before .before .before .before .before .before .before .before) .args .k) * (at ((c .before .before .before .before .before .before .before .before .before .before .before .before .before .before .before .before .before .before .before .before .before .before .before .before .before .before .before) .args .t5) ((c .before .before .before .before .before .before .before .before .before .before .before .before .before .before .before .before .before .before .before .before .before .before .before .before .before .before .before) .args .v)) + (at ((c .before .before .before .before .before .before .before .before .before .before .before .before .before .before .before .before .before .before .before .before .before .before .before .before .before .before .before) .args .t5) ((c .before .before .before .before .before .before .before .before .before .before .before .before .before .before .before .before .before .before .before .before .before .before .before .before .before .before .before) .args .v)) - ((c .before .before .before .before .before .before .before .before .before .before .before .before .before .before .before .before .before .before .before .before .before .before .before .before .before .before .before) .args .k) * (at ((c .before .before .before .before .before .before .before .before .before .before .before .before .before .before .before .before .before .before .before .before .before .before .before .before .before .before .before) .args .t5) ((c .before .before .before .before .before .before .before .before .before .before .before .before .before .before .before .before .before .before .before .before .before .before .before .before .before .before .before) .args .v))) (putMid (2 * ((c .before .before .before .before .before .before .before .before .before .before .before .before .before .before .before .before .before .before .before .before .before .before .before .before .before .before .before) .args .n)) (2 * ((c .before .before .before .before .before .before .before .before .before .before .before .before .before .before .before .before .before .before .before .before .before .before .before .before .before .before .before) .args .n) + 8 * (at ((c .before .before .before .before .before .before .before .before .before .before .before .before .before .before .before .before .before .before .before .before .before .before .before .before .before .before .before) .args .t5) ((c .before .before .before .before .before .before .before .before .before .before .before .before .before .before .before .before .before .before .before .before .before .before .before .before .before .before .before) .args .v)) - 2 * ((c .before .before .before .before .before .before .before .before .before .before .before .before .before .before .before .before .before .before .before .before .before .before .before .before .before .before .before) .args .n)) (c .before .before .before .before .before .before .before .before .before .before .before .before .before .before .before .before .before .before .before .before .before .log-gather .last .1 .1 .1 .1 .1 .1 .1 .1 .0) (c .before .before .before .before .before .before .before .before .before .before .before .log-divide .last .1 .1 .1 .0)) (c .copy .last .1 .0)) ≡ length ((c .before .before .before .before .before .before .before .before .before .before .before .before .before .before .before .before .before .before .before .before .before .before .before .before .before .before .before) .args .work .now)
 len3 c = same-len-mid (((c .before .before .before .before .before .before .before .before .before .before .before .before .before .before .before .before .before .before .before .before .before .before .before .before .before .before .before) .args .k) * (at ((c .before .before .before .before .before .before .before .before .before .before .before .before .before .before .before .before .before .before .before .before .before .before .before .before .before .before .before) .args .t5) ((c .before .before .before .before .before .before .before .before .before .before .before .before .before .before .before .before .before .before .before .before .before .before .before .before .before .before .before) .args .v))) (((c .before .before .before .before .before .before .before .before .before .before .before .before .before .before .before .before .before .before .before .before .before .before .before .before .before .before .before) .args .k) * (at ((c .before .before .before .before .before .before .before .before .before .before .before .before .before .before .before .before .before .before .before .before .before .before .before .before .before .before .before) .args .t5) ((c .before .before .before .before .before .before .before .before .before .before .before .before .before .before .before .before .before .before .before .before .before .before .before .before .before .before .before) .args .v)) + (at ((c .before .before .before .before .before .before .before .before .before .before .before .before .before .before .before .before .before .before .before .before .before .before .before .before .before .before .before) .args .t5) ((c .before .before .before .before .before .before .before .before .before .before .before .before .before .before .before .before .before .before .before .before .before .before .before .before .before .before .before) .args .v)) - ((c .before .before .before .before .before .before .before .before .before .before .before .before .before .before .before .before .before .before .before .before .before .before .before .before .before .before .before) .args .k) * (at ((c .before .before .before .before .before .before .before .before .before .before .before .before .before .before .before .before .before .before .before .before .before .before .before .before .before .before .before) .args .t5) ((c .before .before .before .before .before .before .before .before .before .before .before .before .before .before .before .before .before .before .before .before .before .before .before .before .before .before .before) .args .v))) (putMid (2 * ((c .before .before .before .before .before .before .before .before .before .before .before .before .before .before .before .before .before .before .before .before .before .before .before .before .before .before .before) .args .n)) (2 * ((c .before .before .before .before .before .before .before .before .before .before .before .before .before .before .before .before .before .before .before .before .before .before .before .before .before .before .before) .args .n) + 8 * (at ((c .before .before .before .before .before .before .before .before .before .before .before .before .before .before .before .before .before .before .before .before .before .before .before .before .before .before .before) .args .t5) ((c .before .before .before .before .before .before .before .before .before .before .before .before .before .before .before .before .before .before .before .before .before .before .before .before .before .before .before) .args .v)) - 2 * ((c .before .before .before .before .before .before .before .before .before .before .before .before .before .before .before .before .before .before .before .before .before .before .before .before .before .before .before) .args .n)) (c .before .before .before .before .before .before .before .before .before .before .before .before .before .before .before .before .before .before .before .before .before .log-gather .last .1 .1 .1 .1 .1 .1 .1 .1 .0) (c .before .before .before .before .before .before .before .before .before .before .before .log-divide .last .1 .1 .1 .0)) (c .copy .last .1 .0) (c .copy .kept .1 .0) ∙ len2 (c .before .before .before .before .before .before .before .before .before .before .before)
 
-mul-s : tie.Need-mul-s
-mul-s c = search needs
-
-array-read-s : tie.Need-array-read-s
-array-read-s c = search needs
-
-mul-t : tie.Need-mul-t
-mul-t c = search needs
-
-array-read-t : tie.Need-array-read-t
-array-read-t c = search needs
-
 mul-at : tie.Need-mul-at
 mul-at c = omega (arith, log-fits ((c .before .before .before) .pre .0) ((c .before .before .before) .pre .1), log-half ((c .before .before .before) .pre .0) ((c .before .before .before) .pre .1), ((c .before .before .before) .pre .1) .work, rooms (c))
-
-mul-p : tie.Need-mul-p
-mul-p c = search needs
-
-log-gather-requires : tie.Need-log-gather-requires
-log-gather-requires c κs = search needs
-
-after-of-requires : tie.Need-after-of-requires
-after-of-requires c κs = search needs
-
-after-of-requires-2 : tie.Need-after-of-requires-2
-after-of-requires-2 c κs = search needs
-
-sub-log-divide : tie.Need-sub-log-divide
-sub-log-divide c = search needs
-
-part-log-divide-start : tie.Need-part-log-divide-start
-part-log-divide-start c = search needs
 
 part-log-divide-end : tie.Need-part-log-divide-end
 part-log-divide-end c = omega (arith, first-in-operand ((c .before .before .before .before .before .before .before .before .before .before .before .before) .pre .0) ((c .before .before .before .before .before .before .before .before .before .before .before .before) .pre .1))
@@ -78,15 +48,6 @@ mul-log-divide c = omega (arith, log-fits ((c .before .before .before .before .b
 
 add-log-divide : tie.Need-add-log-divide
 add-log-divide c = omega (arith, log-fits ((c .before .before .before .before .before .before .before .before .before .before .before .before .before) .pre .0) ((c .before .before .before .before .before .before .before .before .before .before .before .before .before) .pre .1), log-half ((c .before .before .before .before .before .before .before .before .before .before .before .before .before) .pre .0) ((c .before .before .before .before .before .before .before .before .before .before .before .before .before) .pre .1), ((c .before .before .before .before .before .before .before .before .before .before .before .before .before) .pre .1) .work, rooms (c .before .before .before .before .before .before .before .before .before .before))
-
-mul-log-divide-2 : tie.Need-mul-log-divide-2
-mul-log-divide-2 c = search needs
-
-sub-log-divide-2 : tie.Need-sub-log-divide-2
-sub-log-divide-2 c = search needs
-
-part-log-divide-start-2 : tie.Need-part-log-divide-start-2
-part-log-divide-start-2 c = search needs
 
 part-log-divide-end-2 : tie.Need-part-log-divide-end-2
 part-log-divide-end-2 c = omega (arith, log-fits ((c .before .before .before .before .before .before .before .before .before .before .before .before .before) .pre .0) ((c .before .before .before .before .before .before .before .before .before .before .before .before .before) .pre .1), log-half ((c .before .before .before .before .before .before .before .before .before .before .before .before .before) .pre .0) ((c .before .before .before .before .before .before .before .before .before .before .before .before .before) .pre .1), ((c .before .before .before .before .before .before .before .before .before .before .before .before .before) .pre .1) .work, rooms (c .before .before .before .before .before .before .before .before .before .before), c .before .before .before .before .before .before .before .log-gather .ensures .1 .len)
@@ -102,12 +63,6 @@ add-copy c = omega (arith, log-fits ((c .before .before .before .before .before 
 
 mul-copy : tie.Need-mul-copy
 mul-copy c = omega (arith, log-fits ((c .before .before .before .before .before .before .before .before .before .before .before .before .before .before .before .before .before .before .before .before .before .before .before .before .before) .pre .0) ((c .before .before .before .before .before .before .before .before .before .before .before .before .before .before .before .before .before .before .before .before .before .before .before .before .before) .pre .1), log-half ((c .before .before .before .before .before .before .before .before .before .before .before .before .before .before .before .before .before .before .before .before .before .before .before .before .before) .pre .0) ((c .before .before .before .before .before .before .before .before .before .before .before .before .before .before .before .before .before .before .before .before .before .before .before .before .before) .pre .1), ((c .before .before .before .before .before .before .before .before .before .before .before .before .before .before .before .before .before .before .before .before .before .before .before .before .before) .pre .1) .work, rooms (c .before .before .before .before .before .before .before .before .before .before .before .before .before .before .before .before .before .before .before .before .before .before))
-
-sub-copy : tie.Need-sub-copy
-sub-copy c = search needs
-
-part-copy-start : tie.Need-part-copy-start
-part-copy-start c = search needs
 
 part-copy-end : tie.Need-part-copy-end
 part-copy-end c = omega (arith, log-fits ((c .before .before .before .before .before .before .before .before .before .before .before .before .before .before .before .before .before .before .before .before .before .before .before .before .before) .pre .0) ((c .before .before .before .before .before .before .before .before .before .before .before .before .before .before .before .before .before .before .before .before .before .before .before .before .before) .pre .1), log-half ((c .before .before .before .before .before .before .before .before .before .before .before .before .before .before .before .before .before .before .before .before .before .before .before .before .before) .pre .0) ((c .before .before .before .before .before .before .before .before .before .before .before .before .before .before .before .before .before .before .before .before .before .before .before .before .before) .pre .1), ((c .before .before .before .before .before .before .before .before .before .before .before .before .before .before .before .before .before .before .before .before .before .before .before .before .before) .pre .1) .work, rooms (c .before .before .before .before .before .before .before .before .before .before .before .before .before .before .before .before .before .before .before .before .before .before), len2 (c .before .before .before .before .before .before .before .before .before))
@@ -126,12 +81,6 @@ add-scale-3 c = omega (arith, log-fits ((c .before .before .before .before .befo
 
 mul-scale : tie.Need-mul-scale
 mul-scale c = omega (arith, log-fits ((c .before .before .before .before .before .before .before .before .before .before .before .before .before .before .before .before .before .before .before .before .before .before .before .before .before .before .before .before .before .before) .pre .0) ((c .before .before .before .before .before .before .before .before .before .before .before .before .before .before .before .before .before .before .before .before .before .before .before .before .before .before .before .before .before .before) .pre .1), log-half ((c .before .before .before .before .before .before .before .before .before .before .before .before .before .before .before .before .before .before .before .before .before .before .before .before .before .before .before .before .before .before) .pre .0) ((c .before .before .before .before .before .before .before .before .before .before .before .before .before .before .before .before .before .before .before .before .before .before .before .before .before .before .before .before .before .before) .pre .1), ((c .before .before .before .before .before .before .before .before .before .before .before .before .before .before .before .before .before .before .before .before .before .before .before .before .before .before .before .before .before .before) .pre .1) .work, rooms (c .before .before .before .before .before .before .before .before .before .before .before .before .before .before .before .before .before .before .before .before .before .before .before .before .before .before .before))
-
-sub-scale : tie.Need-sub-scale
-sub-scale c = search needs
-
-part-scale-start : tie.Need-part-scale-start
-part-scale-start c = search needs
 
 part-scale-end : tie.Need-part-scale-end
 part-scale-end c = omega (arith, log-fits ((c .before .before .before .before .before .before .before .before .before .before .before .before .before .before .before .before .before .before .before .before .before .before .before .before .before .before .before .before .before .before) .pre .0) ((c .before .before .before .before .before .before .before .before .before .before .before .before .before .before .before .before .before .before .before .before .before .before .before .before .before .before .before .before .before .before) .pre .1), log-half ((c .before .before .before .before .before .before .before .before .before .before .before .before .before .before .before .before .before .before .before .before .before .before .before .before .before .before .before .before .before .before) .pre .0) ((c .before .before .before .before .before .before .before .before .before .before .before .before .before .before .before .before .before .before .before .before .before .before .before .before .before .before .before .before .before .before) .pre .1), ((c .before .before .before .before .before .before .before .before .before .before .before .before .before .before .before .before .before .before .before .before .before .before .before .before .before .before .before .before .before .before) .pre .1) .work, rooms (c .before .before .before .before .before .before .before .before .before .before .before .before .before .before .before .before .before .before .before .before .before .before .before .before .before .before .before), len3 (c .before .before .before))
@@ -152,38 +101,38 @@ pub log-row-spec : {M : Type 1} → statement M
 log-row-spec =
     tie.close
     (tie.spec
-    mul-s
-    array-read-s
-    mul-t
-    array-read-t
+    (λ c. search needs)
+    (λ c. search needs)
+    (λ c. search needs)
+    (λ c. search needs)
     mul-at
-    mul-p
-    log-gather-requires
-    after-of-requires
-    after-of-requires-2
-    sub-log-divide
-    part-log-divide-start
+    (λ c. search needs)
+    (λ c κs. search needs)
+    (λ c κs. search needs)
+    (λ c κs. search needs)
+    (λ c. search needs)
+    (λ c. search needs)
     part-log-divide-end
     mul-log-divide
     add-log-divide
-    mul-log-divide-2
-    sub-log-divide-2
-    part-log-divide-start-2
+    (λ c. search needs)
+    (λ c. search needs)
+    (λ c. search needs)
     part-log-divide-end-2
     log-divide-requires
     divide-by-requires
     add-copy
     mul-copy
-    sub-copy
-    part-copy-start
+    (λ c. search needs)
+    (λ c. search needs)
     part-copy-end
     copy-requires
     add-scale
     add-scale-2
     add-scale-3
     mul-scale
-    sub-scale
-    part-scale-start
+    (λ c. search needs)
+    (λ c. search needs)
     part-scale-end
     scale-requires
     same-length

@@ -30,12 +30,6 @@ slice-write-to c = (c .before .before) .pre .places
 loop-holds : tie.Need-loop-holds Inv-loop μ-loop
 loop-holds c = let e : length (set ((c .before .before) .args .to .now) 0 ((c .before .before) .args .head)) ≡ length ((c .before .before) .args .to .now) = length-set ((c .before .before) .args .to .now) 0 ((c .before .before) .args .head) in (omega (arith, e, (c .before .before) .pre .places), grown-one ((c .before .before) .args .to .now) e ((c .before .before) .pre .places))
 
-sub-log-next : tie.Need-sub-log-next Inv-loop μ-loop
-sub-log-next c = omega arith
-
-part-log-next-start : tie.Need-part-log-next-start Inv-loop μ-loop
-part-log-next-start c = omega arith
-
 part-log-next-end : tie.Need-part-log-next-end Inv-loop μ-loop
 part-log-next-end c = omega (arith, c .before .before .loop .inv .1 .len, c .before .loop-test .taken)
 
@@ -71,8 +65,8 @@ log-line-spec =
     μ-loop
     slice-write-to
     loop-holds
-    sub-log-next
-    part-log-next-start
+    (λ c. omega arith)
+    (λ c. omega arith)
     part-log-next-end
     log-next-requires
     mul-to

@@ -11,15 +11,6 @@ use Rattle.series_log_line.proofs.stored_or_zero.Reads as stored-or-zer
 int-to-float-d : tie.Need-int-to-float-d
 int-to-float-d c = small-float ((c .before .before .before) .pre .few)
 
-log-sum-requires : tie.Need-log-sum-requires
-log-sum-requires c κs = search needs
-
-stored-or-zero-requires : tie.Need-stored-or-zero-requires
-stored-or-zero-requires c κs = search needs
-
-shared-slice-read-result : tie.Need-shared-slice-read-result
-shared-slice-read-result c = search needs
-
 returns : tie.Need-returns
 unfolding nextPlace
 returns c = rw (c .before .before .log-sum .ensures, c .before .stored-or-zero .ensures)
@@ -29,7 +20,7 @@ log-next-spec =
     tie.close
     (tie.spec
     int-to-float-d
-    log-sum-requires
-    stored-or-zero-requires
-    shared-slice-read-result
+    (λ c κs. search needs)
+    (λ c κs. search needs)
+    (λ c. search needs)
     returns)

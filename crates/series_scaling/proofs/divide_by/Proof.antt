@@ -24,24 +24,6 @@ int-to-float-d c = small-float ((c .before) .pre)
 loop-holds : tie.Need-loop-holds Inv-loop μ-loop
 loop-holds c = (omega arith, (refl, filled-none))
 
-mul-to : tie.Need-mul-to Inv-loop μ-loop
-mul-to c = omega arith
-
-slice-read-to : tie.Need-slice-read-to Inv-loop μ-loop
-slice-read-to c = omega arith
-
-mul-to-2 : tie.Need-mul-to-2 Inv-loop μ-loop
-mul-to-2 c = omega arith
-
-slice-write-to : tie.Need-slice-write-to Inv-loop μ-loop
-slice-write-to c = omega arith
-
-add-i : tie.Need-add-i Inv-loop μ-loop
-add-i c = omega arith
-
-loop-less : tie.Need-loop-less Inv-loop μ-loop
-loop-less c = omega arith
-
 loop-again : tie.Need-loop-again Inv-loop μ-loop
 loop-again c = (omega arith, (c .before .before .loop .inv .1 .0, filled-more (c .before .before .loop .inv .1 .1) (ap (λ (x : Float). div binary64 x (wholeF ((c .before .before .before .before) .args .k))) (filled-here nan (c .before .before .loop .inv .1 .1) (omega arith))) (omega arith)))
 
@@ -59,12 +41,12 @@ divide-by-spec =
     μ-loop
     int-to-float-d
     loop-holds
-    mul-to
-    slice-read-to
-    mul-to-2
-    slice-write-to
-    add-i
-    loop-less
+    (λ c. omega arith)
+    (λ c. omega arith)
+    (λ c. omega arith)
+    (λ c. omega arith)
+    (λ c. omega arith)
+    (λ c. omega arith)
     loop-again
     same-length
     returns)

@@ -36,12 +36,6 @@ mul-to-2 c = omega (arith, c .before .before .before .loop .inv .1 .len)
 slice-write-to : tie.Need-slice-write-to Inv-loop μ-loop
 slice-write-to c = omega (arith, c .before .before .before .loop .inv .1 .len)
 
-add-i : tie.Need-add-i Inv-loop μ-loop
-add-i c = omega arith
-
-loop-less : tie.Need-loop-less Inv-loop μ-loop
-loop-less c = omega arith
-
 loop-again : tie.Need-loop-again Inv-loop μ-loop
 loop-again c = (omega arith, filled-more (c .before .before .before .loop .inv .1) refl (omega arith))
 
@@ -64,8 +58,8 @@ weigh-spec =
     int-to-float-to
     mul-to-2
     slice-write-to
-    add-i
-    loop-less
+    (λ c. omega arith)
+    (λ c. omega arith)
     loop-again
     same-length
     returns)

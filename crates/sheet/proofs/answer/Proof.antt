@@ -8,33 +8,6 @@ use borrow.Author.Needs.{needs}
 use Rattle.sheet.proofs.answer.Statement.{statement}
 use Rattle.sheet.proofs.answer.Tie as tie
 
-places-requires : tie.Need-places-requires
-places-requires c κs = search needs
-
-places-requires-2 : tie.Need-places-requires-2
-places-requires-2 c κs = search needs
-
-floats-requires : tie.Need-floats-requires
-floats-requires c κs = search needs
-
-slice-aggregate-solve : tie.Need-slice-aggregate-solve
-slice-aggregate-solve c = search needs
-
-slice-aggregate-solve-2 : tie.Need-slice-aggregate-solve-2
-slice-aggregate-solve-2 c = search needs
-
-slice-aggregate-solve-3 : tie.Need-slice-aggregate-solve-3
-slice-aggregate-solve-3 c = search needs
-
-slice-aggregate-solve-4 : tie.Need-slice-aggregate-solve-4
-slice-aggregate-solve-4 c = search needs
-
-solve-requires : tie.Need-solve-requires
-solve-requires c κs = search needs
-
-put-refusal-requires : tie.Need-put-refusal-requires
-put-refusal-requires c κs = search needs
-
 returns : tie.Need-returns
 returns c = let p = put-front (c .put-refusal .ensures) in rw (output-refused _ (sym (c .before .before .before .before .before .before .before .before .before .solve .ensures .refusal)) (c .before .before .if1 .taken)) (p .0, (omega (arith, c .put-refusal .ensures .fits), p .1))
 
@@ -46,12 +19,6 @@ cast-put-done c = omega (arith, (c .before .before .before .before .before .befo
 
 mul-put-done : tie.Need-mul-put-done
 mul-put-done c = omega (arith, (c .before .before .before .before .before .before .before .before .before .solve .ensures .done (c .before .before .if1 .left)) .last .within)
-
-sub-put-done : tie.Need-sub-put-done
-sub-put-done c = search needs
-
-part-put-done-start : tie.Need-part-put-done-start
-part-put-done-start c = search needs
 
 part-put-done-end : tie.Need-part-put-done-end
 part-put-done-end c = omega (arith, (c .before .before .before .before .before .before .before .before .before .before .solve .ensures .done (c .before .before .before .if1 .left)) .last .held)
@@ -66,21 +33,21 @@ pub answer-spec : {M : Type 1} → statement M
 answer-spec =
     tie.close
     (tie.spec
-    places-requires
-    places-requires-2
-    floats-requires
-    slice-aggregate-solve
-    slice-aggregate-solve-2
-    slice-aggregate-solve-3
-    slice-aggregate-solve-4
-    solve-requires
-    put-refusal-requires
+    (λ c κs. search needs)
+    (λ c κs. search needs)
+    (λ c κs. search needs)
+    (λ c. search needs)
+    (λ c. search needs)
+    (λ c. search needs)
+    (λ c. search needs)
+    (λ c κs. search needs)
+    (λ c κs. search needs)
     returns
     add-end
     cast-put-done
     mul-put-done
-    sub-put-done
-    part-put-done-start
+    (λ c. search needs)
+    (λ c. search needs)
     part-put-done-end
     put-done-requires
     returns-2)

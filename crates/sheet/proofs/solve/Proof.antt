@@ -13,20 +13,8 @@ use Rattle.sheet.proofs.solve.Tie as tie
 none : (c : tie.Else1) → readRefusal (c .before .before .before .before .before .before .before .before .before .before .before .args .text .now) .number ≡ 0
 none c = ap (λ (r : Refusal). r .number) (sym (c .before .before .before .before .read .ensures .answer)) ∙ c .if1 .left
 
-read-requires : tie.Need-read-requires
-read-requires c κs = search needs
-
-refused-requires : tie.Need-refused-requires
-refused-requires c κs = search needs
-
-same-length : tie.Need-same-length
-same-length c = search needs
-
 returns : tie.Need-returns
 returns c = record { refusal = c .refused .ensures ∙ read-refused _ (c .before .before .before .before .before .read .ensures .answer) (c .before .if1 .taken); headers-len = c .before .before .before .before .before .read .ensures .len; steps-len = refl; known-len = refl; pool-len = refl; done = λ z. absurd (c .before .if1 .taken (ap (λ (x : Refusal). x .number) (sym (c .refused .ensures)) ∙ z)) }
-
-input-count-requires : tie.Need-input-count-requires
-input-count-requires c κs = search needs
 
 slice-reshare-prefix-run-read : tie.Need-slice-reshare-prefix-run-read
 slice-reshare-prefix-run-read c = omega (arith, c .before .before .before .before .before .read .ensures .len, c .input-count .ensures, (opened (c .before .before .before .before .before .before .before .before .before .before .before .before .args .text .now) (none (c .before))) .sizes .few, c .before .before .before .before .before .before .before .before .before .before .before .before .pre .headers)
@@ -37,18 +25,6 @@ slice-aggregate-run-read c = sym (length-take-le _ _ (slice-reshare-prefix-run-r
 run-read-requires : tie.Need-run-read-requires
 run-read-requires c κs = (record { read = none (c .before .before .before .before .before); headers = rw (c .before .before .before .before .input-count .ensures) (c .before .before .before .before .before .before .before .before .before .read .ensures .headers (c .before .before .before .before .before .if1 .left)) }, record { steps = c .before .before .before .before .before .before .before .before .before .before .before .before .before .before .before .before .pre .steps; known = c .before .before .before .before .before .before .before .before .before .before .before .before .before .before .before .before .pre .known; pool = c .before .before .before .before .before .before .before .before .before .before .before .before .before .before .before .before .pre .pool })
 
-same-length-2 : tie.Need-same-length-2
-same-length-2 c = search needs
-
-same-length-3 : tie.Need-same-length-3
-same-length-3 c = search needs
-
-same-length-4 : tie.Need-same-length-4
-same-length-4 c = search needs
-
-same-length-5 : tie.Need-same-length-5
-same-length-5 c = search needs
-
 returns-2 : tie.Need-returns-2
 returns-2 c = record { refusal = c .before .before .before .before .before .before .run-read .ensures .refusal; headers-len = c .before .before .before .before .before .before .before .before .before .before .before .before .before .before .before .before .read .ensures .len; steps-len = search needs; known-len = search needs; pool-len = search needs; done = λ z. solution-front _ (c .before .before .before .before .before .before .run-read .ensures .done z) (c .before .before .before .before .before .before .before .before .before .before .before .before .before .before .before .before .read .ensures .headers (c .before .before .before .before .before .before .before .before .before .before .before .before .if1 .left)) }
 
@@ -56,16 +32,16 @@ pub solve-spec : {M : Type 1} → statement M
 solve-spec =
     tie.close
     (tie.spec
-    read-requires
-    refused-requires
-    same-length
+    (λ c κs. search needs)
+    (λ c κs. search needs)
+    (λ c. search needs)
     returns
-    input-count-requires
+    (λ c κs. search needs)
     slice-reshare-prefix-run-read
     slice-aggregate-run-read
     run-read-requires
-    same-length-2
-    same-length-3
-    same-length-4
-    same-length-5
+    (λ c. search needs)
+    (λ c. search needs)
+    (λ c. search needs)
+    (λ c. search needs)
     returns-2)

@@ -7,26 +7,11 @@ use borrow.Author.Needs.{needs}
 use Rattle.sheet_limits.proofs.is_within.Statement.{statement}
 use Rattle.sheet_limits.proofs.is_within.Tie as tie
 
-largest-of-requires : tie.Need-largest-of-requires
-largest-of-requires c κs = search needs
-
 slice-aggregate-total-of : tie.Need-slice-aggregate-total-of
 slice-aggregate-total-of c = sym (length-take-le _ _ (c .before .before .before .pre .1 .0))
 
 total-of-requires : tie.Need-total-of-requires
 total-of-requires c κs = (front-known (c .before .before .before .args .places .now) (c .before .before .before .args .inputs) (c .before .before .before .pre .0), simp length-take (omega arith))
-
-mul-total-of : tie.Need-mul-total-of
-mul-total-of c = search needs
-
-sub-total-of : tie.Need-sub-total-of
-sub-total-of c = search needs
-
-part-total-of-start : tie.Need-part-total-of-start
-part-total-of-start c = search needs
-
-part-total-of-end : tie.Need-part-total-of-end
-part-total-of-end c = search needs
 
 total-of-requires-2 : tie.Need-total-of-requires-2
 total-of-requires-2 c κs = (back-known (c .before .before .before .before .before .args .places .now) (c .before .before .before .before .before .args .inputs) (c .before .before .before .before .before .pre .0), simp (length-take, length-drop) (omega arith))
@@ -38,12 +23,12 @@ pub is-within-spec : {M : Type 1} → statement M
 is-within-spec =
     tie.close
     (tie.spec
-    largest-of-requires
+    (λ c κs. search needs)
     slice-aggregate-total-of
     total-of-requires
-    mul-total-of
-    sub-total-of
-    part-total-of-start
-    part-total-of-end
+    (λ c. search needs)
+    (λ c. search needs)
+    (λ c. search needs)
+    (λ c. search needs)
     total-of-requires-2
     returns)

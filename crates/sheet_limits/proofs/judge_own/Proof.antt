@@ -8,17 +8,8 @@ use borrow.Author.Needs.{needs}
 use Rattle.sheet_limits.proofs.judge_own.Statement.{statement}
 use Rattle.sheet_limits.proofs.judge_own.Tie as tie
 
-judge-requires : tie.Need-judge-requires
-judge-requires c κs = search needs
-
-same-length : tie.Need-same-length
-same-length c = search needs
-
 returns : tie.Need-returns
 returns c = own-checked _ _ _ _ (c .before .before .before .before .judge .ensures) (c .if1 .taken)
-
-add-end : tie.Need-add-end
-add-end c = search needs
 
 slice-reshare-prefix-is-within : tie.Need-slice-reshare-prefix-is-within
 slice-reshare-prefix-is-within c = omega (arith, own-fit _ _ _ _ (c .before .before .before .before .judge .ensures) (c .if1 .left), c .before .before .before .before .judge .ensures .len)
@@ -29,20 +20,8 @@ slice-aggregate-is-within c = sym (length-take-le _ _ (slice-reshare-prefix-is-w
 is-within-requires : tie.Need-is-within-requires
 is-within-requires c κs = (own-known _ _ _ _ (c .before .before .before .before .before .judge .ensures) (c .before .if1 .left), (simp length-take (omega (arith, slice-reshare-prefix-is-within (c .before))), simp length-take (omega (arith, own-fit _ _ _ _ (c .before .before .before .before .before .judge .ensures) (c .before .if1 .left)))))
 
-by-requires : tie.Need-by-requires
-by-requires c κs = search needs
-
-same-length-2 : tie.Need-same-length-2
-same-length-2 c = search needs
-
 returns-2 : tie.Need-returns-2
 returns-2 c = rw (c .by .ensures) (own-5 _ _ _ _ (c .before .before .before .before .before .before .before .before .judge .ensures) (c .before .before .before .before .if1 .left) (c .before .before .is-within .ensures) (not-true _ (c .before .if2 .taken)))
-
-none-requires : tie.Need-none-requires
-none-requires c κs = search needs
-
-same-length-3 : tie.Need-same-length-3
-same-length-3 c = search needs
 
 returns-3 : tie.Need-returns-3
 returns-3 c = rw (c .none .ensures) (own-none _ _ _ _ (c .before .before .before .before .before .before .before .before .judge .ensures) (c .before .before .before .before .if1 .left) (c .before .before .is-within .ensures) (not-false _ (c .before .if2 .left)))
@@ -51,16 +30,16 @@ pub judge-own-spec : {M : Type 1} → statement M
 judge-own-spec =
     tie.close
     (tie.spec
-    judge-requires
-    same-length
+    (λ c κs. search needs)
+    (λ c. search needs)
     returns
-    add-end
+    (λ c. search needs)
     slice-reshare-prefix-is-within
     slice-aggregate-is-within
     is-within-requires
-    by-requires
-    same-length-2
+    (λ c κs. search needs)
+    (λ c. search needs)
     returns-2
-    none-requires
-    same-length-3
+    (λ c κs. search needs)
+    (λ c. search needs)
     returns-3)

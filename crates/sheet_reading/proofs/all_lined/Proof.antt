@@ -17,23 +17,8 @@ abbrev μ-loop : tie.MeasureT-loop
 loop-holds : tie.Need-loop-holds Inv-loop μ-loop
 loop-holds c = passing-none _ _ _
 
-add-is-line : tie.Need-add-is-line Inv-loop μ-loop
-add-is-line c = omega arith
-
-mul-is-line : tie.Need-mul-is-line Inv-loop μ-loop
-mul-is-line c = omega arith
-
-is-line-requires : tie.Need-is-line-requires Inv-loop μ-loop
-is-line-requires c κs = omega arith
-
 returns : tie.Need-returns Inv-loop μ-loop
 returns c = sym (passing-stop (c .before .before .before .loop .inv) (c .before .before .loop-test .taken) (sym (c .before .is-line .ensures) ∙ not-true _ (c .if1 .taken)))
-
-add-k : tie.Need-add-k Inv-loop μ-loop
-add-k c = search needs
-
-loop-less : tie.Need-loop-less Inv-loop μ-loop
-loop-less c = search needs
 
 loop-again : tie.Need-loop-again Inv-loop μ-loop
 loop-again c = passing-more (c .before .before .before .loop .inv) (c .before .before .loop-test .taken) (sym (c .before .is-line .ensures) ∙ not-false _ (c .if1 .left))
@@ -48,11 +33,11 @@ all-lined-spec =
     Inv-loop
     μ-loop
     loop-holds
-    add-is-line
-    mul-is-line
-    is-line-requires
+    (λ c. omega arith)
+    (λ c. omega arith)
+    (λ c κs. omega arith)
     returns
-    add-k
-    loop-less
+    (λ c. search needs)
+    (λ c. search needs)
     loop-again
     returns-2)

@@ -10,26 +10,11 @@ use Rattle.sheet_reading.proofs.read.Tie as tie
 size : (c : tie.Else2) → Sized (c .before .before .before .before .before .before .args .text .now)
 size c = sized _ (sym (c .before .before .before .is-line .ensures) ∙ not-false _ (c .before .before .if1 .left)) (sym (c .before .is-sized .ensures) ∙ not-false _ (c .if2 .left))
 
-is-line-requires : tie.Need-is-line-requires
-is-line-requires c κs = search needs
-
-by-requires : tie.Need-by-requires
-by-requires c κs = search needs
-
 returns : tie.Need-returns
 returns c = rw (c .by .ensures) (read-8 _ _ (sym (c .before .before .is-line .ensures) ∙ not-true _ (c .before .if1 .taken)))
 
-is-sized-requires : tie.Need-is-sized-requires
-is-sized-requires c κs = search needs
-
-by-requires-2 : tie.Need-by-requires-2
-by-requires-2 c κs = search needs
-
 returns-2 : tie.Need-returns-2
 returns-2 c = rw (c .by2 .ensures) (read-7 _ _ (sym (c .before .before .before .before .is-line .ensures) ∙ not-false _ (c .before .before .before .if1 .left)) (sym (c .before .before .is-sized .ensures) ∙ not-true _ (c .before .if2 .taken)))
-
-input-count-requires : tie.Need-input-count-requires
-input-count-requires c κs = search needs
 
 slice-relend-prefix-read-headers : tie.Need-slice-relend-prefix-read-headers
 slice-relend-prefix-read-headers c = few-places ((c .before .before .before .before .before .before .before .args .text .now)) ((c .before .before .before .before .before .before .before .args .headers .now)) (size (c .before)) (c .input-count .ensures) (c .before .before .before .before .before .before .before .pre)
@@ -39,9 +24,6 @@ slice-aggregate-read-headers c = sym (few-taken ((c .before .before .before .bef
 
 read-headers-requires : tie.Need-read-headers-requires
 read-headers-requires c κs = omega (arith, few-taken ((c .before .before .before .before .before .before .before .before .args .text .now)) ((c .before .before .before .before .before .before .before .before .args .headers .now)) (size (c .before .before)) (c .before .input-count .ensures) (c .before .before .before .before .before .before .before .before .pre), c .before .input-count .ensures, (size (c .before .before)) .few)
-
-same-length : tie.Need-same-length
-same-length c = search needs
 
 returns-3 : tie.Need-returns-3
 returns-3 c = read-1 ((c .before .before .before .before .before .before .before .before .before .before .before .before .before .args .text .now)) ((c .before .before .before .before .before .before .before .before .before .before .before .before .before .args .headers .now)) (size (c .before .before .before .before .before .before .before)) (c .before .before .before .before .before .before .input-count .ensures) (c .before .before .before .before .before .before .before .before .before .before .before .before .before .pre) (c .before .before .before .before .read-headers .ensures) (c .if3 .taken)
@@ -55,9 +37,6 @@ slice-aggregate-total-of c = mid-taken ((c .before .before .before .before .befo
 total-of-requires : tie.Need-total-of-requires
 total-of-requires c κs = (good-known (mid-good ((c .before .before .before .before .before .before .before .before .before .before .before .before .before .before .args .text .now)) ((c .before .before .before .before .before .before .before .before .before .before .before .before .before .before .args .headers .now)) (size (c .before .before .before .before .before .before .before .before)) (c .before .before .before .before .before .before .before .input-count .ensures) (c .before .before .before .before .before .before .before .before .before .before .before .before .before .before .pre) (c .before .before .before .before .before .read-headers .ensures) (c .before .if3 .left)), omega (arith, mid-taken ((c .before .before .before .before .before .before .before .before .before .before .before .before .before .before .args .text .now)) ((c .before .before .before .before .before .before .before .before .before .before .before .before .before .before .args .headers .now)) (size (c .before .before .before .before .before .before .before .before)) (c .before .before .before .before .before .before .before .input-count .ensures) (c .before .before .before .before .before .before .before .before .before .before .before .before .before .before .pre) (c .before .before .before .before .before .read-headers .ensures) (c .before .if3 .left), c .before .before .before .before .before .before .before .input-count .ensures, (size (c .before .before .before .before .before .before .before .before)) .few))
 
-step-count-requires : tie.Need-step-count-requires
-step-count-requires c κs = search needs
-
 add-rest : tie.Need-add-rest
 add-rest c = omega (arith, c .before .total-of .ensures, c .step-count .ensures, mid-total ((c .before .before .before .before .before .before .before .before .before .before .before .before .before .before .before .before .args .text .now)) ((c .before .before .before .before .before .before .before .before .before .before .before .before .before .before .before .before .args .headers .now)) (size (c .before .before .before .before .before .before .before .before .before .before)) (c .before .before .before .before .before .before .before .before .before .input-count .ensures) (c .before .before .before .before .before .before .before .before .before .before .before .before .before .before .before .before .pre) (c .before .before .before .before .before .before .before .read-headers .ensures) (c .before .before .before .if3 .left), step-small ((c .before .before .before .before .before .before .before .before .before .before .before .before .before .before .before .before .args .text .now)))
 
@@ -67,9 +46,6 @@ add-rest-refusal c = omega (arith, c .before .before .before .before .before .be
 rest-refusal-requires : tie.Need-rest-refusal-requires
 rest-refusal-requires c κs = omega (arith, c .before .total-of .ensures, c .step-count .ensures, mid-total ((c .before .before .before .before .before .before .before .before .before .before .before .before .before .before .before .before .args .text .now)) ((c .before .before .before .before .before .before .before .before .before .before .before .before .before .before .before .before .args .headers .now)) (size (c .before .before .before .before .before .before .before .before .before .before)) (c .before .before .before .before .before .before .before .before .before .input-count .ensures) (c .before .before .before .before .before .before .before .before .before .before .before .before .before .before .before .before .pre) (c .before .before .before .before .before .before .before .read-headers .ensures) (c .before .before .before .if3 .left), step-small ((c .before .before .before .before .before .before .before .before .before .before .before .before .before .before .before .before .args .text .now)), c .before .before .before .before .before .before .before .before .before .input-count .ensures, (size (c .before .before .before .before .before .before .before .before .before .before)) .few)
 
-same-length-2 : tie.Need-same-length-2
-same-length-2 c = search needs
-
 returns-4 : tie.Need-returns-4
 returns-4 c = read-rest ((c .before .before .before .before .before .before .before .before .before .before .before .before .before .before .before .before .before .args .text .now)) ((c .before .before .before .before .before .before .before .before .before .before .before .before .before .before .before .before .before .args .headers .now)) (size (c .before .before .before .before .before .before .before .before .before .before .before)) (c .before .before .before .before .before .before .before .before .before .before .input-count .ensures) (c .before .before .before .before .before .before .before .before .before .before .before .before .before .before .before .before .before .pre) (c .before .before .before .before .before .before .before .before .read-headers .ensures) (c .before .before .before .before .if3 .left) (c .before .before .total-of .ensures) (c .before .step-count .ensures) (c .rest-refusal .ensures)
 
@@ -77,24 +53,24 @@ pub read-spec : {M : Type 1} → statement M
 read-spec =
     tie.close
     (tie.spec
-    is-line-requires
-    by-requires
+    (λ c κs. search needs)
+    (λ c κs. search needs)
     returns
-    is-sized-requires
-    by-requires-2
+    (λ c κs. search needs)
+    (λ c κs. search needs)
     returns-2
-    input-count-requires
+    (λ c κs. search needs)
     slice-relend-prefix-read-headers
     slice-aggregate-read-headers
     read-headers-requires
-    same-length
+    (λ c. search needs)
     returns-3
     slice-reshare-prefix-total-of
     slice-aggregate-total-of
     total-of-requires
-    step-count-requires
+    (λ c κs. search needs)
     add-rest
     add-rest-refusal
     rest-refusal-requires
-    same-length-2
+    (λ c. search needs)
     returns-4)

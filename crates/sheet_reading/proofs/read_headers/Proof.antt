@@ -16,17 +16,11 @@ abbrev μ-loop : tie.MeasureT-loop
 loop-holds : tie.Need-loop-holds Inv-loop μ-loop
 loop-holds c = headers-none _ _
 
-add-at : tie.Need-add-at Inv-loop μ-loop
-add-at c = omega arith
-
 mul-at : tie.Need-mul-at Inv-loop μ-loop
 mul-at c = omega (arith, headers-len (c .before .loop .inv))
 
 is-line-requires : tie.Need-is-line-requires Inv-loop μ-loop
 is-line-requires c κs = omega (arith, headers-len (c .before .loop .inv))
-
-by-requires : tie.Need-by-requires Inv-loop μ-loop
-by-requires c κs = search needs
 
 same-length : tie.Need-same-length Inv-loop μ-loop
 same-length c = headers-len (c .before .before .before .before .loop .inv)
@@ -37,26 +31,14 @@ returns c = rw (c .by .ensures) (headers-8 (c .before .before .before .before .l
 word-at-requires : tie.Need-word-at-requires Inv-loop μ-loop
 word-at-requires c κs = omega (arith, headers-len (c .before .before .before .loop .inv))
 
-is-good-requires : tie.Need-is-good-requires Inv-loop μ-loop
-is-good-requires c κs = search needs
-
 cast-at : tie.Need-cast-at Inv-loop μ-loop
 cast-at c = record { fits = omega (arith, headers-len (c .before .before .before .before .before .before .loop .inv)) }
-
-at-requires : tie.Need-at-requires Inv-loop μ-loop
-at-requires c κs = search needs
 
 same-length-2 : tie.Need-same-length-2 Inv-loop μ-loop
 same-length-2 c = headers-len (c .before .before .before .before .before .before .before .loop .inv)
 
 returns-2 : tie.Need-returns-2 Inv-loop μ-loop
 returns-2 c = rw (c .at .ensures) (headers-1 (c .before .before .before .before .before .before .before .loop .inv) (omega (arith, headers-len (c .before .before .before .before .before .before .before .loop .inv))) (c .before .before .before .before .before .is-line .ensures) (not-false _ (c .before .before .before .before .if1 .left)) (c .before .before .before .word-at .ensures) (c .before .before .is-good .ensures) (not-true _ (c .before .if2 .taken)))
-
-mul-headers : tie.Need-mul-headers Inv-loop μ-loop
-mul-headers c = search needs
-
-slice-write-headers : tie.Need-slice-write-headers Inv-loop μ-loop
-slice-write-headers c = search needs
 
 add-i : tie.Need-add-i Inv-loop μ-loop
 add-i c = omega (arith, headers-len (c .before .before .before .before .before .before .loop .inv))
@@ -66,9 +48,6 @@ loop-less c = omega (arith, headers-len (c .before .before .before .before .befo
 
 loop-again : tie.Need-loop-again Inv-loop μ-loop
 loop-again c = headers-more (c .before .before .before .before .before .before .loop .inv) (omega (arith, headers-len (c .before .before .before .before .before .before .loop .inv))) (c .before .before .before .before .is-line .ensures) (not-false _ (c .before .before .before .if1 .left)) (c .before .before .word-at .ensures) (c .before .is-good .ensures) (not-false _ (c .if2 .left))
-
-none-requires : tie.Need-none-requires Inv-loop μ-loop
-none-requires c κs = search needs
 
 same-length-3 : tie.Need-same-length-3 Inv-loop μ-loop
 same-length-3 c = headers-len (c .before .before .loop .inv)
@@ -83,23 +62,23 @@ read-headers-spec =
     Inv-loop
     μ-loop
     loop-holds
-    add-at
+    (λ c. omega arith)
     mul-at
     is-line-requires
-    by-requires
+    (λ c κs. search needs)
     same-length
     returns
     word-at-requires
-    is-good-requires
+    (λ c κs. search needs)
     cast-at
-    at-requires
+    (λ c κs. search needs)
     same-length-2
     returns-2
-    mul-headers
-    slice-write-headers
+    (λ c. search needs)
+    (λ c. search needs)
     add-i
     loop-less
     loop-again
-    none-requires
+    (λ c κs. search needs)
     same-length-3
     returns-3)

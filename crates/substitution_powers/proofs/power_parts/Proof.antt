@@ -31,12 +31,6 @@ add-power-rows c = omega (arith, fits ((c)))
 mul-power-rows : tie.Need-mul-power-rows Inv-loop μ-loop
 mul-power-rows c = omega (arith, fits ((c)))
 
-sub-power-rows : tie.Need-sub-power-rows Inv-loop μ-loop
-sub-power-rows c = omega arith
-
-part-power-rows-start : tie.Need-part-power-rows-start Inv-loop μ-loop
-part-power-rows-start c = omega arith
-
 part-power-rows-end : tie.Need-part-power-rows-end Inv-loop μ-loop
 part-power-rows-end c = omega (arith, fits ((c)), c .before .loop .inv .1 .1 .len)
 
@@ -67,8 +61,8 @@ power-parts-spec =
     loop-holds
     add-power-rows
     mul-power-rows
-    sub-power-rows
-    part-power-rows-start
+    (λ c. omega arith)
+    (λ c. omega arith)
     part-power-rows-end
     power-rows-requires
     add-at

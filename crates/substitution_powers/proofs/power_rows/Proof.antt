@@ -28,12 +28,6 @@ add-times-each c = omega (arith, fits ((c)))
 mul-times-each : tie.Need-mul-times-each Inv-loop μ-loop
 mul-times-each c = omega (arith, fits ((c)))
 
-sub-times-each : tie.Need-sub-times-each Inv-loop μ-loop
-sub-times-each c = omega arith
-
-part-times-each-start : tie.Need-part-times-each-start Inv-loop μ-loop
-part-times-each-start c = omega arith
-
 part-times-each-end : tie.Need-part-times-each-end Inv-loop μ-loop
 part-times-each-end c = omega (arith, fits ((c)), c .before .loop .inv .1 .1 .len)
 
@@ -64,8 +58,8 @@ power-rows-spec =
     loop-holds
     add-times-each
     mul-times-each
-    sub-times-each
-    part-times-each-start
+    (λ c. omega arith)
+    (λ c. omega arith)
     part-times-each-end
     times-each-requires
     add-at

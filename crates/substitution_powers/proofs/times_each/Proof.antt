@@ -29,12 +29,6 @@ mul-to-2 c = omega (arith, c .before .before .loop .inv .1 .len)
 slice-write-to : tie.Need-slice-write-to Inv-loop μ-loop
 slice-write-to c = omega (arith, c .before .before .loop .inv .1 .len)
 
-add-k : tie.Need-add-k Inv-loop μ-loop
-add-k c = omega arith
-
-loop-less : tie.Need-loop-less Inv-loop μ-loop
-loop-less c = omega arith
-
 loop-again : tie.Need-loop-again Inv-loop μ-loop
 loop-again c = (omega arith, filled-more (c .before .before .loop .inv .1) (ap (λ (x : Float). mul binary64 x (c .before .before .before .args .factor)) (filled-here nan (c .before .before .loop .inv .1) (omega arith))) (omega arith))
 
@@ -55,8 +49,8 @@ times-each-spec =
     slice-read-to
     mul-to-2
     slice-write-to
-    add-k
-    loop-less
+    (λ c. omega arith)
+    (λ c. omega arith)
     loop-again
     same-length
     returns)

@@ -9,41 +9,14 @@ use borrow.Author.Needs.{needs}
 use Rattle.substitution_turn.proofs.times_put.Statement.{statement}
 use Rattle.substitution_turn.proofs.times_put.Tie as tie
 
-mul-is-zero : tie.Need-mul-is-zero
-mul-is-zero c = search needs
-
-sub-is-zero : tie.Need-sub-is-zero
-sub-is-zero c = search needs
-
-part-is-zero-start : tie.Need-part-is-zero-start
-part-is-zero-start c = search needs
-
-part-is-zero-end : tie.Need-part-is-zero-end
-part-is-zero-end c = search needs
-
 is-zero-requires : tie.Need-is-zero-requires
 is-zero-requires c κs = omega (arith, room-full (c .before .before .before .before .pre) .0, count-pos (room-lens (c .before .before .before .before .pre) .0))
 
 zero-to-requires : tie.Need-zero-to-requires
 zero-to-requires c κs = room-some (c .before .before .before .before .before .before .before .pre)
 
-same-length : tie.Need-same-length
-same-length c = search needs
-
-same-length-2 : tie.Need-same-length-2
-same-length-2 c = search needs
-
 returns : tie.Need-returns
 returns c = zero-made (c .before .before .before .before .before .before .before .before .before .before .args .limits) (block (c .before .before .before .before .before .before .before .before .before .before .args .la) (part (c .before .before .before .before .before .before .before .before .before .before .args .pa) (c .before .before .before .before .before .before .before .before .before .before .args .ea) (c .before .before .before .before .before .before .before .before .before .before .args .work .now))) (block (c .before .before .before .before .before .before .before .before .before .before .args .lb) (part (c .before .before .before .before .before .before .before .before .before .before .args .pb) (c .before .before .before .before .before .before .before .before .before .before .args .eb) (c .before .before .before .before .before .before .before .before .before .before .args .work .now))) (sym (c .before .before .before .before .before .is-zero .ensures) ∙ c .before .before .before .before .if1 .taken) (c .before .before .zero-to .ensures)
-
-product-requires : tie.Need-product-requires
-product-requires c κs = search needs
-
-same-length-3 : tie.Need-same-length-3
-same-length-3 c = search needs
-
-same-length-4 : tie.Need-same-length-4
-same-length-4 c = search needs
 
 returns-2 : tie.Need-returns-2
 returns-2 c = other-made (c .before .before .before .before .before .before .before .before .before .before .before .before .before .args .limits) (block (c .before .before .before .before .before .before .before .before .before .before .before .before .before .args .la) (part (c .before .before .before .before .before .before .before .before .before .before .before .before .before .args .pa) (c .before .before .before .before .before .before .before .before .before .before .before .before .before .args .ea) (c .before .before .before .before .before .before .before .before .before .before .before .before .before .args .work .now))) (block (c .before .before .before .before .before .before .before .before .before .before .before .before .before .args .lb) (part (c .before .before .before .before .before .before .before .before .before .before .before .before .before .args .pb) (c .before .before .before .before .before .before .before .before .before .before .before .before .before .args .eb) (c .before .before .before .before .before .before .before .before .before .before .before .before .before .args .work .now))) (sym (c .before .before .before .before .before .before .before .before .is-zero .ensures) ∙ c .before .before .before .before .before .before .before .if1 .left) (c .before .before .before .before .product .ensures)
@@ -52,16 +25,16 @@ pub times-put-spec : {M : Type 1} → statement M
 times-put-spec =
     tie.close
     (tie.spec
-    mul-is-zero
-    sub-is-zero
-    part-is-zero-start
-    part-is-zero-end
+    (λ c. search needs)
+    (λ c. search needs)
+    (λ c. search needs)
+    (λ c. search needs)
     is-zero-requires
     zero-to-requires
-    same-length
-    same-length-2
+    (λ c. search needs)
+    (λ c. search needs)
     returns
-    product-requires
-    same-length-3
-    same-length-4
+    (λ c κs. search needs)
+    (λ c. search needs)
+    (λ c. search needs)
     returns-2)

@@ -24,12 +24,6 @@ times-put-requires c κs = turn-room (c .before .before .before .before .before 
 plus-row-requires : tie.Need-plus-row-requires
 plus-row-requires c κs = turn-adding (c .before .before .before .before .before .before .before .before .before .before .before .before .before .pre) (c .before .before .before .before .before .before .before .before .before .before .before .before .before .args .work .now) refl (ap (λ (x : ℕ). c .before .before .before .before .before .before .before .before .before .before .before .before .before .args .n + x) (c .before .before .before .before .before .before .before .before .before .before .count-of .ensures)) (c .before .before .before .before .before .before .before .before .before .count-of2 .ensures) (c .before .before .before .before .before .before .times-put .ensures) (c .before .before .before .before .before .before .times-put .kept .1 .1 .1 .1 .1 .1 .1 .1 .1 .0) (c .before .before .before .before .before .before .times-put .kept .0)
 
-same-length : tie.Need-same-length
-same-length c = search needs
-
-same-length-2 : tie.Need-same-length-2
-same-length-2 c = search needs
-
 returns : tie.Need-returns
 returns c = turn-turned (c .before .before .before .before .before .before .before .before .before .before .before .before .before .before .before .before .before .before .pre) (c .before .before .before .before .before .before .before .before .before .before .before .before .before .before .before .before .before .before .args .work .now) refl (ap (λ (x : ℕ). c .before .before .before .before .before .before .before .before .before .before .before .before .before .before .before .before .before .before .args .n + x) (c .before .before .before .before .before .before .before .before .before .before .before .before .before .before .before .count-of .ensures)) (c .before .before .before .before .before .before .before .before .before .before .before .before .before .before .count-of2 .ensures) (c .before .before .before .before .before .before .before .before .before .before .before .times-put .ensures) (c .before .before .before .before .plus-row .ensures)
 
@@ -43,6 +37,6 @@ turn-spec =
     mul-times-put
     times-put-requires
     plus-row-requires
-    same-length
-    same-length-2
+    (λ c. search needs)
+    (λ c. search needs)
     returns)

@@ -6,9 +6,6 @@ use borrow.Author.Needs.{needs}
 use Rattle.substitution_way.proofs.choose.Statement.{statement}
 use Rattle.substitution_way.proofs.choose.Tie as tie
 
-none-requires : tie.Need-none-requires
-none-requires c κs = search needs
-
 returns : tie.Need-returns
 returns c = rw (c .before .none .ensures) (way-none _ _ _ (c .if1 .taken))
 
@@ -17,9 +14,6 @@ is-zero-requires c κs = omega (arith, count-pos (c .before .before .before .pre
 
 returns-2 : tie.Need-returns-2
 returns-2 c = rw (c .before .before .before .none .ensures) (way-zero _ _ _ (omega (arith, c .before .before .if1 .left)) (sym (c .before .is-zero .ensures) ∙ c .if2 .taken))
-
-linear-of-requires : tie.Need-linear-of-requires
-linear-of-requires c κs = search needs
 
 returns-3 : tie.Need-returns-3
 returns-3 c = way-line _ _ _ (omega (arith, c .before .before .before .before .before .before .if1 .left)) (sym (c .before .before .before .before .before .is-zero .ensures) ∙ c .before .before .before .before .if2 .left) (c .before .before .before .linear-of .ensures) (c .if3 .taken)
@@ -31,10 +25,10 @@ pub choose-spec : {M : Type 1} → statement M
 choose-spec =
     tie.close
     (tie.spec
-    none-requires
+    (λ c κs. search needs)
     returns
     is-zero-requires
     returns-2
-    linear-of-requires
+    (λ c κs. search needs)
     returns-3
     returns-4)

@@ -25,16 +25,10 @@ ready c =
 counted : (c : tie.After-stored-of) → c .stored-of .result ≡ stored (headerOf ((c .before .before .before .before .before .before .before) .args .head))
 counted c = c .stored-of .ensures ∙ ap stored (c .before .header-of .ensures)
 
-one-gate-requires : tie.Need-one-gate-requires
-one-gate-requires c κs = search needs
-
 returns : tie.Need-returns
 returns c =
     let a = (c .before .before .before .before .before) .args in
     (negate-refused (a .head) (a .a .now) (a .out .now) (c .before .before .one-gate .ensures) (c .if1 .taken), negate-kept (a .head) (a .a .now) (a .out .now) (c .before .before .one-gate .ensures) (c .if1 .taken))
-
-header-of-requires : tie.Need-header-of-requires
-header-of-requires c κs = search needs
 
 stored-of-requires : tie.Need-stored-of-requires
 stored-of-requires c κs = rw (c .header-of .ensures) (ready (c .before) .good .regular .rules)
@@ -43,9 +37,6 @@ negate-into-requires : tie.Need-negate-into-requires
 negate-into-requires c κs =
     let a = (c .before .before .before .before .before .before .before .before) .args in
     negate-room (a .head) (a .a .now) (a .out .now) (ready (c .before .before .before)) (counted (c .before))
-
-same-length : tie.Need-same-length
-same-length c = search needs
 
 returns-2 : tie.Need-returns-2
 returns-2 c =
@@ -56,10 +47,10 @@ pub negate-spec : {M : Type 1} → statement M
 negate-spec =
     tie.close
     (tie.spec
-    one-gate-requires
+    (λ c κs. search needs)
     returns
-    header-of-requires
+    (λ c κs. search needs)
     stored-of-requires
     negate-into-requires
-    same-length
+    (λ c. search needs)
     returns-2)

@@ -34,12 +34,6 @@ second-part c =
     let a = (c .before .before .before .before .before .before .before .before .before .before .before .before) .args in
     let e : a .n + c .count-of2 .result - a .n ≡ c .count-of2 .result = omega arith in ap (λ (k : ℕ). take k (drop (a .n) (c .before .before .before .before .load-two .last .1 .1 .1 .1 .1 .1 .1 .0))) e
 
-cut-to-requires : tie.Need-cut-to-requires
-cut-to-requires c κs = search needs
-
-cut-to-requires-2 : tie.Need-cut-to-requires-2
-cut-to-requires-2 c κs = search needs
-
 load-two-requires : tie.Need-load-two-requires
 load-two-requires c κs = summing-two ((c .before .before .before .before .before .before .before) .pre) (c .before .before .cut-to .ensures) (c .before .cut-to2 .ensures)
 
@@ -52,35 +46,14 @@ count-of-requires-2 c κs = summing-lens ((c .before .before .before .before .be
 add-end : tie.Need-add-end
 add-end c = omega (arith, ends (c))
 
-sub-combine : tie.Need-sub-combine
-sub-combine c = search needs
-
-part-combine-start : tie.Need-part-combine-start
-part-combine-start c = search needs
-
 part-combine-end : tie.Need-part-combine-end
 part-combine-end c = omega (arith, ends (c .before), kept (c .before .before .before .before .before))
-
-mul-combine : tie.Need-mul-combine
-mul-combine c = search needs
-
-sub-combine-2 : tie.Need-sub-combine-2
-sub-combine-2 c = search needs
-
-part-combine-start-2 : tie.Need-part-combine-start-2
-part-combine-start-2 c = search needs
 
 part-combine-end-2 : tie.Need-part-combine-end-2
 part-combine-end-2 c = omega (arith, ends (c .before .before), kept (c .before .before .before .before .before .before))
 
 combine-requires : tie.Need-combine-requires
 combine-requires c κs = let e = ends (c .before .before .before .before) in let k = kept (c .before .before .before .before .before .before .before .before) in summing-combine ((c .before .before .before .before .before .before .before .before .before .before .before .before .before .before .before .before) .pre) (c .before .before .before .before .before .before .before .before .before .before .before .cut-to .ensures) (c .before .before .before .before .before .before .before .before .before .before .cut-to2 .ensures) (simp (length-take, length-drop) (omega (arith, c .before .before .before .before .before .count-of .ensures))) (simp (length-take, length-drop) (omega (arith, c .before .before .before .before .count-of2 .ensures))) refl
-
-same-length : tie.Need-same-length
-same-length c = search needs
-
-same-length-2 : tie.Need-same-length-2
-same-length-2 c = search needs
 
 returns : tie.Need-returns
 returns c =
@@ -91,20 +64,20 @@ pub sum-into-spec : {M : Type 1} → statement M
 sum-into-spec =
     tie.close
     (tie.spec
-    cut-to-requires
-    cut-to-requires-2
+    (λ c κs. search needs)
+    (λ c κs. search needs)
     load-two-requires
     count-of-requires
     count-of-requires-2
     add-end
-    sub-combine
-    part-combine-start
+    (λ c. search needs)
+    (λ c. search needs)
     part-combine-end
-    mul-combine
-    sub-combine-2
-    part-combine-start-2
+    (λ c. search needs)
+    (λ c. search needs)
+    (λ c. search needs)
     part-combine-end-2
     combine-requires
-    same-length
-    same-length-2
+    (λ c. search needs)
+    (λ c. search needs)
     returns)

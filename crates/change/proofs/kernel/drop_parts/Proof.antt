@@ -34,12 +34,6 @@ add-drop-part c = omega (arith, fits (c))
 mul-drop-part : tie.Need-mul-drop-part Inv-loop μ-loop
 mul-drop-part c = omega (arith, fits (c))
 
-sub-drop-part : tie.Need-sub-drop-part Inv-loop μ-loop
-sub-drop-part c = omega arith
-
-part-drop-part-start : tie.Need-part-drop-part-start Inv-loop μ-loop
-part-drop-part-start c = omega arith
-
 part-drop-part-end : tie.Need-part-drop-part-end Inv-loop μ-loop
 part-drop-part-end c = omega (arith, fits (c))
 
@@ -48,12 +42,6 @@ add-drop-part-2 c = omega (arith, fits (c .before))
 
 mul-drop-part-2 : tie.Need-mul-drop-part-2 Inv-loop μ-loop
 mul-drop-part-2 c = omega (arith, fits (c .before))
-
-sub-drop-part-2 : tie.Need-sub-drop-part-2 Inv-loop μ-loop
-sub-drop-part-2 c = omega arith
-
-part-drop-part-start-2 : tie.Need-part-drop-part-start-2 Inv-loop μ-loop
-part-drop-part-start-2 c = omega arith
 
 part-drop-part-end-2 : tie.Need-part-drop-part-end-2 Inv-loop μ-loop
 part-drop-part-end-2 c = omega (arith, fits (c .before), c .before .before .loop .inv .1 .1 .len)
@@ -88,13 +76,13 @@ drop-parts-spec =
     loop-holds
     add-drop-part
     mul-drop-part
-    sub-drop-part
-    part-drop-part-start
+    (λ c. omega arith)
+    (λ c. omega arith)
     part-drop-part-end
     add-drop-part-2
     mul-drop-part-2
-    sub-drop-part-2
-    part-drop-part-start-2
+    (λ c. omega arith)
+    (λ c. omega arith)
     part-drop-part-end-2
     drop-part-requires
     add-from

@@ -20,9 +20,6 @@ next-is c = rw (cut (c .before .before .before .before)) at (c .front-row .ensur
 whole : (c : tie.After-front-row) → length (c .front-row .last .1 .1 .0 ++ drop (c .before .before .before .before .args .s) (c .before .before .before .before .args .to .now)) ≡ length (c .before .before .before .before .args .to .now)
 whole c = let p = (c .before .before .before .before) .pre in simp (length-append, length-drop) (omega (arith, c .front-row .kept .1 .1 .0, cut (c .before .before .before .before)))
 
-slice-relend-prefix-front-row : tie.Need-slice-relend-prefix-front-row
-slice-relend-prefix-front-row c = search needs
-
 slice-aggregate-front-row : tie.Need-slice-aggregate-front-row
 slice-aggregate-front-row c = sym (length-take-le _ (c .before .before .before .args .to .now) ((c .before .before .before) .pre .0))
 
@@ -38,26 +35,8 @@ sub-copy c = omega (arith, next-is (c .before .before), (c .before .before .befo
 part-copy-start : tie.Need-part-copy-start
 part-copy-start c = omega (arith, next-is (c .before .before), (c .before .before .before .before .before .before) .pre)
 
-part-copy-end : tie.Need-part-copy-end
-part-copy-end c = search needs
-
-mul-copy-2 : tie.Need-mul-copy-2
-mul-copy-2 c = search needs
-
-sub-copy-2 : tie.Need-sub-copy-2
-sub-copy-2 c = search needs
-
-part-copy-start-2 : tie.Need-part-copy-start-2
-part-copy-start-2 c = search needs
-
-part-copy-end-2 : tie.Need-part-copy-end-2
-part-copy-end-2 c = search needs
-
 copy-requires : tie.Need-copy-requires
 copy-requires c κs = let n = next-is (c .before .before .before .before) in let w = whole (c .before .before .before .before) in let p = (c .before .before .before .before .before .before .before .before) .pre in simp (length-take, length-drop) (omega arith)
-
-same-length : tie.Need-same-length
-same-length c = search needs
 
 returns : tie.Need-returns
 returns c = let n = next-is (c .before .before .before .before .before .before .before) in let w = whole (c .before .before .before .before .before .before .before) in let p = (c .before .before .before .before .before .before .before .before .before .before .before) .pre in let f = kept-start (c .before .before .before .before .before .before .before .before .before .before .before .args .s) (c .before .before .before .before .before .before .before .before .before .before .before .args .m) (c .before .before .before .before .before .before .before .before .before .before .before .args .a .now) (c .before .before .before .before .before .before .before .before .before .before .before .args .to .now) (c .before .before .before .before .before .before .before .front-row .ensures .1) (cut (c .before .before .before .before .before .before .before .before .before .before .before)) (p .0) in let g = rows-more (length (c .before .before .before .before .before .before .before .before .before .before .before .args .to .now) - c .before .before .before .before .before .before .before .before .before .before .before .args .s) (length (c .before .before .before .before .before .before .before .front-row .last .1 .1 .0 ++ drop (c .before .before .before .before .before .before .before .before .before .before .before .args .s) (c .before .before .before .before .before .before .before .before .before .before .before .args .to .now)) - c .before .before .before .before .before .before .before .before .before .before .before .args .s) f (kept-rest (c .before .before .before .before .before .before .before .before .before .before .before .args .s) (c .before .before .before .before .before .before .before .before .before .before .before .args .m) (c .before .before .before .before .before .before .before .before .before .before .before .args .a .now) (length (take (length (c .before .before .before .before .before .before .before .front-row .last .1 .1 .0 ++ drop (c .before .before .before .before .before .before .before .before .before .before .before .args .s) (c .before .before .before .before .before .before .before .before .before .before .before .args .to .now)) - c .before .before .before .before .before .before .before .before .before .before .before .args .s) (drop (c .before .before .before .before .before .before .before .before .before .before .before .args .s) (c .before .before .before .before .before .before .before .front-row .last .1 .1 .0 ++ drop (c .before .before .before .before .before .before .before .before .before .before .before .args .s) (c .before .before .before .before .before .before .before .before .before .before .before .args .to .now))))) (length (c .before .before .before .before .before .before .before .before .before .before .before .args .a .now) - c .before .before .before .before .before .before .before .front-row .result) (length (c .before .before .before .before .before .before .before .before .before .before .before .args .to .now) - c .before .before .before .before .before .before .before .before .before .before .before .args .s) (c .before .before .copy .ensures) (simp (length-take, length-drop) (omega arith)) (omega arith) n (omega arith)) (omega arith) (omega arith) in filled-all g (omega arith) (omega arith)
@@ -66,17 +45,17 @@ pub kept-rows-spec : {M : Type 1} → statement M
 kept-rows-spec =
     tie.close
     (tie.spec
-    slice-relend-prefix-front-row
+    (λ c. search needs)
     slice-aggregate-front-row
     front-row-requires
     mul-copy
     sub-copy
     part-copy-start
-    part-copy-end
-    mul-copy-2
-    sub-copy-2
-    part-copy-start-2
-    part-copy-end-2
+    (λ c. search needs)
+    (λ c. search needs)
+    (λ c. search needs)
+    (λ c. search needs)
+    (λ c. search needs)
     copy-requires
-    same-length
+    (λ c. search needs)
     returns)

@@ -32,17 +32,8 @@ count c = c .stored-of2 .ensures ∙ ap stored (is-announced (c .before .before)
 head-is : (c : tie.After-take-rows) → c .take-rows .result ≡ (scaledPoly (c .before .before .before .before .before .before .before .before .before .before .before .before .before .args .plain) (c .before .before .before .before .before .before .before .before .before .before .before .before .before .args .v) (c .before .before .before .before .before .before .before .before .before .before .before .before .before .args .n) (held (c .before .before .before .before .before .before .before .before .before .before .before .before .before .args .head) (c .before .before .before .before .before .before .before .before .before .before .before .before .before .args .a .now))) .head
 head-is c = rw (c .before .before .before .before .before .before .before .header-of .ensures, given (c .before .before .before .before)) at (c .take-rows .ensures .0)
 
-in-gate-requires : tie.Need-in-gate-requires
-in-gate-requires c κs = search needs
-
 returns : tie.Need-returns
 returns c = entry-refused (c .before .before .in-gate .ensures) (c .if1 .taken) (announcedOne (Shift (c .before .before .before .before .before .args .v) (c .before .before .before .before .before .args .n)) (c .before .before .before .before .before .args .head)) (scaledPoly (c .before .before .before .before .before .args .plain) (c .before .before .before .before .before .args .v) (c .before .before .before .before .before .args .n) (held (c .before .before .before .before .before .args .head) (c .before .before .before .before .before .args .a .now))) (c .before .before .before .before .before .args .out .now)
-
-header-of-requires : tie.Need-header-of-requires
-header-of-requires c κs = search needs
-
-none-requires : tie.Need-none-requires
-none-requires c κs = search needs
 
 announced-of-requires : tie.Need-announced-of-requires
 announced-of-requires c κs = (rw (c .before .header-of .ensures) (ready (c .before .before) .one .good .regular .rules), rw (c .none .ensures) (none-regular .rules))
@@ -68,9 +59,6 @@ take-rows-requires c κs = record { rules = rw (c .before .before .before .befor
 pack-requires : tie.Need-pack-requires
 pack-requires c κs = rw (head-is (c .before .before)) (scaled-keeps (c .before .before .before .before .before .before .before .before .before .before .before .before .before .before .before .args .plain) (c .before .before .before .before .before .before .before .before .before .before .before .before .before .before .before .args .v) (c .before .before .before .before .before .before .before .before .before .before .before .before .before .before .before .args .n) (held (c .before .before .before .before .before .before .before .before .before .before .before .before .before .before .before .args .head) (c .before .before .before .before .before .before .before .before .before .before .before .before .before .before .before .args .a .now)) (ready (c .before .before .before .before .before .before .before .before .before .before) .one .good .regular .rules) .regular .rules)
 
-same-length : tie.Need-same-length
-same-length c = search needs
-
 returns-2 : tie.Need-returns-2
 returns-2 c = entry-done (c .before .before .before .before .before .before .before .before .before .before .before .before .before .in-gate .ensures) (c .before .before .before .before .before .before .before .before .before .before .before .if1 .left) (announcedOne (Shift (c .before .before .before .before .before .before .before .before .before .before .before .before .before .before .before .before .args .v) (c .before .before .before .before .before .before .before .before .before .before .before .before .before .before .before .before .args .n)) (c .before .before .before .before .before .before .before .before .before .before .before .before .before .before .before .before .args .head)) (scaledPoly (c .before .before .before .before .before .before .before .before .before .before .before .before .before .before .before .before .args .plain) (c .before .before .before .before .before .before .before .before .before .before .before .before .before .before .before .before .args .v) (c .before .before .before .before .before .before .before .before .before .before .before .before .before .before .before .before .args .n) (held (c .before .before .before .before .before .before .before .before .before .before .before .before .before .before .before .before .args .head) (c .before .before .before .before .before .before .before .before .before .before .before .before .before .before .before .before .args .a .now))) (c .before .before .before .before .before .before .before .before .before .before .before .before .before .before .before .before .args .out .now) (ap Done (c .pack .ensures ∙ ap wordOf (head-is (c .before .before .before)))) (rw (count (c .before .before .before .before .before .before)) (part-written (stored (announcedOne (Shift (c .before .before .before .before .before .before .before .before .before .before .before .before .before .before .before .before .args .v) (c .before .before .before .before .before .before .before .before .before .before .before .before .before .before .before .before .args .n)) (c .before .before .before .before .before .before .before .before .before .before .before .before .before .before .before .before .args .head))) ((scaledPoly (c .before .before .before .before .before .before .before .before .before .before .before .before .before .before .before .before .args .plain) (c .before .before .before .before .before .before .before .before .before .before .before .before .before .before .before .before .args .v) (c .before .before .before .before .before .before .before .before .before .before .before .before .before .before .before .before .args .n) (held (c .before .before .before .before .before .before .before .before .before .before .before .before .before .before .before .before .args .head) (c .before .before .before .before .before .before .before .before .before .before .before .before .before .before .before .before .args .a .now))) .coeffs) (c .before .before .before .before .before .before .before .before .before .before .before .before .before .before .before .before .args .out .now) (rw (c .before .before .before .before .before .before .before .before .before .before .header-of .ensures, given (c .before .before .before .before .before .before .before), is-announced (c .before .before .before .before .before .before .before .before)) at (c .before .before .before .take-rows .ensures .1))))
 
@@ -78,10 +66,10 @@ pub scaled-spec : {M : Type 1} → statement M
 scaled-spec =
     tie.close
     (tie.spec
-    in-gate-requires
+    (λ c κs. search needs)
     returns
-    header-of-requires
-    none-requires
+    (λ c κs. search needs)
+    (λ c κs. search needs)
     announced-of-requires
     stored-of-requires
     stored-of-requires-2
@@ -90,5 +78,5 @@ scaled-spec =
     slice-aggregate-take-rows-2
     take-rows-requires
     pack-requires
-    same-length
+    (λ c. search needs)
     returns-2)

@@ -13,41 +13,11 @@ use Rattle.change.proofs.kernel.shift_rows.Tie as tie
 strides-of-requires : tie.Need-strides-of-requires
 strides-of-requires c κs = lengths-of ((c .before .before .before .before) .pre .rules)
 
-mul-s : tie.Need-mul-s
-mul-s c = search needs
-
-array-read-s : tie.Need-array-read-s
-array-read-s c = search needs
-
-mul-if1 : tie.Need-mul-if1
-mul-if1 c = search needs
-
-array-read-if1 : tie.Need-array-read-if1
-array-read-if1 c = search needs
-
 add-if1 : tie.Need-add-if1
 add-if1 c = omega (arith, (c .before .before .before .before .before) .pre .below, ruled-at ((c .before .before .before .before .before) .pre .rules) (c .before .before .before .before .before .args .v) ((c .before .before .before .before .before) .pre .var) .most)
 
-mul-drop-parts : tie.Need-mul-drop-parts
-mul-drop-parts c = search needs
-
-array-read-drop-parts : tie.Need-array-read-drop-parts
-array-read-drop-parts c = search needs
-
-mul-drop-parts-2 : tie.Need-mul-drop-parts-2
-mul-drop-parts-2 c = search needs
-
-array-read-drop-parts-2 : tie.Need-array-read-drop-parts-2
-array-read-drop-parts-2 c = search needs
-
 mul-drop-parts-3 : tie.Need-mul-drop-parts-3
 mul-drop-parts-3 c = omega (arith, shift-small ((c .before .before .before .before .before .before) .pre) (ap (λ (l : List ℕ). at l (c .before .before .before .before .before .before .args .v)) (c .before .strides-of .ensures)) refl refl .0)
-
-mul-drop-parts-4 : tie.Need-mul-drop-parts-4
-mul-drop-parts-4 c = search needs
-
-array-read-drop-parts-3 : tie.Need-array-read-drop-parts-3
-array-read-drop-parts-3 c = search needs
 
 mul-drop-parts-5 : tie.Need-mul-drop-parts-5
 mul-drop-parts-5 c = omega (arith, shift-small ((c .before .before .before .before .before .before) .pre) (ap (λ (l : List ℕ). at l (c .before .before .before .before .before .before .args .v)) (c .before .strides-of .ensures)) refl refl .1)
@@ -55,35 +25,17 @@ mul-drop-parts-5 c = omega (arith, shift-small ((c .before .before .before .befo
 drop-parts-requires : tie.Need-drop-parts-requires
 drop-parts-requires c κs = (shift-rows ((c .before .before .before .before .before .before .before) .pre) (ap (λ (l : List ℕ). at l (c .before .before .before .before .before .before .before .args .v)) (c .before .before .strides-of .ensures)) refl refl, one-room ((c .before .before .before .before .before .before .before) .pre) (ap (λ (l : List ℕ). at l (c .before .before .before .before .before .before .before .args .v)) (c .before .before .strides-of .ensures)) refl refl (c .before .if1 .taken))
 
-same-length : tie.Need-same-length
-same-length c = search needs
-
 returns : tie.Need-returns
 returns c = shift-one ((c .before .before .before .before .before .before .before .before .before .before) .pre) (ap (λ (l : List ℕ). at l (c .before .before .before .before .before .before .before .before .before .before .args .v)) (c .before .before .before .before .before .strides-of .ensures)) refl refl (c .before .before .before .before .before .before .before .before .before .before .args .a .now) (c .before .before .before .before .if1 .taken) (c .before .before .drop-parts .ensures)
 
-mul-drop-parts-6 : tie.Need-mul-drop-parts-6
-mul-drop-parts-6 c = search needs
-
-array-read-drop-parts-4 : tie.Need-array-read-drop-parts-4
-array-read-drop-parts-4 c = search needs
-
 mul-drop-parts-7 : tie.Need-mul-drop-parts-7
 mul-drop-parts-7 c = omega (arith, shift-small ((c .before .before .before .before .before .before) .pre) (ap (λ (l : List ℕ). at l (c .before .before .before .before .before .before .args .v)) (c .before .strides-of .ensures)) refl refl .0)
-
-mul-drop-parts-8 : tie.Need-mul-drop-parts-8
-mul-drop-parts-8 c = search needs
-
-array-read-drop-parts-5 : tie.Need-array-read-drop-parts-5
-array-read-drop-parts-5 c = search needs
 
 mul-drop-parts-9 : tie.Need-mul-drop-parts-9
 mul-drop-parts-9 c = omega (arith, shift-small ((c .before .before .before .before .before .before) .pre) (ap (λ (l : List ℕ). at l (c .before .before .before .before .before .before .args .v)) (c .before .strides-of .ensures)) refl refl .1)
 
 drop-parts-requires-2 : tie.Need-drop-parts-requires-2
 drop-parts-requires-2 c κs = (shift-rows ((c .before .before .before .before .before .before .before) .pre) (ap (λ (l : List ℕ). at l (c .before .before .before .before .before .before .before .args .v)) (c .before .before .strides-of .ensures)) refl refl, many-room ((c .before .before .before .before .before .before .before) .pre) (ap (λ (l : List ℕ). at l (c .before .before .before .before .before .before .before .args .v)) (c .before .before .strides-of .ensures)) refl refl (c .before .if1 .left))
-
-same-length-2 : tie.Need-same-length-2
-same-length-2 c = search needs
 
 returns-2 : tie.Need-returns-2
 returns-2 c = shift-many ((c .before .before .before .before .before .before .before .before .before .before) .pre) (ap (λ (l : List ℕ). at l (c .before .before .before .before .before .before .before .before .before .before .args .v)) (c .before .before .before .before .before .strides-of .ensures)) refl refl (c .before .before .before .before .before .before .before .before .before .before .args .a .now) (c .before .before .before .before .if1 .left) (c .before .before .drop-parts2 .ensures)
@@ -93,28 +45,28 @@ shift-rows-spec =
     tie.close
     (tie.spec
     strides-of-requires
-    mul-s
-    array-read-s
-    mul-if1
-    array-read-if1
+    (λ c. search needs)
+    (λ c. search needs)
+    (λ c. search needs)
+    (λ c. search needs)
     add-if1
-    mul-drop-parts
-    array-read-drop-parts
-    mul-drop-parts-2
-    array-read-drop-parts-2
+    (λ c. search needs)
+    (λ c. search needs)
+    (λ c. search needs)
+    (λ c. search needs)
     mul-drop-parts-3
-    mul-drop-parts-4
-    array-read-drop-parts-3
+    (λ c. search needs)
+    (λ c. search needs)
     mul-drop-parts-5
     drop-parts-requires
-    same-length
+    (λ c. search needs)
     returns
-    mul-drop-parts-6
-    array-read-drop-parts-4
+    (λ c. search needs)
+    (λ c. search needs)
     mul-drop-parts-7
-    mul-drop-parts-8
-    array-read-drop-parts-5
+    (λ c. search needs)
+    (λ c. search needs)
     mul-drop-parts-9
     drop-parts-requires-2
-    same-length-2
+    (λ c. search needs)
     returns-2)

@@ -17,59 +17,23 @@ use borrow.Author.Needs.{needs}
 use Rattle.change.proofs.kernel.take_rows.Statement.{statement}
 use Rattle.change.proofs.kernel.take_rows.Tie as tie
 
-mul-if1 : tie.Need-mul-if1
-mul-if1 c = search needs
-
-array-read-if1 : tie.Need-array-read-if1
-array-read-if1 c = search needs
-
-clear-requires : tie.Need-clear-requires
-clear-requires c κs = search needs
-
-shortest-requires : tie.Need-shortest-requires
-shortest-requires c κs = search needs
-
-same-length : tie.Need-same-length
-same-length c = search needs
-
 returns : tie.Need-returns
 returns c = (c .shortest .ensures ∙ ap (λ (q : Poly). q .head) (sym (scaled-past (c .before .before .before .before .before .before .before .before .before .args .plain) (c .before .before .before .before .before .before .before .before .before .args .v) (c .before .before .before .before .before .before .before .before .before .args .n) (poly (c .before .before .before .before .before .before .before .before .before .args .h) (c .before .before .before .before .before .before .before .before .before .args .a .now)) ((c .before .before .before .before .before .before .before .before .before) .pre .is) (c .before .before .before .before .before .if1 .taken))), c .before .before .before .clear .ensures ∙ (ap zeros ((c .before .before .before .before .before .before .before .before .before) .pre .room) ∙ (padded-zero (count-pos (lengths-of (shifted-regular ((c .before .before .before .before .before .before .before .before .before) .pre) .rules))) ∙ ap (λ (q : Poly). padded (stored (c .before .before .before .before .before .before .before .before .before .args .r)) (q .coeffs)) (sym (scaled-past (c .before .before .before .before .before .before .before .before .before .args .plain) (c .before .before .before .before .before .before .before .before .before .args .v) (c .before .before .before .before .before .before .before .before .before .args .n) (poly (c .before .before .before .before .before .before .before .before .before .args .h) (c .before .before .before .before .before .before .before .before .before .args .a .now)) ((c .before .before .before .before .before .before .before .before .before) .pre .is) (c .before .before .before .before .before .if1 .taken))))))
 
 strides-of-requires : tie.Need-strides-of-requires
 strides-of-requires c κs = lengths-of ((c .before .before .before .before .before) .pre .rules)
 
-mul-s : tie.Need-mul-s
-mul-s c = search needs
-
-array-read-s : tie.Need-array-read-s
-array-read-s c = search needs
-
 first-factor-requires : tie.Need-first-factor-requires
 first-factor-requires c κs = omega (arith, (c .before .before .before .before .before .before) .pre .below, ruled-at ((c .before .before .before .before .before .before) .pre .rules) (c .before .before .before .before .before .before .args .v) ((c .before .before .before .before .before .before) .pre .var) .most)
 
-mul-scale-rows : tie.Need-mul-scale-rows
-mul-scale-rows c = search needs
-
-array-read-scale-rows : tie.Need-array-read-scale-rows
-array-read-scale-rows c = search needs
-
 mul-scale-rows-2 : tie.Need-mul-scale-rows-2
 mul-scale-rows-2 c = omega (arith, shift-small ((c .before .before .before .before .before .before .before) .pre) (ap (λ (l : List ℕ). at l (c .before .before .before .before .before .before .before .args .v)) (c .before .strides-of .ensures)) refl refl .0)
-
-mul-scale-rows-3 : tie.Need-mul-scale-rows-3
-mul-scale-rows-3 c = search needs
-
-array-read-scale-rows-2 : tie.Need-array-read-scale-rows-2
-array-read-scale-rows-2 c = search needs
 
 mul-scale-rows-4 : tie.Need-mul-scale-rows-4
 mul-scale-rows-4 c = omega (arith, shift-small ((c .before .before .before .before .before .before .before) .pre) (ap (λ (l : List ℕ). at l (c .before .before .before .before .before .before .before .args .v)) (c .before .strides-of .ensures)) refl refl .1)
 
 scale-rows-requires : tie.Need-scale-rows-requires
 scale-rows-requires c κs = scaling ((c .before .before .before .before .before .before .before .before) .pre) (ap (λ (l : List ℕ). at l (c .before .before .before .before .before .before .before .before .args .v)) (c .before .before .strides-of .ensures)) refl refl (c .before .before .before .before .if1 .left)
-
-same-length-2 : tie.Need-same-length-2
-same-length-2 c = search needs
 
 returns-2 : tie.Need-returns-2
 returns-2 c = let d = scaled-done ((c .before .before .before .before .before .before .before .before .before .before .before) .pre) (ap (λ (l : List ℕ). at l (c .before .before .before .before .before .before .before .before .before .before .before .args .v)) (c .before .before .before .before .before .strides-of .ensures)) refl refl (c .before .before .before .before .before .before .before .if1 .left) (c .before .before .before .before .before .before .before .before .before .before .before .args .plain) (c .before .before .before .before .before .before .before .before .before .before .before .args .a .now) (rw (c .before .before .before .before .first-factor .ensures) at (c .before .before .scale-rows .ensures)) in (ap (λ (q : Poly). q .head) (sym (scaled-rows (c .before .before .before .before .before .before .before .before .before .before .before .args .plain) (c .before .before .before .before .before .before .before .before .before .before .before .args .v) (c .before .before .before .before .before .before .before .before .before .before .before .args .n) (poly (c .before .before .before .before .before .before .before .before .before .before .before .args .h) (c .before .before .before .before .before .before .before .before .before .before .before .args .a .now)) ((c .before .before .before .before .before .before .before .before .before .before .before) .pre .is) (c .before .before .before .before .before .before .before .if1 .left))), d ∙ padded-full _ (ap (λ (q : Poly). length (q .coeffs)) (scaled-rows (c .before .before .before .before .before .before .before .before .before .before .before .args .plain) (c .before .before .before .before .before .before .before .before .before .before .before .args .v) (c .before .before .before .before .before .before .before .before .before .before .before .args .n) (poly (c .before .before .before .before .before .before .before .before .before .before .before .args .h) (c .before .before .before .before .before .before .before .before .before .before .before .args .a .now)) ((c .before .before .before .before .before .before .before .before .before .before .before) .pre .is) (c .before .before .before .before .before .before .before .if1 .left)) ∙ length-table _ (stored (c .before .before .before .before .before .before .before .before .before .before .before .args .r))))
@@ -78,22 +42,22 @@ pub take-rows-spec : {M : Type 1} → statement M
 take-rows-spec =
     tie.close
     (tie.spec
-    mul-if1
-    array-read-if1
-    clear-requires
-    shortest-requires
-    same-length
+    (λ c. search needs)
+    (λ c. search needs)
+    (λ c κs. search needs)
+    (λ c κs. search needs)
+    (λ c. search needs)
     returns
     strides-of-requires
-    mul-s
-    array-read-s
+    (λ c. search needs)
+    (λ c. search needs)
     first-factor-requires
-    mul-scale-rows
-    array-read-scale-rows
+    (λ c. search needs)
+    (λ c. search needs)
     mul-scale-rows-2
-    mul-scale-rows-3
-    array-read-scale-rows-2
+    (λ c. search needs)
+    (λ c. search needs)
     mul-scale-rows-4
     scale-rows-requires
-    same-length-2
+    (λ c. search needs)
     returns-2)

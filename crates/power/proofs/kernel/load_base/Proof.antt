@@ -16,9 +16,6 @@ slice-aggregate-copy c = sym (length-take-le _ _ (c .before .before .before .bef
 copy-requires : tie.Need-copy-requires
 copy-requires c κs = omega (arith, length-take-le (length (c .before .before .before .before .args .a .now)) (c .before .before .before .before .args .work .now) (c .before .before .before .before .pre (omega (arith, c .before .if1 .taken))))
 
-same-length : tie.Need-same-length
-same-length c = search needs
-
 returns : tie.Need-returns
 returns c = loaded-copy (c .before .before .before .before .before .before .before .args .e) (c .before .before .before .before .before .before .before .args .a .now) (drop (length (c .before .before .before .before .before .before .before .args .a .now)) (c .before .before .before .before .before .before .before .args .work .now)) (c .before .before .copy .ensures) (length-take-le (length (c .before .before .before .before .before .before .before .args .a .now)) (c .before .before .before .before .before .before .before .args .work .now) (c .before .before .before .before .before .before .before .pre (omega (arith, c .before .before .before .before .if1 .taken))))
 
@@ -32,6 +29,6 @@ load-base-spec =
     slice-relend-prefix-copy
     slice-aggregate-copy
     copy-requires
-    same-length
+    (λ c. search needs)
     returns
     returns-2)

@@ -9,35 +9,14 @@ use Rattle.power.proofs.kernel.power_front.Tie as tie
 slice-write-out : tie.Need-slice-write-out
 slice-write-out c = let p = c .before .before .before .pre in omega (arith, powers-some p, p .out)
 
-same-length : tie.Need-same-length
-same-length c = search needs
-
 returns : tie.Need-returns
 returns c = let p = c .before .before .before .pre in front-none (c .before .before .before .args .e) (c .before .before .before .args .limits) (lain 0 (c .before .before .before .args .la) (c .before .before .before .args .work .now)) (c .before .before .before .args .out .now) (c .if1 .taken) (omega (arith, powers-some p, p .out))
-
-count-of-requires : tie.Need-count-of-requires
-count-of-requires c κs = search needs
 
 keep-requires : tie.Need-keep-requires
 keep-requires c κs = let p = c .before .before .before .before .before .before .before .pre in let h = powers-base p (omega (arith, c .before .before .before .if2 .taken)) in (omega (arith, c .before .before .count-of .ensures, p .work), omega (arith, c .before .before .count-of .ensures, p .out))
 
-same-length-2 : tie.Need-same-length-2
-same-length-2 c = search needs
-
-same-length-3 : tie.Need-same-length-3
-same-length-3 c = search needs
-
 returns-2 : tie.Need-returns-2
 returns-2 c = let p = c .before .before .before .before .before .before .before .before .before .before .pre in let h = powers-base p (omega (arith, c .before .before .before .before .before .before .if2 .taken)) in front-same (c .before .before .before .before .before .before .before .before .before .before .args .e) (c .before .before .before .before .before .before .before .before .before .before .args .limits) (c .before .before .before .before .before .before .before .before .before .before .args .la) (c .before .before .before .before .before .before .before .before .before .before .args .work .now) (c .before .before .before .before .before .before .if2 .taken) (c .before .before .before .before .before .count-of .ensures) (omega (arith, c .before .before .before .before .before .count-of .ensures, p .work)) (c .before .before .keep .ensures)
-
-squarings-requires : tie.Need-squarings-requires
-squarings-requires c κs = search needs
-
-same-length-4 : tie.Need-same-length-4
-same-length-4 c = search needs
-
-same-length-5 : tie.Need-same-length-5
-same-length-5 c = search needs
 
 returns-3 : tie.Need-returns-3
 returns-3 c = front-more (c .before .before .before .before .before .before .before .before .before .before .before .args .e) (c .before .before .before .before .before .before .before .before .before .before .before .args .limits) (lain 0 (c .before .before .before .before .before .before .before .before .before .before .before .args .la) (c .before .before .before .before .before .before .before .before .before .before .before .args .work .now)) (c .before .before .before .before .before .before .before .before .if1 .left) (c .before .before .before .before .before .before .before .if2 .left) (c .before .before .before .before .squarings .ensures)
@@ -47,14 +26,14 @@ power-front-spec =
     tie.close
     (tie.spec
     slice-write-out
-    same-length
+    (λ c. search needs)
     returns
-    count-of-requires
+    (λ c κs. search needs)
     keep-requires
-    same-length-2
-    same-length-3
+    (λ c. search needs)
+    (λ c. search needs)
     returns-2
-    squarings-requires
-    same-length-4
-    same-length-5
+    (λ c κs. search needs)
+    (λ c. search needs)
+    (λ c. search needs)
     returns-3)

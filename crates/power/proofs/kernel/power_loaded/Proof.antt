@@ -7,9 +7,6 @@ use borrow.Author.Needs.{needs}
 use Rattle.power.proofs.kernel.power_loaded.Statement.{statement}
 use Rattle.power.proofs.kernel.power_loaded.Tie as tie
 
-power-front-requires : tie.Need-power-front-requires
-power-front-requires c κs = search needs
-
 count-of-requires : tie.Need-count-of-requires
 count-of-requires c κs = ends-lens (c .before .before .before .before .before .before .before .before .before .pre) (c .before .before .before .before .before .before .before .before .before .args .work .now) refl (c .before .before .before .before .power-front .ensures)
 
@@ -22,18 +19,6 @@ sub-clear c = ends-small (c .before .before .before .before .before .before .bef
 part-clear-start : tie.Need-part-clear-start
 part-clear-start c = ends-small (c .before .before .before .before .before .before .before .before .before .before .pre) (c .before .before .before .before .before .before .before .before .before .before .args .work .now) refl (c .before .before .before .before .before .power-front .ensures) (c .count-of .ensures)
 
-part-clear-end : tie.Need-part-clear-end
-part-clear-end c = search needs
-
-clear-requires : tie.Need-clear-requires
-clear-requires c κs = search needs
-
-same-length : tie.Need-same-length
-same-length c = search needs
-
-same-length-2 : tie.Need-same-length-2
-same-length-2 c = search needs
-
 returns : tie.Need-returns
 returns c = let k = c .before .before .before .before .before .before .before .before .before .power-front .kept .1 .1 .1 .1 .1 .0 in let o = c .before .before .before .before .before .before .before .before .before .before .before .before .before .before .pre .out in (c .before .before .before .before .before .before .before .before .before .power-front .ensures .lengths, ends-padded (c .before .before .before .before .before .before .before .before .before .before .before .before .before .before .pre) (c .before .before .before .before .before .before .before .before .before .before .before .before .before .before .args .work .now) refl (c .before .before .before .before .before .before .before .before .before .power-front .ensures) (k ∙ o) (c .before .before .before .before .count-of .ensures) (c .before .before .clear .ensures) (simp (length-take, length-drop) (omega (arith, k, o, ends-small (c .before .before .before .before .before .before .before .before .before .before .before .before .before .before .pre) (c .before .before .before .before .before .before .before .before .before .before .before .before .before .before .args .work .now) refl (c .before .before .before .before .before .before .before .before .before .power-front .ensures) (c .before .before .before .before .count-of .ensures)))))
 
@@ -41,13 +26,13 @@ pub power-loaded-spec : {M : Type 1} → statement M
 power-loaded-spec =
     tie.close
     (tie.spec
-    power-front-requires
+    (λ c κs. search needs)
     count-of-requires
     mul-clear
     sub-clear
     part-clear-start
-    part-clear-end
-    clear-requires
-    same-length
-    same-length-2
+    (λ c. search needs)
+    (λ c κs. search needs)
+    (λ c. search needs)
+    (λ c. search needs)
     returns)

@@ -17,17 +17,8 @@ count-of-requires-2 c κs = step-lens (c .before .before .before .pre) .1
 add-eb : tie.Need-add-eb
 add-eb c = omega (arith, step-ends (c .before .before .before .before .pre) (c .before .before .before .before .args .work .now) refl (c .before .count-of .ensures) (c .count-of2 .ensures) .1)
 
-mul-times : tie.Need-mul-times
-mul-times c = search needs
-
 times-requires : tie.Need-times-requires
 times-requires c κs = step-room (c .before .before .before .before .before .before .pre) (c .before .before .before .before .before .before .args .work .now) refl (c .before .before .before .count-of .ensures) (c .before .before .count-of2 .ensures)
-
-same-length : tie.Need-same-length
-same-length c = search needs
-
-same-length-2 : tie.Need-same-length-2
-same-length-2 c = search needs
 
 returns : tie.Need-returns
 returns c = step-made (c .before .before .before .before .before .before .before .before .before .before .before .pre) (c .before .before .before .before .before .before .before .before .before .before .before .args .work .now) refl (c .before .before .before .before .before .before .before .before .count-of .ensures) (c .before .before .before .before .before .before .before .count-of2 .ensures) (c .before .before .before .before .times .ensures)
@@ -40,8 +31,8 @@ times-front-spec =
     add-ea
     count-of-requires-2
     add-eb
-    mul-times
+    (λ c. search needs)
     times-requires
-    same-length
-    same-length-2
+    (λ c. search needs)
+    (λ c. search needs)
     returns)

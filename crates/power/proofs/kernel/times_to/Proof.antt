@@ -5,20 +5,11 @@ use borrow.Author.Needs.{needs}
 use Rattle.power.proofs.kernel.times_to.Statement.{statement}
 use Rattle.power.proofs.kernel.times_to.Tie as tie
 
-times-front-requires : tie.Need-times-front-requires
-times-front-requires c κs = search needs
-
 count-of-requires : tie.Need-count-of-requires
 count-of-requires c κs = made-lens (c .before .before .before .before .before .before .before .before .before .pre .0) (c .before .before .before .before .before .before .before .before .before .args .work .now) refl (c .before .before .before .before .times-front .ensures)
 
 keep-requires : tie.Need-keep-requires
 keep-requires c κs = let s = c .before .before .before .before .before .before .before .before .before .before .before .before .pre .0 in let h = c .before .before .before .before .before .before .before .before .before .before .before .before .pre .1 in let z = made-small s (c .before .before .before .before .before .before .before .before .before .before .before .before .args .work .now) refl (c .before .before .before .before .before .before .before .times-front .ensures) (c .before .before .count-of .ensures) in (omega (arith, s .out), omega (arith, s .work))
-
-same-length : tie.Need-same-length
-same-length c = search needs
-
-same-length-2 : tie.Need-same-length-2
-same-length-2 c = search needs
 
 returns : tie.Need-returns
 returns c = made-placed (c .before .before .before .before .before .before .before .before .before .before .before .before .before .before .before .pre .0) (c .before .before .before .before .before .before .before .before .before .before .before .before .before .before .before .args .work .now) refl (c .before .before .before .before .before .before .before .before .before .before .times-front .ensures) (c .before .before .before .before .before .before .before .before .before .before .before .before .before .before .before .pre .1) (c .before .before .before .before .before .count-of .ensures) (c .before .before .keep .ensures)
@@ -27,9 +18,9 @@ pub times-to-spec : {M : Type 1} → statement M
 times-to-spec =
     tie.close
     (tie.spec
-    times-front-requires
+    (λ c κs. search needs)
     count-of-requires
     keep-requires
-    same-length
-    same-length-2
+    (λ c. search needs)
+    (λ c. search needs)
     returns)

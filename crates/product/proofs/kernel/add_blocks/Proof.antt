@@ -5,9 +5,6 @@ use borrow.Author.Needs.{needs}
 use Rattle.product.proofs.kernel.add_blocks.Statement.{statement}
 use Rattle.product.proofs.kernel.add_blocks.Tie as tie
 
-max-shape-requires : tie.Need-max-shape-requires
-max-shape-requires c κs = search needs
-
 count-of-requires : tie.Need-count-of-requires
 count-of-requires c κs = joins-whole (c .before .before .before .before .pre) (c .max-shape .ensures)
 
@@ -20,9 +17,6 @@ slice-aggregate-combine c = sym (length-take-le _ (c .before .before .before .be
 combine-requires : tie.Need-combine-requires
 combine-requires c κs = joins-combine (c .before .before .before .before .before .before .pre) (c .before .before .max-shape .ensures) (length-take-le _ (c .before .before .before .before .before .before .args .out .now) (joins-fits (c .before .before .before .before .before .before .pre) (c .before .before .max-shape .ensures) (c .before .count-of .ensures)) ∙ c .before .count-of .ensures)
 
-same-length : tie.Need-same-length
-same-length c = search needs
-
 returns : tie.Need-returns
 returns c = let j = joined-is (c .before .before .before .before .before .before .before .before .before .args .n) (c .before .before .before .before .before .before .before .before .before .args .m) (c .before .before .before .before .before .before .before .before .before .args .a .now) (c .before .before .before .before .before .before .before .before .before .args .b .now) (c .before .before .before .before .before .max-shape .ensures) (c .before .before .combine .ensures) in put-front (c .before .before .before .before .count-of .result) (j .0) (j .1) (c .before .before .combine .kept .1 .1 .1 .1 .1 .1 .0 ∙ length-take-le _ (c .before .before .before .before .before .before .before .before .before .args .out .now) (joins-fits (c .before .before .before .before .before .before .before .before .before .pre) (c .before .before .before .before .before .max-shape .ensures) (c .before .before .before .before .count-of .ensures))) refl
 
@@ -30,10 +24,10 @@ pub add-blocks-spec : {M : Type 1} → statement M
 add-blocks-spec =
     tie.close
     (tie.spec
-    max-shape-requires
+    (λ c κs. search needs)
     count-of-requires
     slice-relend-prefix-combine
     slice-aggregate-combine
     combine-requires
-    same-length
+    (λ c. search needs)
     returns)

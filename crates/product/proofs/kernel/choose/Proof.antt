@@ -8,9 +8,6 @@ use borrow.Author.Needs.{needs}
 use Rattle.product.proofs.kernel.choose.Statement.{statement}
 use Rattle.product.proofs.kernel.choose.Tie as tie
 
-none-requires : tie.Need-none-requires
-none-requires c κs = search needs
-
 shared-slice-read-x : tie.Need-shared-slice-read-x
 shared-slice-read-x c = omega (arith, c .before .before .before .before .pre .1 .1 .0, count-pos (c .before .before .before .before .pre .0))
 
@@ -23,23 +20,14 @@ returns c = rw (choose-is (c .before .before .before .before .before .before .ar
 returns-2 : tie.Need-returns-2
 returns-2 c = rw (choose-is (c .before .before .before .before .before .before .before .args .stage) (block (c .before .before .before .before .before .before .before .args .la) (c .before .before .before .before .before .before .before .args .a .now)) (block (c .before .before .before .before .before .before .before .args .lb) (c .before .before .before .before .before .before .before .args .b .now)) (length (c .before .before .before .before .before .before .before .args .a .now)) (length (c .before .before .before .before .before .before .before .args .b .now)) (c .before .before .before .before .before .before .before .pre .1 .1 .0) (c .before .before .before .before .before .before .before .pre .1 .1 .1)) (simp (c .before .before .before .before .none .ensures, c .before .if1 .left, c .if2 .taken))
 
-just-requires : tie.Need-just-requires
-just-requires c κs = search needs
-
 returns-3 : tie.Need-returns-3
 returns-3 c = rw (choose-is (c .before .before .before .before .before .before .before .before .before .args .stage) (block (c .before .before .before .before .before .before .before .before .before .args .la) (c .before .before .before .before .before .before .before .before .before .args .a .now)) (block (c .before .before .before .before .before .before .before .before .before .args .lb) (c .before .before .before .before .before .before .before .before .before .args .b .now)) (length (c .before .before .before .before .before .before .before .before .before .args .a .now)) (length (c .before .before .before .before .before .before .before .before .before .args .b .now)) (c .before .before .before .before .before .before .before .before .before .pre .1 .1 .0) (c .before .before .before .before .before .before .before .before .before .pre .1 .1 .1), c .before .before .before .if1 .left, c .before .before .if2 .left, c .before .if3 .taken) (rw (c .just .ensures))
-
-just-requires-2 : tie.Need-just-requires-2
-just-requires-2 c κs = search needs
 
 returns-4 : tie.Need-returns-4
 returns-4 c = rw (choose-is (c .before .before .before .before .before .before .before .before .before .before .args .stage) (block (c .before .before .before .before .before .before .before .before .before .before .args .la) (c .before .before .before .before .before .before .before .before .before .before .args .a .now)) (block (c .before .before .before .before .before .before .before .before .before .before .args .lb) (c .before .before .before .before .before .before .before .before .before .before .args .b .now)) (length (c .before .before .before .before .before .before .before .before .before .before .args .a .now)) (length (c .before .before .before .before .before .before .before .before .before .before .args .b .now)) (c .before .before .before .before .before .before .before .before .before .before .pre .1 .1 .0) (c .before .before .before .before .before .before .before .before .before .before .pre .1 .1 .1), c .before .before .before .before .if1 .left, c .before .before .before .if2 .left, c .before .before .if3 .left, c .before .if4 .taken) (rw (c .just2 .ensures))
 
 returns-5 : tie.Need-returns-5
 returns-5 c = rw (choose-is (c .before .before .before .before .before .before .before .before .before .before .args .stage) (block (c .before .before .before .before .before .before .before .before .before .before .args .la) (c .before .before .before .before .before .before .before .before .before .before .args .a .now)) (block (c .before .before .before .before .before .before .before .before .before .before .args .lb) (c .before .before .before .before .before .before .before .before .before .before .args .b .now)) (length (c .before .before .before .before .before .before .before .before .before .before .args .a .now)) (length (c .before .before .before .before .before .before .before .before .before .before .args .b .now)) (c .before .before .before .before .before .before .before .before .before .before .pre .1 .1 .0) (c .before .before .before .before .before .before .before .before .before .before .pre .1 .1 .1)) (simp (c .before .before .before .before .before .before .before .none .ensures, c .before .before .if3 .left, c .before .if4 .left, eq-eqb _ _ (c .if5 .taken)))
-
-choose-line-requires : tie.Need-choose-line-requires
-choose-line-requires c κs = search needs
 
 returns-6 : tie.Need-returns-6
 returns-6 c = rw (choose-is (c .before .before .before .before .before .before .before .before .before .before .before .args .stage) (block (c .before .before .before .before .before .before .before .before .before .before .before .args .la) (c .before .before .before .before .before .before .before .before .before .before .before .args .a .now)) (block (c .before .before .before .before .before .before .before .before .before .before .before .args .lb) (c .before .before .before .before .before .before .before .before .before .before .before .args .b .now)) (length (c .before .before .before .before .before .before .before .before .before .before .before .args .a .now)) (length (c .before .before .before .before .before .before .before .before .before .before .before .args .b .now)) (c .before .before .before .before .before .before .before .before .before .before .before .pre .1 .1 .0) (c .before .before .before .before .before .before .before .before .before .before .before .pre .1 .1 .1)) (simp (c .choose-line .ensures, c .before .before .before .if3 .left, c .before .before .if4 .left, ne-eqb _ _ (c .before .if5 .left)))
@@ -48,15 +36,15 @@ pub choose-spec : {M : Type 1} → statement M
 choose-spec =
     tie.close
     (tie.spec
-    none-requires
+    (λ c κs. search needs)
     shared-slice-read-x
     shared-slice-read-y
     returns
     returns-2
-    just-requires
+    (λ c κs. search needs)
     returns-3
-    just-requires-2
+    (λ c κs. search needs)
     returns-4
     returns-5
-    choose-line-requires
+    (λ c κs. search needs)
     returns-6)

@@ -8,27 +8,6 @@ use borrow.Author.Needs.{needs}
 use Rattle.product.proofs.kernel.keep.Statement.{statement}
 use Rattle.product.proofs.kernel.keep.Tie as tie
 
-add-copy : tie.Need-add-copy
-add-copy c = search needs
-
-mul-copy : tie.Need-mul-copy
-mul-copy c = search needs
-
-sub-copy : tie.Need-sub-copy
-sub-copy c = search needs
-
-part-copy-start : tie.Need-part-copy-start
-part-copy-start c = search needs
-
-part-copy-end : tie.Need-part-copy-end
-part-copy-end c = search needs
-
-copy-requires : tie.Need-copy-requires
-copy-requires c κs = search needs
-
-same-length : tie.Need-same-length
-same-length c = search needs
-
 returns : tie.Need-returns
 returns c = let e : c .before .before .before .before .before .before .args .at + c .before .before .before .before .before .before .args .n - c .before .before .before .before .before .before .args .at ≡ c .before .before .before .before .before .before .args .n = omega arith in kept-mid (c .before .before .before .before .before .before .args .at) (c .before .before .before .before .before .before .args .n) (c .before .before .before .before .before .before .args .work .now) (c .before .before .before .before .before .before .args .from .now) (length (take (c .before .before .before .before .before .before .args .at + c .before .before .before .before .before .before .args .n - c .before .before .before .before .before .before .args .at) (drop (c .before .before .before .before .before .before .args .at) (c .before .before .before .before .before .before .args .work .now)))) (c .before .before .copy .ensures) (simp (length-take, length-drop) (omega (arith, c .before .before .before .before .before .before .pre))) (c .before .before .before .before .before .before .pre .0) (c .before .before .before .before .before .before .pre .1) e
 
@@ -36,11 +15,11 @@ pub keep-spec : {M : Type 1} → statement M
 keep-spec =
     tie.close
     (tie.spec
-    add-copy
-    mul-copy
-    sub-copy
-    part-copy-start
-    part-copy-end
-    copy-requires
-    same-length
+    (λ c. search needs)
+    (λ c. search needs)
+    (λ c. search needs)
+    (λ c. search needs)
+    (λ c. search needs)
+    (λ c κs. search needs)
+    (λ c. search needs)
     returns)

@@ -21,9 +21,6 @@ slice-aggregate-line-up c = sym (length-take-le _ (c .before .before .before .be
 line-up-requires : tie.Need-line-up-requires
 line-up-requires c κs = (raises-raise ((c .before .before .before .before .before) .pre .0) (c .before .before .grown-to .ensures) (length-take-le _ (c .before .before .before .before .before .args .out .now) (raises-fits ((c .before .before .before .before .before) .pre .0) (c .before .before .grown-to .ensures) (c .before .count-of .ensures)) ∙ c .before .count-of .ensures), lined-in ((c .before .before .before .before .before) .pre .0) (c .before .before .grown-to .ensures) (c .before .before .before .before .before .args .line .variable) ((c .before .before .before .before .before) .pre .0 .var))
 
-same-length : tie.Need-same-length
-same-length c = search needs
-
 returns : tie.Need-returns
 returns c =
     let j = lined-block ((c .before .before .before .before .before .before .before .before) .pre .0) (c .before .before .before .before .before .grown-to .ensures) (c .before .before .before .before .before .before .before .before .args .line .c) (c .before .before .before .before .before .before .before .before .args .line .m) (c .before .before .before .before .before .before .before .before .args .a .now) ((c .before .before .before .before .before .before .before .before) .pre .1) (c .before .before .line-up .ensures) in
@@ -38,5 +35,5 @@ line-to-spec =
     slice-relend-prefix-line-up
     slice-aggregate-line-up
     line-up-requires
-    same-length
+    (λ c. search needs)
     returns)

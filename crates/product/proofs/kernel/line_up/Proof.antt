@@ -41,9 +41,6 @@ line-rows-requires c κs =
     let l = lined-rows ((c .before .before .before .before) .pre .0) (ap (λ (l : List ℕ). at l (c .before .before .before .before .args .v)) (c .before .strides-of .ensures)) refl refl ((c .before .before .before .before) .pre .1) in
     (record { turns = t .turns; full = t .full; room = t .room; small = omega (arith, t .small); most = omega (arith, t .most); pos = t .pos }, (omega (arith, l), omega (arith, l)))
 
-same-length : tie.Need-same-length
-same-length c = search needs
-
 returns : tie.Need-returns
 returns c = lined-is ((c .before .before .before .before .before .before .before) .pre .0) (ap (λ (l : List ℕ). at l (c .before .before .before .before .before .before .before .args .v)) (c .before .before .before .before .strides-of .ensures)) refl refl (c .before .before .before .before .before .before .before .args .c) (c .before .before .before .before .before .before .before .args .m) (c .before .before .before .before .before .before .before .args .a .now) (c .before .before .line-rows .ensures)
 
@@ -61,5 +58,5 @@ line-up-spec =
     array-read-line-rows-2
     mul-line-rows-4
     line-rows-requires
-    same-length
+    (λ c. search needs)
     returns)

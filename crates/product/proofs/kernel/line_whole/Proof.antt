@@ -31,32 +31,17 @@ big c =
 raise-to-requires : tie.Need-raise-to-requires
 raise-to-requires c κs = (c .before .before .before .before .before) .pre .raises
 
-same-length : tie.Need-same-length
-same-length c = search needs
-
 returns : tie.Need-returns
 returns c = line-raised (c .before .before .before .before .before .before .before .before .args .limits) (c .before .before .before .before .before .before .before .before .args .line) (block (c .before .before .before .before .before .before .before .before .args .n) (c .before .before .before .before .before .before .before .before .args .a .now)) (c .before .before .before .before .if1 .taken) (c .before .before .raise-to .ensures)
 
-keep-requires : tie.Need-keep-requires
-keep-requires c κs = search needs
-
 linear-product-requires : tie.Need-linear-product-requires
 linear-product-requires c κs = whole-room (c .before .before .before .before .before .before .before .before .before .before .before .args .a .now) ((c .before .before .before .before .before .before .before .before .before .before .before) .pre) refl (c .before .before .before .before .keep .ensures)
-
-same-length-2 : tie.Need-same-length-2
-same-length-2 c = search needs
-
-same-length-3 : tie.Need-same-length-3
-same-length-3 c = search needs
 
 returns-2 : tie.Need-returns-2
 returns-2 c = whole-line (c .before .before .before .before .before .before .before .before .before .before .before .before .before .before .before .before .args .a .now) ((c .before .before .before .before .before .before .before .before .before .before .before .before .before .before .before .before) .pre) refl (c .before .before .before .before .before .before .before .before .before .keep .ensures) (λ y. linearProduct (λ x. productOf 0 (c .before .before .before .before .before .before .before .before .before .before .before .before .before .before .before .before .args .limits) x (constantBlock (c .before .before .before .before .before .before .before .before .before .before .before .before .before .before .before .before .args .line .c))) (c .before .before .before .before .before .before .before .before .before .before .before .before .before .before .before .before .args .limits) (c .before .before .before .before .before .before .before .before .before .before .before .before .before .before .before .before .args .line) y) (c .before .before .before .before .linear-product .ensures)
 
 line-to-requires : tie.Need-line-to-requires
 line-to-requires c κs = ((c .before .before .before .before .before .before) .pre .raises, big (c .before))
-
-same-length-4 : tie.Need-same-length-4
-same-length-4 c = search needs
 
 returns-3 : tie.Need-returns-3
 returns-3 c = line-scaled (c .before .before .before .before .before .before .before .before .before .args .limits) (c .before .before .before .before .before .before .before .before .before .args .line) (block (c .before .before .before .before .before .before .before .before .before .args .n) (c .before .before .before .before .before .before .before .before .before .args .a .now)) (c .before .before .before .before .before .if1 .left) (tests (c .before .before .before .before) .1) (big (c .before .before .before .before)) (c .before .before .line-to .ensures)
@@ -66,13 +51,13 @@ line-whole-spec =
     tie.close
     (tie.spec
     raise-to-requires
-    same-length
+    (λ c. search needs)
     returns
-    keep-requires
+    (λ c κs. search needs)
     linear-product-requires
-    same-length-2
-    same-length-3
+    (λ c. search needs)
+    (λ c. search needs)
     returns-2
     line-to-requires
-    same-length-4
+    (λ c. search needs)
     returns-3)

@@ -22,12 +22,6 @@ same-a c = sym (c .before .before .is-same .ensures) ∙ and-left (c .before .be
 same-b : (c : tie.Then2) → sameLengths ((c .before .before .before .before .before .before .before .before .before .before .before .before) .args .lb) (c .before .before .before .before .before .before .cut-to2 .result) ≡ true
 same-b c = sym (c .before .is-same2 .ensures) ∙ and-right (c .before .before .is-same .result) (c .before .is-same2 .result) (c .if2 .taken)
 
-cut-to-requires : tie.Need-cut-to-requires
-cut-to-requires c κs = search needs
-
-cut-to-requires-2 : tie.Need-cut-to-requires-2
-cut-to-requires-2 c κs = search needs
-
 is-zero-requires : tie.Need-is-zero-requires
 is-zero-requires c κs = times-any ((c .before .before .before .before .before .before) .pre) .0
 
@@ -37,28 +31,13 @@ is-zero-requires-2 c κs = times-any ((c .before .before .before .before .before
 zero-to-requires : tie.Need-zero-to-requires
 zero-to-requires c κs = let p = (c .before .before .before .before .before .before .before .before .before .before) .pre in omega (arith, times-some p, p .out)
 
-same-length : tie.Need-same-length
-same-length c = search needs
-
 returns : tie.Need-returns
 returns c =
     let a = (c .before .before .before .before .before .before .before .before .before .before .before .before .before) .args in
     put-stands (zero-put (a .limits) (block (a .la) (a .a .now)) (block (a .lb) (a .b .now)) (sym (zeros (c .before .before .before .before .before)) ∙ c .before .before .before .before .if1 .taken) (c .before .before .zero-to .ensures))
 
-is-same-requires : tie.Need-is-same-requires
-is-same-requires c κs = search needs
-
-is-same-requires-2 : tie.Need-is-same-requires-2
-is-same-requires-2 c κs = search needs
-
 product-whole-requires : tie.Need-product-whole-requires
 product-whole-requires c κs = times-whole ((c .before .before .before .before .before .before .before .before .before .before .before .before .before .before) .pre) (c .before .before .before .before .before .before .before .before .before .cut-to .ensures) (c .before .before .before .before .before .before .before .before .cut-to2 .ensures) (same-a (c .before .before)) (same-b (c .before .before))
-
-same-length-2 : tie.Need-same-length-2
-same-length-2 c = search needs
-
-same-length-3 : tie.Need-same-length-3
-same-length-3 c = search needs
 
 returns-2 : tie.Need-returns-2
 returns-2 c =
@@ -85,12 +64,6 @@ mul-product c = omega (arith, times-small ((c .before .before .before .before .b
 product-requires : tie.Need-product-requires
 product-requires c κs = times-room ((c .before .before .before .before .before .before .before .before .before .before .before .before .before .before .before .before .before .before .before .before) .pre) (c .before .before .before .before .before .before .before .before .before .before .before .before .before .before .before .cut-to .ensures) (c .before .before .before .before .before .before .before .before .before .before .before .before .before .before .cut-to2 .ensures) (c .before .before .before .before .before .before .load-two .kept .1 .1 .1 .1 .1 .1 .1 .0) (c .before .before .before .count-of .ensures) (c .before .before .count-of2 .ensures)
 
-same-length-4 : tie.Need-same-length-4
-same-length-4 c = search needs
-
-same-length-5 : tie.Need-same-length-5
-same-length-5 c = search needs
-
 returns-3 : tie.Need-returns-3
 returns-3 c =
     let a = (c .before .before .before .before .before .before .before .before .before .before .before .before .before .before .before .before .before .before .before .before .before .before .before .before .before) .args in
@@ -100,18 +73,18 @@ pub multiply-front-spec : {M : Type 1} → statement M
 multiply-front-spec =
     tie.close
     (tie.spec
-    cut-to-requires
-    cut-to-requires-2
+    (λ c κs. search needs)
+    (λ c κs. search needs)
     is-zero-requires
     is-zero-requires-2
     zero-to-requires
-    same-length
+    (λ c. search needs)
     returns
-    is-same-requires
-    is-same-requires-2
+    (λ c κs. search needs)
+    (λ c κs. search needs)
     product-whole-requires
-    same-length-2
-    same-length-3
+    (λ c. search needs)
+    (λ c. search needs)
     returns-2
     load-two-requires
     count-of-requires
@@ -119,6 +92,6 @@ multiply-front-spec =
     add-end
     mul-product
     product-requires
-    same-length-4
-    same-length-5
+    (λ c. search needs)
+    (λ c. search needs)
     returns-3)

@@ -6,9 +6,6 @@ use borrow.Author.Needs.{needs}
 use Rattle.product.proofs.kernel.multiply_into.Statement.{statement}
 use Rattle.product.proofs.kernel.multiply_into.Tie as tie
 
-multiply-front-requires : tie.Need-multiply-front-requires
-multiply-front-requires c κs = search needs
-
 count-of-requires : tie.Need-count-of-requires
 count-of-requires c κs = into-lens (c .before .before .before .before .before .before .before .before .before .before .before .pre) (c .before .before .before .before .before .before .before .before .before .before .before .args .a .now) (c .before .before .before .before .before .before .before .before .before .before .before .args .b .now) (c .before .before .before .before .multiply-front .ensures)
 
@@ -24,15 +21,6 @@ part-clear-start c = omega (arith, into-small (c .before .before .before .before
 part-clear-end : tie.Need-part-clear-end
 part-clear-end c = omega (arith, (c .before .before .before .before .before .multiply-front .kept .1 .1 .1 .1 .1 .1 .0), c .before .before .before .before .before .before .before .before .before .before .before .before .pre .out)
 
-clear-requires : tie.Need-clear-requires
-clear-requires c κs = search needs
-
-same-length : tie.Need-same-length
-same-length c = search needs
-
-same-length-2 : tie.Need-same-length-2
-same-length-2 c = search needs
-
 returns : tie.Need-returns
 returns c = let k = (c .before .before .before .before .before .before .before .before .before .multiply-front .kept .1 .1 .1 .1 .1 .1 .0) in let o = c .before .before .before .before .before .before .before .before .before .before .before .before .before .before .before .before .pre .out in (c .before .before .before .before .before .before .before .before .before .multiply-front .ensures .lengths, into-padded (c .before .before .before .before .before .before .before .before .before .before .before .before .before .before .before .before .pre) (c .before .before .before .before .before .before .before .before .before .before .before .before .before .before .before .before .args .a .now) (c .before .before .before .before .before .before .before .before .before .before .before .before .before .before .before .before .args .b .now) (c .before .before .before .before .before .before .before .before .before .multiply-front .ensures) (k ∙ o) (c .before .before .before .before .count-of .ensures) (c .before .before .clear .ensures) (simp (length-take, length-drop) (omega (arith, k, o, into-small (c .before .before .before .before .before .before .before .before .before .before .before .before .before .before .before .before .pre) (c .before .before .before .before .before .before .before .before .before .before .before .before .before .before .before .before .args .a .now) (c .before .before .before .before .before .before .before .before .before .before .before .before .before .before .before .before .args .b .now) (c .before .before .before .before .before .before .before .before .before .multiply-front .ensures) (c .before .before .before .before .count-of .ensures)))))
 
@@ -40,13 +28,13 @@ pub multiply-into-spec : {M : Type 1} → statement M
 multiply-into-spec =
     tie.close
     (tie.spec
-    multiply-front-requires
+    (λ c κs. search needs)
     count-of-requires
     mul-clear
     sub-clear
     part-clear-start
     part-clear-end
-    clear-requires
-    same-length
-    same-length-2
+    (λ c κs. search needs)
+    (λ c. search needs)
+    (λ c. search needs)
     returns)

@@ -9,17 +9,11 @@ use Rattle.product.proofs.kernel.plain.Tie as tie
 copied-requires : tie.Need-copied-requires
 copied-requires c κs = plain-room-b (c .before .before .before .before .before .pre)
 
-same-length : tie.Need-same-length
-same-length c = search needs
-
 returns : tie.Need-returns
 returns c = put-same (plain-0 (c .before .before .before .before .before .before .before .before .args .limits) (c .before .before .before .before .before .before .before .before .args .c) (block (c .before .before .before .before .before .before .before .before .args .la) (c .before .before .before .before .before .before .before .before .args .a .now)) (block (c .before .before .before .before .before .before .before .before .args .lb) (c .before .before .before .before .before .before .before .before .args .b .now)) (c .before .before .before .before .before .before .before .before .args .kind) (c .before .before .before .before .if1 .taken)) (c .before .before .copied .ensures)
 
 copied-requires-2 : tie.Need-copied-requires-2
 copied-requires-2 c κs = plain-room-a (c .before .before .before .before .before .before .pre)
-
-same-length-2 : tie.Need-same-length-2
-same-length-2 c = search needs
 
 returns-2 : tie.Need-returns-2
 returns-2 c = put-same (plain-1 (c .before .before .before .before .before .before .before .before .before .args .limits) (c .before .before .before .before .before .before .before .before .before .args .c) (block (c .before .before .before .before .before .before .before .before .before .args .la) (c .before .before .before .before .before .before .before .before .before .args .a .now)) (block (c .before .before .before .before .before .before .before .before .before .args .lb) (c .before .before .before .before .before .before .before .before .before .args .b .now)) (c .before .before .before .before .before .before .before .before .before .args .kind) (c .before .before .before .before .if2 .taken)) (c .before .before .copied2 .ensures)
@@ -27,17 +21,11 @@ returns-2 c = put-same (plain-1 (c .before .before .before .before .before .befo
 scaled-to-requires : tie.Need-scaled-to-requires
 scaled-to-requires c κs = (c .before .before .before .before .before .before .before .pre .full-b, plain-room-b (c .before .before .before .before .before .before .before .pre))
 
-same-length-3 : tie.Need-same-length-3
-same-length-3 c = search needs
-
 returns-3 : tie.Need-returns-3
 returns-3 c = put-same (plain-2 (c .before .before .before .before .before .before .before .before .before .before .args .limits) (c .before .before .before .before .before .before .before .before .before .before .args .c) (block (c .before .before .before .before .before .before .before .before .before .before .args .la) (c .before .before .before .before .before .before .before .before .before .before .args .a .now)) (block (c .before .before .before .before .before .before .before .before .before .before .args .lb) (c .before .before .before .before .before .before .before .before .before .before .args .b .now)) (c .before .before .before .before .before .before .before .before .before .before .args .kind) (c .before .before .before .before .if3 .taken)) (c .before .before .scaled-to .ensures)
 
 scaled-to-requires-2 : tie.Need-scaled-to-requires-2
 scaled-to-requires-2 c κs = (c .before .before .before .before .before .before .before .before .pre .full-a, plain-room-a (c .before .before .before .before .before .before .before .before .pre))
-
-same-length-4 : tie.Need-same-length-4
-same-length-4 c = search needs
 
 returns-4 : tie.Need-returns-4
 returns-4 c = put-same (plain-3 (c .before .before .before .before .before .before .before .before .before .before .before .args .limits) (c .before .before .before .before .before .before .before .before .before .before .before .args .c) (block (c .before .before .before .before .before .before .before .before .before .before .before .args .la) (c .before .before .before .before .before .before .before .before .before .before .before .args .a .now)) (block (c .before .before .before .before .before .before .before .before .before .before .before .args .lb) (c .before .before .before .before .before .before .before .before .before .before .before .args .b .now)) (c .before .before .before .before .before .before .before .before .before .before .before .args .kind) (c .before .before .before .before .if4 .taken)) (c .before .before .scaled-to2 .ensures)
@@ -57,9 +45,6 @@ slice-aggregate-general c = sym (length-take-le _ (c .before .before .before .be
 general-requires : tie.Need-general-requires
 general-requires c κs = plain-general (c .before .before .before .before .before .before .before .before .before .before .pre) (c .before .before .sum-shape .ensures) (length-take-le _ (c .before .before .before .before .before .before .before .before .before .before .args .out .now) (plain-fits (c .before .before .before .before .before .before .before .before .before .before .pre) (c .before .before .sum-shape .ensures) (c .before .count-of .ensures)) ∙ c .before .count-of .ensures)
 
-same-length-5 : tie.Need-same-length-5
-same-length-5 c = search needs
-
 returns-5 : tie.Need-returns-5
 returns-5 c = put-same (plain-6 (c .before .before .before .before .before .before .before .before .before .before .before .before .before .args .limits) (c .before .before .before .before .before .before .before .before .before .before .before .before .before .args .c) (block (c .before .before .before .before .before .before .before .before .before .before .before .before .before .args .la) (c .before .before .before .before .before .before .before .before .before .before .before .before .before .args .a .now)) (block (c .before .before .before .before .before .before .before .before .before .before .before .before .before .args .lb) (c .before .before .before .before .before .before .before .before .before .before .before .before .before .args .b .now)) (c .before .before .before .before .before .before .before .before .before .before .before .before .before .args .kind) (c .before .before .before .before .before .before .before .before .before .if1 .left) (c .before .before .before .before .before .before .before .before .if2 .left) (c .before .before .before .before .before .before .before .if3 .left) (c .before .before .before .before .before .before .if4 .left)) (put-front {xs = c .before .before .general .last .1 .1 .1 .1 .1 .0} (c .before .before .before .before .count-of .result) (c .before .before .before .before .before .sum-shape .ensures) (rw (← c .before .before .before .before .before .sum-shape .ensures) (c .before .before .general .ensures)) (c .before .before .general .kept .1 .1 .1 .1 .1 .0 ∙ length-take-le (c .before .before .before .before .count-of .result) (c .before .before .before .before .before .before .before .before .before .before .before .before .before .args .out .now) (plain-fits (c .before .before .before .before .before .before .before .before .before .before .before .before .before .pre) (c .before .before .before .before .before .sum-shape .ensures) (c .before .before .before .before .count-of .ensures))) refl)
 
@@ -68,21 +53,21 @@ plain-spec =
     tie.close
     (tie.spec
     copied-requires
-    same-length
+    (λ c. search needs)
     returns
     copied-requires-2
-    same-length-2
+    (λ c. search needs)
     returns-2
     scaled-to-requires
-    same-length-3
+    (λ c. search needs)
     returns-3
     scaled-to-requires-2
-    same-length-4
+    (λ c. search needs)
     returns-4
     sum-shape-requires
     count-of-requires
     slice-relend-prefix-general
     slice-aggregate-general
     general-requires
-    same-length-5
+    (λ c. search needs)
     returns-5)

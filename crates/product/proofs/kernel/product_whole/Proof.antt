@@ -16,12 +16,6 @@ choose-requires c κs = let p = (c .before .before .before .before) .pre .plain 
 line-whole-requires : tie.Need-line-whole-requires
 line-whole-requires c κs = let a = (c .before .before .before .before .before .before .before .before .before) .args in whole-four (a .a .now) (a .b .now) ((c .before .before .before .before .before .before .before .before .before) .pre) (c .before .before .before .before .choose .result) (c .before .before .before .before .choose .ensures) (c .before .before .if1 .taken)
 
-same-length : tie.Need-same-length
-same-length c = search needs
-
-same-length-2 : tie.Need-same-length-2
-same-length-2 c = search needs
-
 returns : tie.Need-returns
 returns c =
     let a = (c .before .before .before .before .before .before .before .before .before .before .before .before .before .before) .args in
@@ -30,22 +24,10 @@ returns c =
 line-whole-requires-2 : tie.Need-line-whole-requires-2
 line-whole-requires-2 c κs = let a = (c .before .before .before .before .before .before .before .before .before .before) .args in whole-five (a .a .now) (a .b .now) ((c .before .before .before .before .before .before .before .before .before .before) .pre) (c .before .before .before .before .before .choose .result) (c .before .before .before .before .before .choose .ensures) (c .before .before .if2 .taken)
 
-same-length-3 : tie.Need-same-length-3
-same-length-3 c = search needs
-
-same-length-4 : tie.Need-same-length-4
-same-length-4 c = search needs
-
 returns-2 : tie.Need-returns-2
 returns-2 c =
     let a = (c .before .before .before .before .before .before .before .before .before .before .before .before .before .before .before) .args in
     stands-five (a .limits) (block (a .la) (a .a .now)) (block (a .lb) (a .b .now)) (c .before .before .before .before .before .before .before .before .before .before .choose .result) (c .before .before .before .before .before .before .before .before .before .before .choose .ensures) (c .before .before .before .before .before .before .before .if2 .taken) (c .before .before .before .before .line-whole2 .ensures)
-
-plain-requires : tie.Need-plain-requires
-plain-requires c κs = search needs
-
-same-length-5 : tie.Need-same-length-5
-same-length-5 c = search needs
 
 returns-3 : tie.Need-returns-3
 returns-3 c =
@@ -58,13 +40,13 @@ product-whole-spec =
     (tie.spec
     choose-requires
     line-whole-requires
-    same-length
-    same-length-2
+    (λ c. search needs)
+    (λ c. search needs)
     returns
     line-whole-requires-2
-    same-length-3
-    same-length-4
+    (λ c. search needs)
+    (λ c. search needs)
     returns-2
-    plain-requires
-    same-length-5
+    (λ c κs. search needs)
+    (λ c. search needs)
     returns-3)

@@ -11,26 +11,8 @@ use Rattle.product.proofs.kernel.raise.Tie as tie
 strides-of-requires : tie.Need-strides-of-requires
 strides-of-requires c κs = c .before .before .pre .from
 
-mul-s : tie.Need-mul-s
-mul-s c = search needs
-
-array-read-s : tie.Need-array-read-s
-array-read-s c = search needs
-
-mul-raise-rows : tie.Need-mul-raise-rows
-mul-raise-rows c = search needs
-
-array-read-raise-rows : tie.Need-array-read-raise-rows
-array-read-raise-rows c = search needs
-
 mul-raise-rows-2 : tie.Need-mul-raise-rows-2
 mul-raise-rows-2 c = omega (arith, raise-small (c .before .before .before .pre) (ap (λ (l : List ℕ). at l (c .before .before .before .args .v)) (c .strides-of .ensures)) refl refl .0)
-
-mul-raise-rows-3 : tie.Need-mul-raise-rows-3
-mul-raise-rows-3 c = search needs
-
-array-read-raise-rows-2 : tie.Need-array-read-raise-rows-2
-array-read-raise-rows-2 c = search needs
 
 mul-raise-rows-4 : tie.Need-mul-raise-rows-4
 mul-raise-rows-4 c = omega (arith, raise-small (c .before .before .before .pre) (ap (λ (l : List ℕ). at l (c .before .before .before .args .v)) (c .strides-of .ensures)) refl refl .1)
@@ -40,9 +22,6 @@ raise-rows-requires c κs =
     let t = raise-rows (c .before .before .before .before .pre) (ap (λ (l : List ℕ). at l (c .before .before .before .before .args .v)) (c .before .strides-of .ensures)) refl refl in
     record { turns = t .turns; full = t .full; room = t .room; small = omega (arith, t .small); most = omega (arith, t .most); pos = t .pos }
 
-same-length : tie.Need-same-length
-same-length c = search needs
-
 returns : tie.Need-returns
 returns c = raise-is (c .before .before .before .before .before .before .before .pre) (ap (λ (l : List ℕ). at l (c .before .before .before .before .before .before .before .args .v)) (c .before .before .before .before .strides-of .ensures)) refl refl (c .before .before .before .before .before .before .before .args .m) (c .before .before .before .before .before .before .before .args .a .now) (c .before .before .raise-rows .ensures)
 
@@ -51,14 +30,14 @@ raise-spec =
     tie.close
     (tie.spec
     strides-of-requires
-    mul-s
-    array-read-s
-    mul-raise-rows
-    array-read-raise-rows
+    (λ c. search needs)
+    (λ c. search needs)
+    (λ c. search needs)
+    (λ c. search needs)
     mul-raise-rows-2
-    mul-raise-rows-3
-    array-read-raise-rows-2
+    (λ c. search needs)
+    (λ c. search needs)
     mul-raise-rows-4
     raise-rows-requires
-    same-length
+    (λ c. search needs)
     returns)

@@ -20,9 +20,6 @@ slice-aggregate-raise c = sym (length-take-le _ (c .before .before .before .befo
 raise-requires : tie.Need-raise-requires
 raise-requires c κs = raises-raise (c .before .before .before .before .before .pre) (c .before .before .grown-to .ensures) (length-take-le _ (c .before .before .before .before .before .args .out .now) (raises-fits (c .before .before .before .before .before .pre) (c .before .before .grown-to .ensures) (c .before .count-of .ensures)) ∙ c .before .count-of .ensures)
 
-same-length : tie.Need-same-length
-same-length c = search needs
-
 returns : tie.Need-returns
 returns c = let j = raised-is (c .before .before .before .before .before .before .before .before .args .limits) (c .before .before .before .before .before .before .before .before .args .n) (c .before .before .before .before .before .before .before .before .args .line .variable) (c .before .before .before .before .before .before .before .before .args .line .m) (c .before .before .before .before .before .before .before .before .args .a .now) (c .before .before .before .before .before .grown-to .ensures) (c .before .before .raise .ensures) in put-front (c .before .before .before .before .count-of .result) (j .0) (j .1) (c .before .before .raise .kept .1 .1 .1 .1 .1 .0 ∙ length-take-le _ (c .before .before .before .before .before .before .before .before .args .out .now) (raises-fits (c .before .before .before .before .before .before .before .before .pre) (c .before .before .before .before .before .grown-to .ensures) (c .before .before .before .before .count-of .ensures))) refl
 
@@ -35,5 +32,5 @@ raise-to-spec =
     slice-relend-prefix-raise
     slice-aggregate-raise
     raise-requires
-    same-length
+    (λ c. search needs)
     returns)

@@ -12,9 +12,6 @@ use Rattle.product.proofs.own.multiply_short.Tie as tie
 counted : (c : tie.After-stored-of) → c .stored-of .result ≡ stored (headerOf (c .before .before .before .before .before .before .args .ah))
 counted c = c .stored-of .ensures ∙ ap stored (c .before .before .header-of .ensures)
 
-header-of-requires : tie.Need-header-of-requires
-header-of-requires c κs = search needs
-
 stored-of-requires : tie.Need-stored-of-requires
 stored-of-requires c κs = rw (c .before .header-of .ensures) (c .before .before .before .before .before .pre .good .regular .rules)
 
@@ -39,15 +36,6 @@ slice-relend-prefix-clear c = omega (arith, counted (c .before .before .before .
 slice-aggregate-clear : tie.Need-slice-aggregate-clear
 slice-aggregate-clear c = sym (length-take-le _ _ (omega (arith, counted (c .before .before .before .before .before .before), c .before .before .before .before .before .before .before .before .before .before .before .before .pre .room)))
 
-clear-requires : tie.Need-clear-requires
-clear-requires c κs = search needs
-
-same-length : tie.Need-same-length
-same-length c = search needs
-
-same-length-2 : tie.Need-same-length-2
-same-length-2 c = search needs
-
 returns : tie.Need-returns
 returns c = (refl, (short-written (headerOf (c .before .before .before .before .before .before .before .before .before .before .before .before .before .before .before .args .ah)) (counted (c .before .before .before .before .before .before .before .before .before)) (c .before .before .before .before .before .before .before .before .before .before .before .before .before .before .before .args .out .now) (c .before .before .before .before .before .before .before .before .before .before .before .before .before .before .before .args .w) (c .before .before .before .before .before .before .before .before .before .before .before .header-of .ensures) (c .before .before .before .before .before .before .before .before .before .before .before .before .before .before .before .args .a .now) (c .before .before .before .before .before .before .short-into .ensures), short-cleared (headerOf (c .before .before .before .before .before .before .before .before .before .before .before .before .before .before .before .args .ah)) (counted (c .before .before .before .before .before .before .before .before .before)) (c .before .before .before .before .before .before .before .before .before .before .before .before .before .before .before .args .scratch .now) (c .before .before .clear .ensures) (length-take-le _ _ (omega (arith, counted (c .before .before .before .before .before .before .before .before .before), c .before .before .before .before .before .before .before .before .before .before .before .before .before .before .before .pre .room)))))
 
@@ -55,7 +43,7 @@ pub multiply-short-spec : {M : Type 1} → statement M
 multiply-short-spec =
     tie.close
     (tie.spec
-    header-of-requires
+    (λ c κs. search needs)
     stored-of-requires
     mul-room
     slice-aggregate-short-into
@@ -64,7 +52,7 @@ multiply-short-spec =
     short-into-requires
     slice-relend-prefix-clear
     slice-aggregate-clear
-    clear-requires
-    same-length
-    same-length-2
+    (λ c κs. search needs)
+    (λ c. search needs)
+    (λ c. search needs)
     returns)

@@ -13,18 +13,6 @@ use Rattle.product.proofs.own.own_count.Tie as tie
 tested : (c : tie.Else1) → ((c .before .before .is-good .result && c .before .keeps-header .result) && eqb (c .before .before .before .before .before .args .bh % 2 ^ 13) 0) ≡ true
 tested c = not-false _ (rw (and-mask (c .before .before .before .before .before .args .bh) 13) at (c .if1 .left))
 
-header-of-requires : tie.Need-header-of-requires
-header-of-requires c κs = search needs
-
-header-of-requires-2 : tie.Need-header-of-requires-2
-header-of-requires-2 c κs = search needs
-
-is-good-requires : tie.Need-is-good-requires
-is-good-requires c κs = search needs
-
-keeps-header-requires : tie.Need-keeps-header-requires
-keeps-header-requires c κs = search needs
-
 returns : tie.Need-returns
 returns c = λ z. absurd (z refl)
 
@@ -47,10 +35,10 @@ pub own-count-spec : {M : Type 1} → statement M
 own-count-spec =
     tie.close
     (tie.spec
-    header-of-requires
-    header-of-requires-2
-    is-good-requires
-    keeps-header-requires
+    (λ c κs. search needs)
+    (λ c κs. search needs)
+    (λ c κs. search needs)
+    (λ c κs. search needs)
     returns
     stored-of-requires
     stored-of-requires-2

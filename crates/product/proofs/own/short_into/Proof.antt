@@ -10,17 +10,8 @@ use borrow.Author.Needs.{needs}
 use Rattle.product.proofs.own.short_into.Statement.{statement}
 use Rattle.product.proofs.own.short_into.Tie as tie
 
-scale-requires : tie.Need-scale-requires
-scale-requires c κs = search needs
-
-same-length : tie.Need-same-length
-same-length c = search needs
-
 returns : tie.Need-returns
 returns c = scaled-short (c .before .before .before .before .before .before .before .before .before .args .w) (c .before .before .before .before .before .before .before .before .before .args .t3) (c .before .before .before .before .before .before .before .before .before .args .a .now) (c .before .before .before .before .if1 .taken) (c .before .before .before .before .before .before .before .before .before .pre .full) (c .before .before .scale .ensures)
-
-strides-of-requires : tie.Need-strides-of-requires
-strides-of-requires c κs = search needs
 
 mul-s : tie.Need-mul-s
 mul-s c = omega (arith, c .before .before .before .before .before .before .pre .var (c .before .if1 .left))
@@ -40,9 +31,6 @@ mul-width-2 c = omega (arith, raise-small (short-raising (c .before .before .bef
 line-rows-requires : tie.Need-line-rows-requires
 line-rows-requires c κs = let t = short-raising (c .before .before .before .before .before .before .before .pre) (c .before .before .if1 .left) in (raise-rows t (ap (λ (l : List ℕ). at l (c .before .before .before .before .before .before .before .args .w .line .variable)) (c .before .strides-of .ensures)) refl refl, lined-rows t (ap (λ (l : List ℕ). at l (c .before .before .before .before .before .before .before .args .w .line .variable)) (c .before .strides-of .ensures)) refl refl (le-refl _))
 
-same-length-2 : tie.Need-same-length-2
-same-length-2 c = search needs
-
 returns-2 : tie.Need-returns-2
 returns-2 c = lined-short (c .before .before .before .before .before .before .before .before .before .before .args .w) (c .before .before .before .before .before .before .before .before .before .before .args .t3) (c .before .before .before .before .before .before .before .before .before .before .args .a .now) (c .before .before .before .before .before .if1 .left) (lined-is (short-raising (c .before .before .before .before .before .before .before .before .before .before .pre) (c .before .before .before .before .before .if1 .left)) (ap (λ (l : List ℕ). at l (c .before .before .before .before .before .before .before .before .before .before .args .w .line .variable)) (c .before .before .before .before .strides-of .ensures)) refl refl (c .before .before .before .before .before .before .before .before .before .before .args .w .line .c) (c .before .before .before .before .before .before .before .before .before .before .args .w .line .m) (c .before .before .before .before .before .before .before .before .before .before .args .a .now) (c .before .before .line-rows .ensures))
 
@@ -50,15 +38,15 @@ pub short-into-spec : {M : Type 1} → statement M
 short-into-spec =
     tie.close
     (tie.spec
-    scale-requires
-    same-length
+    (λ c κs. search needs)
+    (λ c. search needs)
     returns
-    strides-of-requires
+    (λ c κs. search needs)
     mul-s
     array-read-s
     mul-width
     array-read-width
     mul-width-2
     line-rows-requires
-    same-length-2
+    (λ c. search needs)
     returns-2)

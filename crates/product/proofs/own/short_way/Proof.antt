@@ -5,20 +5,8 @@ use borrow.Author.Needs.{needs}
 use Rattle.product.proofs.own.short_way.Statement.{statement}
 use Rattle.product.proofs.own.short_way.Tie as tie
 
-own-count-requires : tie.Need-own-count-requires
-own-count-requires c κs = search needs
-
-long-way-requires : tie.Need-long-way-requires
-long-way-requires c κs = search needs
-
 returns : tie.Need-returns
 returns c = λ z. absurd (z (c .long-way .ensures))
-
-header-of-requires : tie.Need-header-of-requires
-header-of-requires c κs = search needs
-
-header-of-requires-2 : tie.Need-header-of-requires-2
-header-of-requires-2 c κs = search needs
 
 stored-of-requires : tie.Need-stored-of-requires
 stored-of-requires c κs = owned-right (c .before .before .before .before .before .own-count .ensures (c .before .before .before .before .if1 .left)) (c .before .before .header-of2 .ensures)
@@ -39,11 +27,11 @@ pub short-way-spec : {M : Type 1} → statement M
 short-way-spec =
     tie.close
     (tie.spec
-    own-count-requires
-    long-way-requires
+    (λ c κs. search needs)
+    (λ c κs. search needs)
     returns
-    header-of-requires
-    header-of-requires-2
+    (λ c κs. search needs)
+    (λ c κs. search needs)
     stored-of-requires
     slice-aggregate-light-way
     slice-aggregate-light-way-2

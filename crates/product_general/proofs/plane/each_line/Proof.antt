@@ -41,9 +41,6 @@ sub-lines c = omega (arith, here-left (c))
 part-lines-start : tie.Need-part-lines-start Inv-loop μ-loop
 part-lines-start c = omega (arith, here-left (c))
 
-part-lines-end : tie.Need-part-lines-end Inv-loop μ-loop
-part-lines-end c = omega arith
-
 mul-lines-2 : tie.Need-mul-lines-2 Inv-loop μ-loop
 mul-lines-2 c = omega (arith, here-right (c .before))
 
@@ -52,9 +49,6 @@ sub-lines-2 c = omega (arith, here-right (c .before))
 
 part-lines-start-2 : tie.Need-part-lines-start-2 Inv-loop μ-loop
 part-lines-start-2 c = omega (arith, here-right (c .before))
-
-part-lines-end-2 : tie.Need-part-lines-end-2 Inv-loop μ-loop
-part-lines-end-2 c = omega arith
 
 lines-requires : tie.Need-lines-requires Inv-loop μ-loop
 lines-requires c κs =
@@ -95,11 +89,11 @@ each-line-spec =
     mul-lines
     sub-lines
     part-lines-start
-    part-lines-end
+    (λ c. omega arith)
     mul-lines-2
     sub-lines-2
     part-lines-start-2
-    part-lines-end-2
+    (λ c. omega arith)
     lines-requires
     add-j
     loop-less

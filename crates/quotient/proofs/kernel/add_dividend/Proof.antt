@@ -46,9 +46,6 @@ sub-join-block c = omega (arith, dividend-in ((c .before .before .before .before
 part-join-block-start : tie.Need-part-join-block-start
 part-join-block-start c = omega (arith, dividend-in ((c .before .before .before .before) .pre) (omega (arith, c .before .if1 .left)) (c .count-of .ensures))
 
-part-join-block-end : tie.Need-part-join-block-end
-part-join-block-end c = omega arith
-
 join-block-requires : tie.Need-join-block-requires
 join-block-requires c κs = adding-row ((c .before .before .before .before .before .before) .pre) (omega (arith, c .before .before .before .if1 .left)) (c .before .before .count-of .ensures) (simp (length-take, length-drop) (omega arith)) refl
 
@@ -75,7 +72,7 @@ add-dividend-spec =
     mul-join-block
     sub-join-block
     part-join-block-start
-    part-join-block-end
+    (λ c. omega arith)
     join-block-requires
     same-length
     returns-2)

@@ -11,12 +11,6 @@ use Rattle.quotient.proofs.kernel.divide_loaded.Reads as divide-loaded-
 use Rattle.shape.proofs.limits.cut_to.Reads as cut-to-reads
 use Rattle.shape_words.proofs.places.count_of.Reads as count-of-reads
 
-cut-to-requires : tie.Need-cut-to-requires
-cut-to-requires c κs = search needs
-
-cut-to-requires-2 : tie.Need-cut-to-requires-2
-cut-to-requires-2 c κs = search needs
-
 load-two-requires : tie.Need-load-two-requires
 load-two-requires c κs = into-two (c .before .before .before .before .before .before .before .pre) (c .before .before .cut-to .ensures) (c .before .cut-to2 .ensures)
 
@@ -29,12 +23,6 @@ count-of-requires-2 c κs = right-lengths (c .before .before .before .before .be
 divide-loaded-requires : tie.Need-divide-loaded-requires
 divide-loaded-requires c κs = (rw (c .before .before .before .before .before .before .load-two .kept .1 .1 .1 .1 .1 .1 .1 .0) (into-recur (c .before .before .before .before .before .before .before .before .before .before .before .before .before .before .pre) (c .before .before .before .before .before .before .before .before .before .cut-to .ensures) (c .before .before .before .before .before .before .before .before .cut-to2 .ensures) (c .before .before .before .count-of .ensures) (c .before .before .count-of2 .ensures)), same-count (c .before .before .before .before .before .before .before .before .before .before .before .before .before .before .pre) (c .before .before .before .before .before .before .before .before .before .cut-to .ensures) (c .before .before .before .before .before .before .before .before .cut-to2 .ensures) (c .before .before .before .count-of .ensures) (c .before .before .count-of2 .ensures))
 
-same-length : tie.Need-same-length
-same-length c = search needs
-
-same-length-2 : tie.Need-same-length-2
-same-length-2 c = search needs
-
 returns : tie.Need-returns
 returns c = into-loaded (c .before .before .before .before .before .before .before .before .before .before .before .before .before .before .before .before .before .before .before .pre) (c .before .before .before .before .before .before .before .before .before .before .before .before .before .before .cut-to .ensures) (c .before .before .before .before .before .before .before .before .before .before .before .before .before .cut-to2 .ensures) (c .before .before .before .before .before .before .before .before .count-of .ensures) (c .before .before .before .before .before .before .before .count-of2 .ensures) (c .before .before .before .before .before .before .before .before .before .before .before .before .before .before .before .before .before .before .before .args .a .now) (c .before .before .before .before .before .before .before .before .before .before .before .before .before .before .before .before .before .before .before .args .b .now) (c .before .before .before .before .before .before .before .before .before .before .before .load-two .last .1 .1 .1 .1 .1 .1 .1 .0) (c .before .before .before .before .before .before .before .before .before .before .before .load-two .ensures) (c .before .before .before .before .before .before .before .before .before .before .before .load-two .kept .1 .1 .1 .1 .1 .1 .1 .0) (c .before .before .before .before .divide-loaded .ensures)
 
@@ -42,12 +30,12 @@ pub divide-into-spec : {M : Type 1} → statement M
 divide-into-spec =
     tie.close
     (tie.spec
-    cut-to-requires
-    cut-to-requires-2
+    (λ c κs. search needs)
+    (λ c κs. search needs)
     load-two-requires
     count-of-requires
     count-of-requires-2
     divide-loaded-requires
-    same-length
-    same-length-2
+    (λ c. search needs)
+    (λ c. search needs)
     returns)

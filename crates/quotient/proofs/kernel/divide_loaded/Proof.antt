@@ -14,9 +14,6 @@ use Rattle.quotient.proofs.kernel.divide_loaded.Lts as lts
 use Rattle.quotient.proofs.kernel.divide_constant.Reads as divide-constant-reads
 use Rattle.quotient.proofs.kernel.recur.Reads as recur-reads
 
-mul-divide-constant : tie.Need-mul-divide-constant
-mul-divide-constant c = search needs
-
 slice-read-divide-constant : tie.Need-slice-read-divide-constant
 slice-read-divide-constant c = omega (arith, recurring-fits (c .before .before .before .before .pre .0) .1)
 
@@ -29,24 +26,9 @@ slice-aggregate-divide-constant c = sym (length-take-le _ _ (recurring-fits (c .
 divide-constant-requires : tie.Need-divide-constant-requires
 divide-constant-requires c κs = c .before .before .before .before .before .before .pre .1 (c .before .before .before .if1 .taken) ∙ sym (length-take-le _ _ (recurring-fits (c .before .before .before .before .before .before .pre .0) .0))
 
-same-length : tie.Need-same-length
-same-length c = search needs
-
-same-length-2 : tie.Need-same-length-2
-same-length-2 c = search needs
-
 returns : tie.Need-returns
 unfolding loadedQuotient
 returns c = c .before .before .divide-constant .ensures ∙ simp (eq-eqb _ _ (c .before .before .before .before .before .before .if1 .taken))
-
-recur-requires : tie.Need-recur-requires
-recur-requires c κs = search needs
-
-same-length-3 : tie.Need-same-length-3
-same-length-3 c = search needs
-
-same-length-4 : tie.Need-same-length-4
-same-length-4 c = search needs
 
 returns-2 : tie.Need-returns-2
 unfolding loadedQuotient
@@ -56,15 +38,15 @@ pub divide-loaded-spec : {M : Type 1} → statement M
 divide-loaded-spec =
     tie.close
     (tie.spec
-    mul-divide-constant
+    (λ c. search needs)
     slice-read-divide-constant
     slice-reshare-prefix-divide-constant
     slice-aggregate-divide-constant
     divide-constant-requires
-    same-length
-    same-length-2
+    (λ c. search needs)
+    (λ c. search needs)
     returns
-    recur-requires
-    same-length-3
-    same-length-4
+    (λ c κs. search needs)
+    (λ c. search needs)
+    (λ c. search needs)
     returns-2)

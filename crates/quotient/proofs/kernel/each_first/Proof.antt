@@ -35,12 +35,6 @@ kept c = let n = c .gather-first .kept .1 .1 .1 .1 .1 .1 .1 .1 .1 .1 .1 .1 .0 �
 room2 : (c : tie.After-gather-first Inv-loop μ-loop) → Room (c .before .before .before .before .before .before .before .args .ly) (c .before .before .before .before .before .before .before .args .t10) 0 (c .before .before .before .before .before .before .before .args .p) (c .before .before .before .before .before .before .before .args .p + count (c .before .before .before .before .before .before .before .args .t10)) (c .before .before .before .before .before .before .before .args .q) (c .before .before .before .before .before .before .before .args .b) (c .before .before .before .before .before .before .before .args .f) (length (c .gather-first .last .0)) (length (c .gather-first .last .1 .1 .1 .1 .1 .1 .1 .1 .1 .1 .1 .1 .0 ++ drop (at (c .before .before .before .before .before .before .before .args .t11) 0) (c .before .before .before .before .loop .row)))
 room2 c = rw (kept c, c .gather-first .ensures .len, c .before .before .before .before .loop .inv .2 .len) ((c .before .before .before .before .before .before .before) .pre .1 .1)
 
-array-read-n : tie.Need-array-read-n Inv-loop μ-loop
-array-read-n c = omega arith
-
-array-read-s : tie.Need-array-read-s Inv-loop μ-loop
-array-read-s c = omega arith
-
 add-end : tie.Need-add-end Inv-loop μ-loop
 add-end c = omega (arith, level-top ((c .before .before) .pre .0) ((c .before .before) .pre .1 .1))
 
@@ -89,8 +83,8 @@ each-first-spec =
     (tie.spec
     Inv-loop
     μ-loop
-    array-read-n
-    array-read-s
+    (λ c. omega arith)
+    (λ c. omega arith)
     add-end
     loop-holds
     mul-at

@@ -8,9 +8,6 @@ use borrow.Author.Needs.{needs}
 use Rattle.quotient.proofs.kernel.gather_first.Statement.{statement}
 use Rattle.quotient.proofs.kernel.gather_first.Tie as tie
 
-array-read-s : tie.Need-array-read-s
-array-read-s c = omega arith
-
 mul-end : tie.Need-mul-end
 mul-end c = let t = (c .before .before) .pre .1 .1 in let a = t .apart in let m = t .room in let d = t .divisor in let o = t .before in omega (arith, row-fits ((c .before .before) .pre .0) (c .before .before .args .work .now) ((c .before .before) .pre .1 .1))
 
@@ -19,9 +16,6 @@ add-end c = let t = (c .before .before) .pre .1 .1 in let a = t .apart in let m 
 
 mul-taken-row : tie.Need-mul-taken-row
 mul-taken-row c = let t = (c .before .before) .pre .1 .1 in let a = t .apart in let m = t .room in let d = t .divisor in let o = t .before in omega (arith, row-fits ((c .before .before) .pre .0) (c .before .before .args .work .now) ((c .before .before) .pre .1 .1))
-
-sub-taken-row : tie.Need-sub-taken-row
-sub-taken-row c = omega arith
 
 part-taken-row-start : tie.Need-part-taken-row-start
 part-taken-row-start c = let t = (c .before .before .before) .pre .1 .1 in let a = t .apart in let m = t .room in let d = t .divisor in let o = t .before in omega (arith, row-fits ((c .before .before .before) .pre .0) (c .before .before .before .args .work .now) ((c .before .before .before) .pre .1 .1))
@@ -43,9 +37,6 @@ part-taken-row-end-2 c = let t = (c .before .before .before .before) .pre .1 .1 
 
 taken-row-requires : tie.Need-taken-row-requires
 taken-row-requires c κs = ((c .before .before .before .before .before .before) .pre .0, gather-taking ((c .before .before .before .before .before .before) .pre .0) (c .before .before .before .before .before .before .args .work .now) ((c .before .before .before .before .before .before) .pre .1 .1))
-
-turn-requires : tie.Need-turn-requires
-turn-requires c κs = search needs
 
 slice-reshare-prefix-add-dividend : tie.Need-slice-reshare-prefix-add-dividend
 slice-reshare-prefix-add-dividend c = first-fits ((c .before .before .before .before .before .before .before .before .before .before .before .before .before) .pre .0) ((c .before .before .before .before .before .before .before .before .before .before .before .before .before) .pre .1 .0) (c .before .before .before .before .before .before .before .before .before .before .before .before .before .args .work .now) ((c .before .before .before .before .before .before .before .before .before .before .before .before .before) .pre .1 .1)
@@ -74,9 +65,6 @@ part-copy-end c = let m = (c .before .before .before .before .before .before .be
 copy-requires : tie.Need-copy-requires
 copy-requires c κs = let m = (c .before .before .before .before .before .before .before .before .before .before .before .before .before .before .before .before .before .before .before .before) .pre .1 .1 .room in let e = first-stride ((c .before .before .before .before .before .before .before .before .before .before .before .before .before .before .before .before .before .before .before .before) .pre .0) ((c .before .before .before .before .before .before .before .before .before .before .before .before .before .before .before .before .before .before .before .before) .pre .1 .0) (c .before .before .before .before .before .before .before .before .before .before .before .before .before .before .before .before .before .before .before .before .args .work .now) ((c .before .before .before .before .before .before .before .before .before .before .before .before .before .before .before .before .before .before .before .before) .pre .1 .1) in let n = c .before .before .before .before .add-dividend .kept .1 .1 .1 .1 .0 ∙ (c .before .before .before .before .before .before .before .before .before .turn .kept .0 ∙ (c .before .before .before .before .before .before .before .before .before .before .before .before .before .taken-row .kept .1 .1 .1 .1 .1 .1 .1 .1 .0 ∙ (c .before .before .before .before .before .before .before .before .before .before .before .before .before .before .before .before .before .before .before .before) .pre .1 .1 .row)) in simp (length-take, length-drop) (omega (arith, n))
 
-same-length : tie.Need-same-length
-same-length c = search needs
-
 same-length-2 : tie.Need-same-length-2
 same-length-2 c = c .before .before .before .before .before .before .before .add-dividend .kept .1 .1 .1 .1 .0 ∙ (c .before .before .before .before .before .before .before .before .before .before .before .before .turn .kept .0 ∙ c .before .before .before .before .before .before .before .before .before .before .before .before .before .before .before .before .taken-row .kept .1 .1 .1 .1 .1 .1 .1 .1 .0)
 
@@ -87,11 +75,11 @@ pub gather-first-spec : {M : Type 1} → statement M
 gather-first-spec =
     tie.close
     (tie.spec
-    array-read-s
+    (λ c. omega arith)
     mul-end
     add-end
     mul-taken-row
-    sub-taken-row
+    (λ c. omega arith)
     part-taken-row-start
     part-taken-row-end
     mul-taken-row-2
@@ -99,7 +87,7 @@ gather-first-spec =
     part-taken-row-start-2
     part-taken-row-end-2
     taken-row-requires
-    turn-requires
+    (λ c κs. search needs)
     slice-reshare-prefix-add-dividend
     slice-aggregate-add-dividend
     add-dividend-requires
@@ -109,6 +97,6 @@ gather-first-spec =
     part-copy-start
     part-copy-end
     copy-requires
-    same-length
+    (λ c. search needs)
     same-length-2
     returns)

@@ -26,9 +26,6 @@ each-first-requires c κs = (recur-dividing ((c .before .before .before .before 
 mul-copy : tie.Need-mul-copy
 mul-copy c = omega (arith, ((c .before .before .before .before .before .before .before .before .before .before .before) .pre) .work, ((c .before .before .before .before .before .before .before .before .before .before .before) .pre) .out)
 
-sub-copy : tie.Need-sub-copy
-sub-copy c = omega arith
-
 part-copy-start : tie.Need-part-copy-start
 part-copy-start c = let n = c .before .before .before .before .before .each-first .ensures .len in omega (arith, ((c .before .before .before .before .before .before .before .before .before .before .before .before) .pre) .work, ((c .before .before .before .before .before .before .before .before .before .before .before .before) .pre) .out)
 
@@ -58,7 +55,7 @@ recur-spec =
     add-each-first
     each-first-requires
     mul-copy
-    sub-copy
+    (λ c. omega arith)
     part-copy-start
     part-copy-end
     copy-requires

@@ -30,24 +30,6 @@ strides-of-requires c κs = (c .before) .pre .0
 loop-holds : tie.Need-loop-holds Inv-loop μ-loop
 loop-holds c = (omega arith, refl)
 
-sub-v : tie.Need-sub-v Inv-loop μ-loop
-sub-v c = omega arith
-
-mul-t : tie.Need-mul-t Inv-loop μ-loop
-mul-t c = omega arith
-
-array-read-t : tie.Need-array-read-t Inv-loop μ-loop
-array-read-t c = omega arith
-
-mul-fits-in : tie.Need-mul-fits-in Inv-loop μ-loop
-mul-fits-in c = omega arith
-
-array-read-fits-in : tie.Need-array-read-fits-in Inv-loop μ-loop
-array-read-fits-in c = omega arith
-
-fits-in-requires : tie.Need-fits-in-requires Inv-loop μ-loop
-fits-in-requires c κs = search needs
-
 shared-slice-read-t19 : tie.Need-shared-slice-read-t19 Inv-loop μ-loop
 shared-slice-read-t19 c = omega (arith, (c .before .before .before .before .before .before .before) .pre .1, count-pos ((c .before .before .before .before .before .before .before) .pre .0))
 
@@ -61,19 +43,10 @@ returns : tie.Need-returns Inv-loop μ-loop
 unfolding lineOf
 returns c = rw (c .before .before .before .before .before .before .strides-of .ensures) (sym (c .before .before .before .before .before .loop .inv .1 ∙ from-found (block ((c .before .before .before .before .before .before .before .before) .args .t2) ((c .before .before .before .before .before .before .before .before) .args .a .now)) (4 - c .before .before .before .before .before .loop .left) (omega arith) (sym (is (c .before .before .before)) ∙ c .before .before .if1 .taken)))
 
-sub-left : tie.Need-sub-left Inv-loop μ-loop
-sub-left c = omega arith
-
-loop-less : tie.Need-loop-less Inv-loop μ-loop
-loop-less c = omega arith
-
 loop-again : tie.Need-loop-again Inv-loop μ-loop
 loop-again c =
     let e : 4 - (c .before .before .before .loop .left - 1) ≡ 4 - c .before .before .before .loop .left + 1 = omega arith in
     (omega arith, rw e (c .before .before .before .loop .inv .1 ∙ from-next (block ((c .before .before .before .before .before .before) .args .t2) ((c .before .before .before .before .before .before) .args .a .now)) (4 - c .before .before .before .loop .left) (omega arith) (sym (is (c .before)) ∙ c .if1 .left)))
-
-none-requires : tie.Need-none-requires Inv-loop μ-loop
-none-requires c κs = search needs
 
 returns-2 : tie.Need-returns-2 Inv-loop μ-loop
 returns-2 c = c .none .ensures ∙ sym (c .before .before .loop .inv .1 ∙ from-end (block ((c .before .before .before .before .before) .args .t2) ((c .before .before .before .before .before) .args .a .now)) (4 - c .before .before .loop .left) (omega arith))
@@ -86,18 +59,18 @@ linear-of-spec =
     μ-loop
     strides-of-requires
     loop-holds
-    sub-v
-    mul-t
-    array-read-t
-    mul-fits-in
-    array-read-fits-in
-    fits-in-requires
+    (λ c. omega arith)
+    (λ c. omega arith)
+    (λ c. omega arith)
+    (λ c. omega arith)
+    (λ c. omega arith)
+    (λ c κs. search needs)
     shared-slice-read-t19
     mul-t20
     shared-slice-read-t22
     returns
-    sub-left
-    loop-less
+    (λ c. omega arith)
+    (λ c. omega arith)
     loop-again
-    none-requires
+    (λ c κs. search needs)
     returns-2)

@@ -18,20 +18,8 @@ abbrev μ-loop : tie.MeasureT-loop
 loop-holds : tie.Need-loop-holds Inv-loop μ-loop
 loop-holds c = (omega arith, zeros-none (c .args .a .now) (c .args .s))
 
-mul-x : tie.Need-mul-x Inv-loop μ-loop
-mul-x c = omega arith
-
-shared-slice-read-x : tie.Need-shared-slice-read-x Inv-loop μ-loop
-shared-slice-read-x c = omega arith
-
 returns : tie.Need-returns Inv-loop μ-loop
 returns c = sym (zeros-stop ((c .before .before .before .before) .args .a .now) ((c .before .before .before .before) .args .s) (c .before .before .before .loop .k) _ (c .before .before .before .loop .inv .1) (not-true _ (c .if1 .taken)) (omega arith))
-
-add-k : tie.Need-add-k Inv-loop μ-loop
-add-k c = omega arith
-
-loop-less : tie.Need-loop-less Inv-loop μ-loop
-loop-less c = omega arith
 
 loop-again : tie.Need-loop-again Inv-loop μ-loop
 loop-again c = (omega arith, zeros-more ((c .before .before .before .before) .args .a .now) ((c .before .before .before .before) .args .s) (c .before .before .before .loop .k) (c .before .before .before .loop .inv .1) (not-false _ (c .if1 .left)))
@@ -46,10 +34,10 @@ zeros-but-spec =
     Inv-loop
     μ-loop
     loop-holds
-    mul-x
-    shared-slice-read-x
+    (λ c. omega arith)
+    (λ c. omega arith)
     returns
-    add-k
-    loop-less
+    (λ c. omega arith)
+    (λ c. omega arith)
     loop-again
     returns-2)

@@ -32,18 +32,6 @@ used c = c .run-steps .kept .1 .1 .1 .1 .1 .1 .0 ∙ length-take-le _ _ (fits (c
 again : (c : tie.After-run-steps) → 8 * c .before .before .before .before .before .before .before .before .largest-of .result ≤ length ((c .run-steps .last .1 .1 .1 .1 .1 .1 .0) ++ drop (8 * c .before .before .before .before .before .before .before .before .largest-of .result) (c .before .before .before .before .before .before .before .before .before .before .before .before .before .before .before .before .before .before .args .scratch .now))
 again c = simp length-append (omega (arith, used c))
 
-add-to : tie.Need-add-to
-add-to c = search needs
-
-mul-largest-of : tie.Need-mul-largest-of
-mul-largest-of c = search needs
-
-sub-largest-of : tie.Need-sub-largest-of
-sub-largest-of c = search needs
-
-part-largest-of-start : tie.Need-part-largest-of-start
-part-largest-of-start c = search needs
-
 part-largest-of-end : tie.Need-part-largest-of-end
 part-largest-of-end c = omega (arith, run-passed (c .before .before .before .before .before .before .before .before .pre .0) .fit, c .before .before .before .before .before .before .before .before .pre .0 .many)
 
@@ -53,14 +41,8 @@ largest-of-requires c κs = rw (run-passed (c .before .before .before .before .b
 mul-room : tie.Need-mul-room
 mul-room c = omega (arith, most-is c, largest-most (announcedSteps (c .before .before .before .before .before .before .before .before .before .before .args .headers .now) (c .before .before .before .before .before .before .before .before .before .before .args .steps .now)) (run-passed (c .before .before .before .before .before .before .before .before .before .before .pre .0) .steps))
 
-slice-aggregate-note-starts : tie.Need-slice-aggregate-note-starts
-slice-aggregate-note-starts c = search needs
-
 note-starts-requires : tie.Need-note-starts-requires
 note-starts-requires c κs = (run-passed (c .before .before .before .before .before .before .before .before .before .before .before .pre .0) .inputs, (omega (arith, run-passed (c .before .before .before .before .before .before .before .before .before .before .before .pre .0) .fit), omega (arith, run-passed (c .before .before .before .before .before .before .before .before .before .before .before .pre .0) .fit)))
-
-slice-aggregate-run-steps : tie.Need-slice-aggregate-run-steps
-slice-aggregate-run-steps c = search needs
 
 slice-relend-prefix-run-steps : tie.Need-slice-relend-prefix-run-steps
 slice-relend-prefix-run-steps c = fits (c .before .before .before .before .before .before)
@@ -71,41 +53,14 @@ slice-aggregate-run-steps-2 c = sym (length-take-le _ _ (fits (c .before .before
 run-steps-requires : tie.Need-run-steps-requires
 run-steps-requires c κs = (admitted-exactly (c .before .before .before .before .before .before .before .before .before .before .before .before .before .before .before .before .before .pre .0) (length-take-le _ _ (fits (c .before .before .before .before .before .before .before)) ∙ ap (λ (k : ℕ). 8 * k) (most-is (c .before .before .before .before .before .before .before))), running-none (c .before .before .before .before .before .before .before .before .before .before .before .before .before .before .before .before .before .pre .0) (c .before .before .before .before .before .before .before .before .before .before .before .before .before .before .before .before .before .args .pool .now) (c .before .before .before .before .before .note-starts .ensures) (omega arith))
 
-mul-note-inputs : tie.Need-mul-note-inputs
-mul-note-inputs c = search needs
-
-sub-note-inputs : tie.Need-sub-note-inputs
-sub-note-inputs c = search needs
-
-part-note-inputs-start : tie.Need-part-note-inputs-start
-part-note-inputs-start c = search needs
-
 part-note-inputs-end : tie.Need-part-note-inputs-end
 part-note-inputs-end c = omega (arith, run-passed (c .before .before .before .before .before .before .before .before .before .before .before .before .before .before .before .before .before .before .before .before .before .before .before .before .before .before .pre .0) .fit, c .before .before .before .before .before .before .before .before .before .before .before .before .before .before .before .before .before .before .before .before .before .before .before .before .before .before .pre .0 .many, c .before .before .before .before .before .before .before .before .run-steps .kept .1 .1 .1 .0)
-
-note-inputs-requires : tie.Need-note-inputs-requires
-note-inputs-requires c κs = search needs
 
 slice-relend-prefix-clear : tie.Need-slice-relend-prefix-clear
 slice-relend-prefix-clear c = again (c .before .before .before .before .before .before .before .before .before .before .before .before .before)
 
 slice-aggregate-clear : tie.Need-slice-aggregate-clear
 slice-aggregate-clear c = sym (length-take-le _ _ (again (c .before .before .before .before .before .before .before .before .before .before .before .before .before .before)))
-
-clear-requires : tie.Need-clear-requires
-clear-requires c κs = search needs
-
-same-length : tie.Need-same-length
-same-length c = search needs
-
-same-length-2 : tie.Need-same-length-2
-same-length-2 c = search needs
-
-same-length-3 : tie.Need-same-length-3
-same-length-3 c = search needs
-
-same-length-4 : tie.Need-same-length-4
-same-length-4 c = search needs
 
 returns : tie.Need-returns
 returns c = (c .before .before .before .before .before .before .before .before .before .before .before .before .before .before .before .before .before .run-steps .ensures .1, (words-end (length (c .before .before .before .before .before .before .before .before .before .before .before .before .before .before .before .before .before .before .before .before .before .before .before .before .before .before .before .before .before .before .before .before .before .before .before .args .headers .now)) (length (c .before .before .before .before .before .before .before .before .before .before .before .before .before .before .before .before .before .before .before .before .before .before .before .before .before .before .before .before .before .before .before .before .before .before .before .args .steps .now)) (c .before .before .before .before .before .before .before .before .before .before .before .before .before .before .before .before .before .run-steps .last .1 .1 .1 .0) _ (c .before .before .before .before .before .before .before .before .before .before .before .before .before .before .before .before .before .before .before .before .before .before .before .before .before .before .before .before .before .before .before .before .before .before .before .args .words .now) (c .before .before .before .before .before .before .before .before .before .before .before .before .before .before .before .before .before .run-steps .ensures .0) (omega (arith, run-passed (c .before .before .before .before .before .before .before .before .before .before .before .before .before .before .before .before .before .before .before .before .before .before .before .before .before .before .before .before .before .before .before .before .before .before .before .pre .0) .fit, c .before .before .before .before .before .before .before .before .before .before .before .before .before .before .before .before .before .before .before .before .before .before .before .before .before .before .before .before .before .before .before .before .before .before .before .pre .0 .many, c .before .before .before .before .before .before .before .before .before .before .before .before .before .before .before .before .before .run-steps .kept .1 .1 .1 .0)) (c .before .before .before .before .before .before .note-inputs .ensures), scratch-end (largest (announcedSteps (c .before .before .before .before .before .before .before .before .before .before .before .before .before .before .before .before .before .before .before .before .before .before .before .before .before .before .before .before .before .before .before .before .before .before .before .args .headers .now) (c .before .before .before .before .before .before .before .before .before .before .before .before .before .before .before .before .before .before .before .before .before .before .before .before .before .before .before .before .before .before .before .before .before .before .before .args .steps .now))) (c .before .before .before .before .before .before .before .before .before .before .before .before .before .before .before .before .before .before .before .before .before .before .before .before .before .before .before .before .before .before .before .before .before .before .before .args .scratch .now) (c .before .before .before .before .before .before .before .before .before .before .before .before .before .before .before .before .before .run-steps .last .1 .1 .1 .1 .1 .1 .0) (ap (λ (k : ℕ). 8 * k) (most-is (c .before .before .before .before .before .before .before .before .before .before .before .before .before .before .before .before .before .before .before .before .before .before .before .before .before))) (used (c .before .before .before .before .before .before .before .before .before .before .before .before .before .before .before .before .before)) (c .before .before .clear .ensures) (length-take-le _ _ (again (c .before .before .before .before .before .before .before .before .before .before .before .before .before .before .before .before .before)))))
@@ -114,29 +69,29 @@ pub run-admitted-spec : {M : Type 1} → statement M
 run-admitted-spec =
     tie.close
     (tie.spec
-    add-to
-    mul-largest-of
-    sub-largest-of
-    part-largest-of-start
+    (λ c. search needs)
+    (λ c. search needs)
+    (λ c. search needs)
+    (λ c. search needs)
     part-largest-of-end
     largest-of-requires
     mul-room
-    slice-aggregate-note-starts
+    (λ c. search needs)
     note-starts-requires
-    slice-aggregate-run-steps
+    (λ c. search needs)
     slice-relend-prefix-run-steps
     slice-aggregate-run-steps-2
     run-steps-requires
-    mul-note-inputs
-    sub-note-inputs
-    part-note-inputs-start
+    (λ c. search needs)
+    (λ c. search needs)
+    (λ c. search needs)
     part-note-inputs-end
-    note-inputs-requires
+    (λ c κs. search needs)
     slice-relend-prefix-clear
     slice-aggregate-clear
-    clear-requires
-    same-length
-    same-length-2
-    same-length-3
-    same-length-4
+    (λ c κs. search needs)
+    (λ c. search needs)
+    (λ c. search needs)
+    (λ c. search needs)
+    (λ c. search needs)
     returns)

@@ -32,26 +32,11 @@ mul-starts c = omega (arith, c .before .before .before .before .pre .1, c .befor
 slice-write-starts : tie.Need-slice-write-starts Inv-loop μ-loop
 slice-write-starts c = omega (arith, c .before .before .before .before .pre .1, c .before .loop .inv .begun .len)
 
-mul-header-of : tie.Need-mul-header-of Inv-loop μ-loop
-mul-header-of c = search needs
-
-shared-slice-read-header-of : tie.Need-shared-slice-read-header-of Inv-loop μ-loop
-shared-slice-read-header-of c = search needs
-
-header-of-requires : tie.Need-header-of-requires Inv-loop μ-loop
-header-of-requires c κs = search needs
-
 stored-of-requires : tie.Need-stored-of-requires Inv-loop μ-loop
 stored-of-requires c κs = rw (c .header-of .ensures) (word-ruled (c .before .before .before .before .before .before .args .headers .now) (c .before .before .before .before .before .before .pre .0) (c .before .before .before .loop .i))
 
 add-from : tie.Need-add-from Inv-loop μ-loop
 add-from c = record { fits = starting-fits (c .before .before .before .before .loop .inv) (c .before .before .before .before .before .before .before .pre .0) (c .stored-of .ensures ∙ ap stored (c .before .header-of .ensures)) (c .before .before .before .before .before .before .before .pre .1 .1) }
-
-add-i : tie.Need-add-i Inv-loop μ-loop
-add-i c = search needs
-
-loop-less : tie.Need-loop-less Inv-loop μ-loop
-loop-less c = search needs
 
 loop-again : tie.Need-loop-again Inv-loop μ-loop
 loop-again c = starting-more (c .before .before .before .before .loop .inv) (c .before .before .before .before .before .before .before .pre .0) (c .stored-of .ensures ∙ ap stored (c .before .header-of .ensures)) (c .before .before .before .loop-test .taken) (c .before .before .before .before .before .before .before .pre .1 .0)
@@ -71,13 +56,13 @@ note-starts-spec =
     loop-holds
     mul-starts
     slice-write-starts
-    mul-header-of
-    shared-slice-read-header-of
-    header-of-requires
+    (λ c. search needs)
+    (λ c. search needs)
+    (λ c κs. search needs)
     stored-of-requires
     add-from
-    add-i
-    loop-less
+    (λ c. search needs)
+    (λ c. search needs)
     loop-again
     same-length
     returns)

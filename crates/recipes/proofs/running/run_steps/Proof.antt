@@ -27,15 +27,6 @@ counted c = c .stored-of .ensures ∙ (ap stored (c .before .header-of .ensures)
 loop-holds : tie.Need-loop-holds Inv-loop μ-loop
 loop-holds c = (c .before .before .before .before .before .before .before .pre .1, refl, refl)
 
-mul-step-of : tie.Need-mul-step-of Inv-loop μ-loop
-mul-step-of c = search needs
-
-shared-slice-read-step-of : tie.Need-shared-slice-read-step-of Inv-loop μ-loop
-shared-slice-read-step-of c = search needs
-
-step-of-requires : tie.Need-step-of-requires Inv-loop μ-loop
-step-of-requires c κs = search needs
-
 add-p : tie.Need-add-p Inv-loop μ-loop
 add-p c = omega (arith, fit (c .before .before .before .before .before .before .before .before .before .before .before .pre .0), c .before .before .loop-test .taken)
 
@@ -44,9 +35,6 @@ mul-header-of c = omega (arith, fit (c .before .before .before .before .before .
 
 slice-read-header-of : tie.Need-slice-read-header-of Inv-loop μ-loop
 slice-read-header-of c = omega (arith, fit (c .before .before .before .before .before .before .before .before .before .before .before .before .pre .0), c .before .before .before .loop-test .taken, c .before .before .before .before .loop .inv .0 .len-known, c .before .before .before .before .before .before .before .before .before .before .before .before .pre .0 .many)
-
-header-of-requires : tie.Need-header-of-requires Inv-loop μ-loop
-header-of-requires c κs = search needs
 
 stored-of-requires : tie.Need-stored-of-requires Inv-loop μ-loop
 stored-of-requires c κs = rw (c .header-of .ensures) (room-ruled (c .before .before .before .before .before .before .before .before .before .before .before .before .before .pre .0) (c .before .before .before .before .before .loop .inv .0) (c .before .before .before .before .loop-test .taken))
@@ -71,9 +59,6 @@ add-at c = let g = step-lent (c .before .before .before .before .before .before 
 
 add-i : tie.Need-add-i Inv-loop μ-loop
 add-i c = omega (arith, fit (c .before .before .before .before .before .before .before .before .before .before .before .before .before .before .before .before .before .before .before .before .before .before .before .pre .0), c .before .before .before .before .before .before .before .before .before .before .before .before .before .before .loop-test .taken)
-
-loop-less : tie.Need-loop-less Inv-loop μ-loop
-loop-less c = search needs
 
 loop-again : tie.Need-loop-again Inv-loop μ-loop
 loop-again c = (running-more (c .before .before .before .before .before .before .before .before .before .before .before .before .before .before .before .before .before .before .before .before .before .before .before .pre .0) (c .before .before .before .before .before .before .before .before .before .before .before .before .before .before .before .loop .inv .0) (c .before .before .before .before .before .before .before .before .before .before .before .before .before .before .loop-test .taken) (counted (c .before .before .before .before .before .before .before .before .before)) (c .before .before .before .before .before .before .before .before .before .before .before .before .before .before .before .loop .inv .0 .len-pool) (rw (c .before .before .before .before .before .before .before .before .before .before .before .before .step-of .ensures) at (c .before .before .before .before .step-word .ensures .0)) (rw (c .before .before .before .before .before .before .before .before .before .before .before .before .step-of .ensures) at (c .before .before .before .before .step-word .ensures .1)), length-set (c .before .before .before .before .before .before .before .before .before .before .before .before .before .before .before .loop .starts) (length (c .before .before .before .before .before .before .before .before .before .before .before .before .before .before .before .before .before .before .before .before .before .before .before .args .headers .now) + c .before .before .before .before .before .before .before .before .before .before .before .before .before .before .before .loop .i) (c .before .before .before .before .before .before .before .before .before .before .before .before .before .before .before .loop .at) ∙ c .before .before .before .before .before .before .before .before .before .before .before .before .before .before .before .loop .inv .1, c .before .before .before .before .step-word .kept .1 .1 .1 .1 .1 .1 .1 .1 .0 ∙ c .before .before .before .before .before .before .before .before .before .before .before .before .before .before .before .loop .inv .2)
@@ -100,13 +85,13 @@ run-steps-spec =
     Inv-loop
     μ-loop
     loop-holds
-    mul-step-of
-    shared-slice-read-step-of
-    step-of-requires
+    (λ c. search needs)
+    (λ c. search needs)
+    (λ c κs. search needs)
     add-p
     mul-header-of
     slice-read-header-of
-    header-of-requires
+    (λ c κs. search needs)
     stored-of-requires
     step-word-requires
     mul-known
@@ -115,7 +100,7 @@ run-steps-spec =
     slice-write-starts
     add-at
     add-i
-    loop-less
+    (λ c. search needs)
     loop-again
     same-length
     same-length-2

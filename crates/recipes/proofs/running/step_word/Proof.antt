@@ -21,17 +21,8 @@ use Rattle.shape_words.proofs.word.pack.Reads as pack-reads
 named : (c : tie.Else1) → Named (c .before .before .before .before .before .before .before .args .s) (c .before .before .before .before .before .before .before .args .inputs) (c .before .before .before .before .before .before .before .args .known .now) (c .before .before .before .before .before .before .before .args .starts .now) (length (c .before .before .before .before .before .before .before .args .coefficients .now)) (c .before .before .before .before .before .before .before .args .at) (c .before .before .before .before .before .before .before .args .room)
 named c = c .before .before .before .before .before .before .before .pre .0 .named (c .if1 .left)
 
-constant-to-requires : tie.Need-constant-to-requires
-constant-to-requires c κs = search needs
-
-none-requires : tie.Need-none-requires
-none-requires c κs = search needs
-
 pack-requires : tie.Need-pack-requires
 pack-requires c κs = rw (c .none .ensures) (none-regular .rules)
-
-same-length : tie.Need-same-length
-same-length c = search needs
 
 returns : tie.Need-returns
 returns c = (c .pack .ensures ∙ (ap wordOf (c .before .none .ensures) ∙ ap (λ (p : Poly). wordOf (p .head)) (constant-value (c .before .before .before .before .before .before .before .before .before .before .before .before .before .args .s) (lyingAt (c .before .before .before .before .before .before .before .before .before .before .before .before .before .args .inputs) (c .before .before .before .before .before .before .before .before .before .before .before .before .before .args .known .now) (c .before .before .before .before .before .before .before .before .before .before .before .before .before .args .starts .now) (c .before .before .before .before .before .before .before .before .before .before .before .before .before .args .coefficients .now) (take (c .before .before .before .before .before .before .before .before .before .before .before .before .before .args .at) (c .before .before .before .before .before .before .before .before .before .before .before .before .before .args .pool .now)) (c .before .before .before .before .before .before .before .before .before .before .before .before .before .args .s .a)) (lyingAt (c .before .before .before .before .before .before .before .before .before .before .before .before .before .args .inputs) (c .before .before .before .before .before .before .before .before .before .before .before .before .before .args .known .now) (c .before .before .before .before .before .before .before .before .before .before .before .before .before .args .starts .now) (c .before .before .before .before .before .before .before .before .before .before .before .before .before .args .coefficients .now) (take (c .before .before .before .before .before .before .before .before .before .before .before .before .before .args .at) (c .before .before .before .before .before .before .before .before .before .before .before .before .before .args .pool .now)) (c .before .before .before .before .before .before .before .before .before .before .before .before .before .args .s .b)) (c .before .before .before .before .before .before .if1 .taken))), kept-as (ap (λ (p : Poly). padded (c .before .before .before .before .before .before .before .before .before .before .before .before .before .args .room) (p .coeffs)) (constant-value (c .before .before .before .before .before .before .before .before .before .before .before .before .before .args .s) (lyingAt (c .before .before .before .before .before .before .before .before .before .before .before .before .before .args .inputs) (c .before .before .before .before .before .before .before .before .before .before .before .before .before .args .known .now) (c .before .before .before .before .before .before .before .before .before .before .before .before .before .args .starts .now) (c .before .before .before .before .before .before .before .before .before .before .before .before .before .args .coefficients .now) (take (c .before .before .before .before .before .before .before .before .before .before .before .before .before .args .at) (c .before .before .before .before .before .before .before .before .before .before .before .before .before .args .pool .now)) (c .before .before .before .before .before .before .before .before .before .before .before .before .before .args .s .a)) (lyingAt (c .before .before .before .before .before .before .before .before .before .before .before .before .before .args .inputs) (c .before .before .before .before .before .before .before .before .before .before .before .before .before .args .known .now) (c .before .before .before .before .before .before .before .before .before .before .before .before .before .args .starts .now) (c .before .before .before .before .before .before .before .before .before .before .before .before .before .args .coefficients .now) (take (c .before .before .before .before .before .before .before .before .before .before .before .before .before .args .at) (c .before .before .before .before .before .before .before .before .before .before .before .before .before .args .pool .now)) (c .before .before .before .before .before .before .before .before .before .before .before .before .before .args .s .b)) (c .before .before .before .before .before .before .if1 .taken))) (c .before .before .before .before .constant-to .ensures))
@@ -63,23 +54,14 @@ shared-slice-read-perform-4 c = named (c .before .before .before .before) .b-sta
 perform-requires : tie.Need-perform-requires
 perform-requires c κs = (named (c .before .before .before .before .before .before) .ready, (named (c .before .before .before .before .before .before) .placed, c .before .before .before .before .before .before .before .before .before .before .before .before .before .pre .1))
 
-same-length-2 : tie.Need-same-length-2
-same-length-2 c = search needs
-
-same-length-3 : tie.Need-same-length-3
-same-length-3 c = search needs
-
-returns-2 : tie.Need-returns-2
-returns-2 c = search needs
-
 pub step-word-spec : {M : Type 1} → statement M
 step-word-spec =
     tie.close
     (tie.spec
-    constant-to-requires
-    none-requires
+    (λ c κs. search needs)
+    (λ c κs. search needs)
     pack-requires
-    same-length
+    (λ c. search needs)
     returns
     mul-perform
     shared-slice-read-perform
@@ -90,6 +72,6 @@ step-word-spec =
     mul-perform-4
     shared-slice-read-perform-4
     perform-requires
-    same-length-2
-    same-length-3
-    returns-2)
+    (λ c. search needs)
+    (λ c. search needs)
+    (λ c. search needs))

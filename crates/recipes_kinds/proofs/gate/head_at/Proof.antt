@@ -4,18 +4,6 @@ use borrow.Author.Needs.{needs}
 use Rattle.recipes_kinds.proofs.gate.head_at.Statement.{statement}
 use Rattle.recipes_kinds.proofs.gate.head_at.Tie as tie
 
-mul-header-of : tie.Need-mul-header-of
-mul-header-of c = search needs
-
-shared-slice-read-header-of : tie.Need-shared-slice-read-header-of
-shared-slice-read-header-of c = search needs
-
-header-of-requires : tie.Need-header-of-requires
-header-of-requires c κs = search needs
-
-none-requires : tie.Need-none-requires
-none-requires c κs = search needs
-
 returns : tie.Need-returns
 returns c = c .header-of .ensures ∙ sym (head-at ((c .before .before .before .before) .args .known .now) ((c .before .before .before .before) .args .p))
 
@@ -26,9 +14,9 @@ pub head-at-spec : {M : Type 1} → statement M
 head-at-spec =
     tie.close
     (tie.spec
-    mul-header-of
-    shared-slice-read-header-of
-    header-of-requires
-    none-requires
+    (λ c. search needs)
+    (λ c. search needs)
+    (λ c κs. search needs)
+    (λ c κs. search needs)
     returns
     returns-2)

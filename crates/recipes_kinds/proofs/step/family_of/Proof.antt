@@ -20,15 +20,6 @@ rest-constant c =
     (λ e. simp (eqb-true (s .kind) 0 e))
     (λ e. let ne = eqb-false (s .kind) 0 e in sym (List·getD-eq-default (families s) Constant (past-kinds (omega arith) (c .match .rest))))
 
-cast-t4 : tie.Need-cast-t4
-cast-t4 c = search needs
-
-cast-t5 : tie.Need-cast-t5
-cast-t5 c = search needs
-
-cast-t6 : tie.Need-cast-t6
-cast-t6 c = search needs
-
 returns : tie.Need-returns
 unfolding families
 returns c = simp (c .match .keys1)
@@ -76,9 +67,9 @@ pub family-of-spec : {M : Type 1} → statement M
 family-of-spec =
     tie.close
     (tie.spec
-    cast-t4
-    cast-t5
-    cast-t6
+    (λ c. search needs)
+    (λ c. search needs)
+    (λ c. search needs)
     returns
     returns-2
     returns-3

@@ -16,24 +16,6 @@ use Rattle.recipes_steps.proofs.perform.constant_to.Reads as reads
 use Rattle.recipes_steps.proofs.perform.constant_to.Lts as lts
 use Rattle.recipes_operands.proofs.pad.Reads as pad-reads
 
-int-to-float-pool : tie.Need-int-to-float-pool
-int-to-float-pool c = search needs
-
-mul-pool : tie.Need-mul-pool
-mul-pool c = search needs
-
-slice-write-pool : tie.Need-slice-write-pool
-slice-write-pool c = search needs
-
-add-pad : tie.Need-add-pad
-add-pad c = search needs
-
-add-pad-2 : tie.Need-add-pad-2
-add-pad-2 c = search needs
-
-pad-requires : tie.Need-pad-requires
-pad-requires c κs = search needs
-
 same-length : tie.Need-same-length
 same-length c = c .before .before .pad .kept .0 ∙ length-set (c .before .before .before .before .before .before .args .pool .now) (c .before .before .before .before .before .before .args .at) (wholeF (c .before .before .before .before .before .before .args .n))
 
@@ -44,11 +26,11 @@ pub constant-to-spec : {M : Type 1} → statement M
 constant-to-spec =
     tie.close
     (tie.spec
-    int-to-float-pool
-    mul-pool
-    slice-write-pool
-    add-pad
-    add-pad-2
-    pad-requires
+    (λ c. search needs)
+    (λ c. search needs)
+    (λ c. search needs)
+    (λ c. search needs)
+    (λ c. search needs)
+    (λ c κs. search needs)
     same-length
     returns)

@@ -38,15 +38,6 @@ head-is c = rw (c .before .before .before .before .before .before .before .heade
 given : (c : tie.Start) → length ((lying (c .args .xi) (c .args .coefficients .now) (take (c .args .at) (c .args .pool .now)) (c .args .xf) (headerOf (c .args .xw))) .coeffs) ≡ stored (headerOf (c .args .xw))
 given c = let g = c .pre .1 .1 in let l : c .args .at ≤ length (c .args .pool .now) = omega (arith, g .room) in length-operand (c .args .xf) (stored (headerOf (c .args .xw))) (source (c .args .xi) (c .args .coefficients .now) (take (c .args .at) (c .args .pool .now))) (lies-source (c .args .coefficients .now) (take (c .args .at) (c .args .pool .now)) (c .pre .1 .0 .left) (length-take-le _ _ l))
 
-header-of-requires : tie.Need-header-of-requires
-header-of-requires c κs = search needs
-
-header-of-requires-2 : tie.Need-header-of-requires-2
-header-of-requires-2 c κs = search needs
-
-family-of-requires : tie.Need-family-of-requires
-family-of-requires c κs = search needs
-
 announced-of-requires : tie.Need-announced-of-requires
 announced-of-requires c κs = (rw (c .before .before .header-of .ensures) (c .before .before .before .before .before .before .pre .0 .left .regular .rules), rw (c .before .header-of2 .ensures) (c .before .before .before .before .before .before .pre .0 .right .regular .rules))
 
@@ -68,12 +59,6 @@ pad-requires c κs = let g = c .before .before .before .before .before .before .
 pack-requires : tie.Need-pack-requires
 pack-requires c κs = rw (head-is (c .before .before .before .before .before .before .before .before)) (value-ruled (making (c .before .before .before .before .before .before .before .before .before .before .before .before .before .before .before .before .before .before .before .pre .0) (c .before .before .before .before .before .before .before .before .before .before .before .before .before .before .before .before .before .before .before .pre .1 .1) (is-announced (c .before .before .before .before .before .before .before .before .before .before .before .before)) (c .before .before .before .before .before .before .before .before .before .before .before .stored-of .ensures)) ((lying (c .before .before .before .before .before .before .before .before .before .before .before .before .before .before .before .before .before .before .before .args .xi) (c .before .before .before .before .before .before .before .before .before .before .before .before .before .before .before .before .before .before .before .args .coefficients .now) (take (c .before .before .before .before .before .before .before .before .before .before .before .before .before .before .before .before .before .before .before .args .at) (c .before .before .before .before .before .before .before .before .before .before .before .before .before .before .before .before .before .before .before .args .pool .now)) (c .before .before .before .before .before .before .before .before .before .before .before .before .before .before .before .before .before .before .before .args .xf) (headerOf (c .before .before .before .before .before .before .before .before .before .before .before .before .before .before .before .before .before .before .before .args .xw))) .coeffs) ((lying (c .before .before .before .before .before .before .before .before .before .before .before .before .before .before .before .before .before .before .before .args .yi) (c .before .before .before .before .before .before .before .before .before .before .before .before .before .before .before .before .before .before .before .args .coefficients .now) (take (c .before .before .before .before .before .before .before .before .before .before .before .before .before .before .before .before .before .before .before .args .at) (c .before .before .before .before .before .before .before .before .before .before .before .before .before .before .before .before .before .before .before .args .pool .now)) (c .before .before .before .before .before .before .before .before .before .before .before .before .before .before .before .before .before .before .before .args .yf) (headerOf (c .before .before .before .before .before .before .before .before .before .before .before .before .before .before .before .before .before .before .before .args .yw))) .coeffs) (given (c .before .before .before .before .before .before .before .before .before .before .before .before .before .before .before .before .before .before .before)))
 
-same-length : tie.Need-same-length
-same-length c = search needs
-
-same-length-2 : tie.Need-same-length-2
-same-length-2 c = search needs
-
 returns : tie.Need-returns
 returns c = (c .pack .ensures ∙ ap wordOf (head-is (c .before .before .before .before .before .before .before .before .before)), value-padded (making (c .before .before .before .before .before .before .before .before .before .before .before .before .before .before .before .before .before .before .before .before .pre .0) (c .before .before .before .before .before .before .before .before .before .before .before .before .before .before .before .before .before .before .before .before .pre .1 .1) (is-announced (c .before .before .before .before .before .before .before .before .before .before .before .before .before)) (c .before .before .before .before .before .before .before .before .before .before .before .before .stored-of .ensures)) ((lying (c .before .before .before .before .before .before .before .before .before .before .before .before .before .before .before .before .before .before .before .before .args .xi) (c .before .before .before .before .before .before .before .before .before .before .before .before .before .before .before .before .before .before .before .before .args .coefficients .now) (take (c .before .before .before .before .before .before .before .before .before .before .before .before .before .before .before .before .before .before .before .before .args .at) (c .before .before .before .before .before .before .before .before .before .before .before .before .before .before .before .before .before .before .before .before .args .pool .now)) (c .before .before .before .before .before .before .before .before .before .before .before .before .before .before .before .before .before .before .before .before .args .xf) (headerOf (c .before .before .before .before .before .before .before .before .before .before .before .before .before .before .before .before .before .before .before .before .args .xw))) .coeffs) ((lying (c .before .before .before .before .before .before .before .before .before .before .before .before .before .before .before .before .before .before .before .before .args .yi) (c .before .before .before .before .before .before .before .before .before .before .before .before .before .before .before .before .before .before .before .before .args .coefficients .now) (take (c .before .before .before .before .before .before .before .before .before .before .before .before .before .before .before .before .before .before .before .before .args .at) (c .before .before .before .before .before .before .before .before .before .before .before .before .before .before .before .before .before .before .before .before .args .pool .now)) (c .before .before .before .before .before .before .before .before .before .before .before .before .before .before .before .before .before .before .before .before .args .yf) (headerOf (c .before .before .before .before .before .before .before .before .before .before .before .before .before .before .before .before .before .before .before .before .args .yw))) .coeffs) (given (c .before .before .before .before .before .before .before .before .before .before .before .before .before .before .before .before .before .before .before .before)) (fewer (c .before .before .before .before .before .before .before .before .before .before .before .before)) (rw (c .before .before .before .before .before .before .before .before .before .before .before .before .before .before .before .before .header-of .ensures, c .before .before .before .before .before .before .before .before .before .before .before .before .before .before .before .header-of2 .ensures) at (c .before .before .before .before .before .before .before .before .before .value-to .ensures .1)) (c .before .before .before .pad .ensures))
 
@@ -81,9 +66,9 @@ pub perform-spec : {M : Type 1} → statement M
 perform-spec =
     tie.close
     (tie.spec
-    header-of-requires
-    header-of-requires-2
-    family-of-requires
+    (λ c κs. search needs)
+    (λ c κs. search needs)
+    (λ c κs. search needs)
     announced-of-requires
     stored-of-requires
     value-to-requires
@@ -91,6 +76,6 @@ perform-spec =
     add-pad-2
     pad-requires
     pack-requires
-    same-length
-    same-length-2
+    (λ c. search needs)
+    (λ c. search needs)
     returns)

@@ -23,23 +23,11 @@ use Rattle.recipes_steps.proofs.substitute.substitute_to.Reads as subst
 power-to-requires : tie.Need-power-to-requires
 power-to-requires c κs = (to-power (c .before .before .before .before .before .before .pre .0) (c .before .before .if1 .taken), (c .before .before .before .before .before .before .pre .1 .0 .left, c .before .before .before .before .before .before .pre .1 .1))
 
-same-length : tie.Need-same-length
-same-length c = search needs
-
-same-length-2 : tie.Need-same-length-2
-same-length-2 c = search needs
-
 returns : tie.Need-returns
 returns c = (c .before .before .before .before .power-to .ensures .0 ∙ ap (λ (p : Poly). p .head) (power-value (c .before .before .before .before .before .before .before .before .before .before .before .pre .0) (c .before .before .before .before .before .before .before .if1 .taken) (lying (c .before .before .before .before .before .before .before .before .before .before .before .args .xi) (c .before .before .before .before .before .before .before .before .before .before .before .args .coefficients .now) (take (c .before .before .before .before .before .before .before .before .before .before .before .args .at) (c .before .before .before .before .before .before .before .before .before .before .before .args .pool .now)) (c .before .before .before .before .before .before .before .before .before .before .before .args .xf) (c .before .before .before .before .before .before .before .before .before .before .before .args .x)) (lying (c .before .before .before .before .before .before .before .before .before .before .before .args .yi) (c .before .before .before .before .before .before .before .before .before .before .before .args .coefficients .now) (take (c .before .before .before .before .before .before .before .before .before .before .before .args .at) (c .before .before .before .before .before .before .before .before .before .before .before .args .pool .now)) (c .before .before .before .before .before .before .before .before .before .before .before .args .yf) (c .before .before .before .before .before .before .before .before .before .before .before .args .y))), kept-as (ap (λ (p : Poly). padded (c .before .before .before .before .before .before .before .before .before .before .before .args .n) (p .coeffs)) (power-value (c .before .before .before .before .before .before .before .before .before .before .before .pre .0) (c .before .before .before .before .before .before .before .if1 .taken) (lying (c .before .before .before .before .before .before .before .before .before .before .before .args .xi) (c .before .before .before .before .before .before .before .before .before .before .before .args .coefficients .now) (take (c .before .before .before .before .before .before .before .before .before .before .before .args .at) (c .before .before .before .before .before .before .before .before .before .before .before .args .pool .now)) (c .before .before .before .before .before .before .before .before .before .before .before .args .xf) (c .before .before .before .before .before .before .before .before .before .before .before .args .x)) (lying (c .before .before .before .before .before .before .before .before .before .before .before .args .yi) (c .before .before .before .before .before .before .before .before .before .before .before .args .coefficients .now) (take (c .before .before .before .before .before .before .before .before .before .before .before .args .at) (c .before .before .before .before .before .before .before .before .before .before .before .args .pool .now)) (c .before .before .before .before .before .before .before .before .before .before .before .args .yf) (c .before .before .before .before .before .before .before .before .before .before .before .args .y)))) (c .before .before .before .before .power-to .ensures .1))
 
 pair-to-requires : tie.Need-pair-to-requires
 pair-to-requires c κs = (to-pair (c .before .before .before .before .before .before .before .pre .0) (c .before .before .if2 .taken), (c .before .before .before .before .before .before .before .pre .1 .0 .left, (c .before .before .before .before .before .before .before .pre .1 .0 .right, c .before .before .before .before .before .before .before .pre .1 .1)))
-
-same-length-3 : tie.Need-same-length-3
-same-length-3 c = search needs
-
-same-length-4 : tie.Need-same-length-4
-same-length-4 c = search needs
 
 returns-2 : tie.Need-returns-2
 returns-2 c = (c .before .before .before .before .pair-to .ensures .0 ∙ ap (λ (p : Poly). p .head) (pair-value (c .before .before .before .before .before .before .before .before .before .before .before .before .pre .0) (c .before .before .before .before .before .before .before .if2 .taken) (lying (c .before .before .before .before .before .before .before .before .before .before .before .before .args .xi) (c .before .before .before .before .before .before .before .before .before .before .before .before .args .coefficients .now) (take (c .before .before .before .before .before .before .before .before .before .before .before .before .args .at) (c .before .before .before .before .before .before .before .before .before .before .before .before .args .pool .now)) (c .before .before .before .before .before .before .before .before .before .before .before .before .args .xf) (c .before .before .before .before .before .before .before .before .before .before .before .before .args .x)) (lying (c .before .before .before .before .before .before .before .before .before .before .before .before .args .yi) (c .before .before .before .before .before .before .before .before .before .before .before .before .args .coefficients .now) (take (c .before .before .before .before .before .before .before .before .before .before .before .before .args .at) (c .before .before .before .before .before .before .before .before .before .before .before .before .args .pool .now)) (c .before .before .before .before .before .before .before .before .before .before .before .before .args .yf) (c .before .before .before .before .before .before .before .before .before .before .before .before .args .y))), kept-as (ap (λ (p : Poly). padded (c .before .before .before .before .before .before .before .before .before .before .before .before .args .n) (p .coeffs)) (pair-value (c .before .before .before .before .before .before .before .before .before .before .before .before .pre .0) (c .before .before .before .before .before .before .before .if2 .taken) (lying (c .before .before .before .before .before .before .before .before .before .before .before .before .args .xi) (c .before .before .before .before .before .before .before .before .before .before .before .before .args .coefficients .now) (take (c .before .before .before .before .before .before .before .before .before .before .before .before .args .at) (c .before .before .before .before .before .before .before .before .before .before .before .before .args .pool .now)) (c .before .before .before .before .before .before .before .before .before .before .before .before .args .xf) (c .before .before .before .before .before .before .before .before .before .before .before .before .args .x)) (lying (c .before .before .before .before .before .before .before .before .before .before .before .before .args .yi) (c .before .before .before .before .before .before .before .before .before .before .before .before .args .coefficients .now) (take (c .before .before .before .before .before .before .before .before .before .before .before .before .args .at) (c .before .before .before .before .before .before .before .before .before .before .before .before .args .pool .now)) (c .before .before .before .before .before .before .before .before .before .before .before .before .args .yf) (c .before .before .before .before .before .before .before .before .before .before .before .before .args .y)))) (c .before .before .before .before .pair-to .ensures .1))
@@ -47,26 +35,11 @@ returns-2 c = (c .before .before .before .before .pair-to .ensures .0 ∙ ap (λ
 substitute-to-requires : tie.Need-substitute-to-requires
 substitute-to-requires c κs = (to-substitute (c .before .before .before .before .before .before .before .before .pre .0) (c .before .before .if3 .taken), (c .before .before .before .before .before .before .before .before .pre .1 .0 .left, (c .before .before .before .before .before .before .before .before .pre .1 .0 .right, c .before .before .before .before .before .before .before .before .pre .1 .1)))
 
-same-length-5 : tie.Need-same-length-5
-same-length-5 c = search needs
-
-same-length-6 : tie.Need-same-length-6
-same-length-6 c = search needs
-
 returns-3 : tie.Need-returns-3
 returns-3 c = (c .before .before .before .before .substitute-to .ensures .0 ∙ ap (λ (p : Poly). p .head) (substitute-value (c .before .before .before .before .before .before .before .before .before .before .before .before .before .pre .0) (c .before .before .before .before .before .before .before .if3 .taken) (lying (c .before .before .before .before .before .before .before .before .before .before .before .before .before .args .xi) (c .before .before .before .before .before .before .before .before .before .before .before .before .before .args .coefficients .now) (take (c .before .before .before .before .before .before .before .before .before .before .before .before .before .args .at) (c .before .before .before .before .before .before .before .before .before .before .before .before .before .args .pool .now)) (c .before .before .before .before .before .before .before .before .before .before .before .before .before .args .xf) (c .before .before .before .before .before .before .before .before .before .before .before .before .before .args .x)) (lying (c .before .before .before .before .before .before .before .before .before .before .before .before .before .args .yi) (c .before .before .before .before .before .before .before .before .before .before .before .before .before .args .coefficients .now) (take (c .before .before .before .before .before .before .before .before .before .before .before .before .before .args .at) (c .before .before .before .before .before .before .before .before .before .before .before .before .before .args .pool .now)) (c .before .before .before .before .before .before .before .before .before .before .before .before .before .args .yf) (c .before .before .before .before .before .before .before .before .before .before .before .before .before .args .y))), kept-as (ap (λ (p : Poly). padded (c .before .before .before .before .before .before .before .before .before .before .before .before .before .args .n) (p .coeffs)) (substitute-value (c .before .before .before .before .before .before .before .before .before .before .before .before .before .pre .0) (c .before .before .before .before .before .before .before .if3 .taken) (lying (c .before .before .before .before .before .before .before .before .before .before .before .before .before .args .xi) (c .before .before .before .before .before .before .before .before .before .before .before .before .before .args .coefficients .now) (take (c .before .before .before .before .before .before .before .before .before .before .before .before .before .args .at) (c .before .before .before .before .before .before .before .before .before .before .before .before .before .args .pool .now)) (c .before .before .before .before .before .before .before .before .before .before .before .before .before .args .xf) (c .before .before .before .before .before .before .before .before .before .before .before .before .before .args .x)) (lying (c .before .before .before .before .before .before .before .before .before .before .before .before .before .args .yi) (c .before .before .before .before .before .before .before .before .before .before .before .before .before .args .coefficients .now) (take (c .before .before .before .before .before .before .before .before .before .before .before .before .before .args .at) (c .before .before .before .before .before .before .before .before .before .before .before .before .before .args .pool .now)) (c .before .before .before .before .before .before .before .before .before .before .before .before .before .args .yf) (c .before .before .before .before .before .before .before .before .before .before .before .before .before .args .y)))) (c .before .before .before .before .substitute-to .ensures .1))
 
-cast-change-to : tie.Need-cast-change-to
-cast-change-to c = search needs
-
 change-to-requires : tie.Need-change-to-requires
 change-to-requires c κs = (to-change (c .before .before .before .before .before .before .before .before .before .pre .0) (c .before .before .before .before .before .if1 .left) (c .before .before .before .before .if2 .left) (c .before .before .before .if3 .left), (c .before .before .before .before .before .before .before .before .before .pre .1 .0 .left, c .before .before .before .before .before .before .before .before .before .pre .1 .1))
-
-same-length-7 : tie.Need-same-length-7
-same-length-7 c = search needs
-
-same-length-8 : tie.Need-same-length-8
-same-length-8 c = search needs
 
 returns-4 : tie.Need-returns-4
 returns-4 c = (c .before .before .before .before .change-to .ensures .0 ∙ ap (λ (p : Poly). p .head) (change-value (c .before .before .before .before .before .before .before .before .before .before .before .before .before .before .pre .0) (c .before .before .before .before .before .before .before .before .before .before .if1 .left) (c .before .before .before .before .before .before .before .before .before .if2 .left) (c .before .before .before .before .before .before .before .before .if3 .left) (lying (c .before .before .before .before .before .before .before .before .before .before .before .before .before .before .args .xi) (c .before .before .before .before .before .before .before .before .before .before .before .before .before .before .args .coefficients .now) (take (c .before .before .before .before .before .before .before .before .before .before .before .before .before .before .args .at) (c .before .before .before .before .before .before .before .before .before .before .before .before .before .before .args .pool .now)) (c .before .before .before .before .before .before .before .before .before .before .before .before .before .before .args .xf) (c .before .before .before .before .before .before .before .before .before .before .before .before .before .before .args .x)) (lying (c .before .before .before .before .before .before .before .before .before .before .before .before .before .before .args .yi) (c .before .before .before .before .before .before .before .before .before .before .before .before .before .before .args .coefficients .now) (take (c .before .before .before .before .before .before .before .before .before .before .before .before .before .before .args .at) (c .before .before .before .before .before .before .before .before .before .before .before .before .before .before .args .pool .now)) (c .before .before .before .before .before .before .before .before .before .before .before .before .before .before .args .yf) (c .before .before .before .before .before .before .before .before .before .before .before .before .before .before .args .y))), kept-as (ap (λ (p : Poly). padded (c .before .before .before .before .before .before .before .before .before .before .before .before .before .before .args .n) (p .coeffs)) (change-value (c .before .before .before .before .before .before .before .before .before .before .before .before .before .before .pre .0) (c .before .before .before .before .before .before .before .before .before .before .if1 .left) (c .before .before .before .before .before .before .before .before .before .if2 .left) (c .before .before .before .before .before .before .before .before .if3 .left) (lying (c .before .before .before .before .before .before .before .before .before .before .before .before .before .before .args .xi) (c .before .before .before .before .before .before .before .before .before .before .before .before .before .before .args .coefficients .now) (take (c .before .before .before .before .before .before .before .before .before .before .before .before .before .before .args .at) (c .before .before .before .before .before .before .before .before .before .before .before .before .before .before .args .pool .now)) (c .before .before .before .before .before .before .before .before .before .before .before .before .before .before .args .xf) (c .before .before .before .before .before .before .before .before .before .before .before .before .before .before .args .x)) (lying (c .before .before .before .before .before .before .before .before .before .before .before .before .before .before .args .yi) (c .before .before .before .before .before .before .before .before .before .before .before .before .before .before .args .coefficients .now) (take (c .before .before .before .before .before .before .before .before .before .before .before .before .before .before .args .at) (c .before .before .before .before .before .before .before .before .before .before .before .before .before .before .args .pool .now)) (c .before .before .before .before .before .before .before .before .before .before .before .before .before .before .args .yf) (c .before .before .before .before .before .before .before .before .before .before .before .before .before .before .args .y)))) (c .before .before .before .before .change-to .ensures .1))
@@ -76,19 +49,19 @@ value-to-spec =
     tie.close
     (tie.spec
     power-to-requires
-    same-length
-    same-length-2
+    (λ c. search needs)
+    (λ c. search needs)
     returns
     pair-to-requires
-    same-length-3
-    same-length-4
+    (λ c. search needs)
+    (λ c. search needs)
     returns-2
     substitute-to-requires
-    same-length-5
-    same-length-6
+    (λ c. search needs)
+    (λ c. search needs)
     returns-3
-    cast-change-to
+    (λ c. search needs)
     change-to-requires
-    same-length-7
-    same-length-8
+    (λ c. search needs)
+    (λ c. search needs)
     returns-4)

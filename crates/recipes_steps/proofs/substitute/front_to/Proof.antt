@@ -15,9 +15,6 @@ use Rattle.recipes_steps.proofs.substitute.horner_to.Reads as horner-to
 use Rattle.recipes_steps.proofs.substitute.plain_from.Reads as plain-from-reads
 use Rattle.recipes_steps.proofs.substitute.way_from.Reads as way-from-reads
 
-slice-reshare-prefix-way-from : tie.Need-slice-reshare-prefix-way-from
-slice-reshare-prefix-way-from c = search needs
-
 slice-aggregate-way-from : tie.Need-slice-aggregate-way-from
 slice-aggregate-way-from c = sym (length-take-le _ _ (omega (arith, c .before .before .before .before .before .pre .1 .1 .1)))
 
@@ -27,38 +24,17 @@ way-from-requires c κs = (c .before .before .before .before .before .pre .0 .ri
 horner-to-requires : tie.Need-horner-to-requires
 horner-to-requires c κs = (horner-puts (c .before .before .before .before .before .before .before .before .before .before .pre .0) (lying (c .before .before .before .before .before .before .before .before .before .before .args .xi) (c .before .before .before .before .before .before .before .before .before .before .args .coefficients .now) (take (c .before .before .before .before .before .before .before .before .before .before .args .at) (c .before .before .before .before .before .before .before .before .before .before .args .pool .now)) (c .before .before .before .before .before .before .before .before .before .before .args .xf) (c .before .before .before .before .before .before .before .before .before .before .args .x) .coeffs) (lying (c .before .before .before .before .before .before .before .before .before .before .args .yi) (c .before .before .before .before .before .before .before .before .before .before .args .coefficients .now) (take (c .before .before .before .before .before .before .before .before .before .before .args .at) (c .before .before .before .before .before .before .before .before .before .before .args .pool .now)) (c .before .before .before .before .before .before .before .before .before .before .args .yf) (c .before .before .before .before .before .before .before .before .before .before .args .y) .coeffs) (c .before .before .before .before .way-from .ensures) (c .before .before .if1 .taken), (horner-some (c .before .before .before .before .before .before .before .before .before .before .pre .0) (lying (c .before .before .before .before .before .before .before .before .before .before .args .xi) (c .before .before .before .before .before .before .before .before .before .before .args .coefficients .now) (take (c .before .before .before .before .before .before .before .before .before .before .args .at) (c .before .before .before .before .before .before .before .before .before .before .args .pool .now)) (c .before .before .before .before .before .before .before .before .before .before .args .xf) (c .before .before .before .before .before .before .before .before .before .before .args .x) .coeffs) (lying (c .before .before .before .before .before .before .before .before .before .before .args .yi) (c .before .before .before .before .before .before .before .before .before .before .args .coefficients .now) (take (c .before .before .before .before .before .before .before .before .before .before .args .at) (c .before .before .before .before .before .before .before .before .before .before .args .pool .now)) (c .before .before .before .before .before .before .before .before .before .before .args .yf) (c .before .before .before .before .before .before .before .before .before .before .args .y) .coeffs) (c .before .before .before .before .way-from .ensures) (c .before .before .if1 .taken), ((c .before .before .before .before .before .before .before .before .before .before .pre .0 .left .rules, c .before .before .before .before .before .before .before .before .before .before .pre .0 .right .rules), ((c .before .before .before .before .before .before .before .before .before .before .pre .1 .0, c .before .before .before .before .before .before .before .before .before .before .pre .1 .1 .0), c .before .before .before .before .before .before .before .before .before .before .pre .1 .1 .1))))
 
-same-length : tie.Need-same-length
-same-length c = search needs
-
-same-length-2 : tie.Need-same-length-2
-same-length-2 c = search needs
-
 returns : tie.Need-returns
 returns c = wrote-same (horner-is (c .before .before .before .before .before .before .before .before .before .before .before .before .before .before .before .pre .0) (lying (c .before .before .before .before .before .before .before .before .before .before .before .before .before .before .before .args .xi) (c .before .before .before .before .before .before .before .before .before .before .before .before .before .before .before .args .coefficients .now) (take (c .before .before .before .before .before .before .before .before .before .before .before .before .before .before .before .args .at) (c .before .before .before .before .before .before .before .before .before .before .before .before .before .before .before .args .pool .now)) (c .before .before .before .before .before .before .before .before .before .before .before .before .before .before .before .args .xf) (c .before .before .before .before .before .before .before .before .before .before .before .before .before .before .before .args .x) .coeffs) (lying (c .before .before .before .before .before .before .before .before .before .before .before .before .before .before .before .args .yi) (c .before .before .before .before .before .before .before .before .before .before .before .before .before .before .before .args .coefficients .now) (take (c .before .before .before .before .before .before .before .before .before .before .before .before .before .before .before .args .at) (c .before .before .before .before .before .before .before .before .before .before .before .before .before .before .before .args .pool .now)) (c .before .before .before .before .before .before .before .before .before .before .before .before .before .before .before .args .yf) (c .before .before .before .before .before .before .before .before .before .before .before .before .before .before .before .args .y) .coeffs) (c .before .before .before .before .before .before .before .before .before .way-from .ensures) (c .before .before .before .before .before .before .before .if1 .taken)) (c .before .before .before .before .horner-to .ensures)
 
-slice-reshare-prefix-plain-from : tie.Need-slice-reshare-prefix-plain-from
-slice-reshare-prefix-plain-from c = search needs
-
 slice-aggregate-plain-from : tie.Need-slice-aggregate-plain-from
 slice-aggregate-plain-from c = sym (length-take-le _ _ (omega (arith, c .before .before .before .before .before .before .before .before .before .pre .1 .1 .1)))
-
-slice-relend-prefix-plain-from : tie.Need-slice-relend-prefix-plain-from
-slice-relend-prefix-plain-from c = search needs
 
 slice-aggregate-plain-from-2 : tie.Need-slice-aggregate-plain-from-2
 slice-aggregate-plain-from-2 c = sym (length-take-le (c .before .before .before .before .before .before .before .before .before .before .args .n) (c .before .before .before .before .before .before .before .before .before .before .args .work .now) (omega (arith, c .before .before .before .before .before .before .before .before .before .before .pre .0 .work)))
 
 plain-from-requires : tie.Need-plain-from-requires
 plain-from-requires c κs = (plain-room (c .before .before .before .before .before .before .before .before .before .before .pre .0) (lying (c .before .before .before .before .before .before .before .before .before .before .args .xi) (c .before .before .before .before .before .before .before .before .before .before .args .coefficients .now) (take (c .before .before .before .before .before .before .before .before .before .before .args .at) (c .before .before .before .before .before .before .before .before .before .before .args .pool .now)) (c .before .before .before .before .before .before .before .before .before .before .args .xf) (c .before .before .before .before .before .before .before .before .before .before .args .x) .coeffs) (lying (c .before .before .before .before .before .before .before .before .before .before .args .yi) (c .before .before .before .before .before .before .before .before .before .before .args .coefficients .now) (take (c .before .before .before .before .before .before .before .before .before .before .args .at) (c .before .before .before .before .before .before .before .before .before .before .args .pool .now)) (c .before .before .before .before .before .before .before .before .before .before .args .yf) (c .before .before .before .before .before .before .before .before .before .before .args .y) .coeffs) (c .before .before .before .before .way-from .ensures) (c .before .before .if1 .left) (length-take-le (c .before .before .before .before .before .before .before .before .before .before .args .n) (c .before .before .before .before .before .before .before .before .before .before .args .work .now) (omega (arith, c .before .before .before .before .before .before .before .before .before .before .pre .0 .work))), (c .before .before .before .before .before .before .before .before .before .before .pre .0 .left .rules, lies-source (c .before .before .before .before .before .before .before .before .before .before .args .coefficients .now) (take (c .before .before .before .before .before .before .before .before .before .before .args .at) (c .before .before .before .before .before .before .before .before .before .before .args .pool .now)) (c .before .before .before .before .before .before .before .before .before .before .pre .1 .0) (length-take-le _ _ (omega (arith, c .before .before .before .before .before .before .before .before .before .before .pre .1 .1 .1)))))
-
-keep-requires : tie.Need-keep-requires
-keep-requires c κs = search needs
-
-same-length-3 : tie.Need-same-length-3
-same-length-3 c = search needs
-
-same-length-4 : tie.Need-same-length-4
-same-length-4 c = search needs
 
 returns-2 : tie.Need-returns-2
 returns-2 c = wrote-of (front-kept (c .before .before .before .before .before .before .before .plain-from .last .1 .1 .1 .1 .1 .1 .1 .1 .0) (drop (c .before .before .before .before .before .before .before .before .before .before .before .before .before .before .before .before .before .before .args .n) (c .before .before .before .before .before .before .before .before .before .before .before .before .before .before .before .before .before .before .args .work .now)) (c .before .before .keep .ensures) (c .before .before .before .before .before .before .before .plain-from .kept .1 .1 .1 .1 .1 .1 .1 .1 .0 ∙ (length-take-le (c .before .before .before .before .before .before .before .before .before .before .before .before .before .before .before .before .before .before .args .n) (c .before .before .before .before .before .before .before .before .before .before .before .before .before .before .before .before .before .before .args .work .now) (omega (arith, c .before .before .before .before .before .before .before .before .before .before .before .before .before .before .before .before .before .before .pre .0 .work)))) refl) (stands-same (sym (plain-is (c .before .before .before .before .before .before .before .before .before .before .before .before .before .before .before .before .before .before .pre .0) (lying (c .before .before .before .before .before .before .before .before .before .before .before .before .before .before .before .before .before .before .args .xi) (c .before .before .before .before .before .before .before .before .before .before .before .before .before .before .before .before .before .before .args .coefficients .now) (take (c .before .before .before .before .before .before .before .before .before .before .before .before .before .before .before .before .before .before .args .at) (c .before .before .before .before .before .before .before .before .before .before .before .before .before .before .before .before .before .before .args .pool .now)) (c .before .before .before .before .before .before .before .before .before .before .before .before .before .before .before .before .before .before .args .xf) (c .before .before .before .before .before .before .before .before .before .before .before .before .before .before .before .before .before .before .args .x) .coeffs) (lying (c .before .before .before .before .before .before .before .before .before .before .before .before .before .before .before .before .before .before .args .yi) (c .before .before .before .before .before .before .before .before .before .before .before .before .before .before .before .before .before .before .args .coefficients .now) (take (c .before .before .before .before .before .before .before .before .before .before .before .before .before .before .before .before .before .before .args .at) (c .before .before .before .before .before .before .before .before .before .before .before .before .before .before .before .before .before .before .args .pool .now)) (c .before .before .before .before .before .before .before .before .before .before .before .before .before .before .before .before .before .before .args .yf) (c .before .before .before .before .before .before .before .before .before .before .before .before .before .before .before .before .before .before .args .y) .coeffs) (c .before .before .before .before .before .before .before .before .before .before .before .before .way-from .ensures) (c .before .before .before .before .before .before .before .before .before .before .if1 .left))) (c .before .before .before .before .before .before .before .plain-from .ensures))
@@ -67,19 +43,19 @@ pub front-to-spec : {M : Type 1} → statement M
 front-to-spec =
     tie.close
     (tie.spec
-    slice-reshare-prefix-way-from
+    (λ c. search needs)
     slice-aggregate-way-from
     way-from-requires
     horner-to-requires
-    same-length
-    same-length-2
+    (λ c. search needs)
+    (λ c. search needs)
     returns
-    slice-reshare-prefix-plain-from
+    (λ c. search needs)
     slice-aggregate-plain-from
-    slice-relend-prefix-plain-from
+    (λ c. search needs)
     slice-aggregate-plain-from-2
     plain-from-requires
-    keep-requires
-    same-length-3
-    same-length-4
+    (λ c κs. search needs)
+    (λ c. search needs)
+    (λ c. search needs)
     returns-2)

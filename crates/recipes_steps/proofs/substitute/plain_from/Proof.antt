@@ -28,17 +28,8 @@ full c = length-operand (c .before .before .before .before .before .args .xf) (s
 part-full : (c : tie.After-operand) → length (c .operand .result .now) ≡ stored (c .before .before .before .before .before .args .x)
 part-full c = ap length (part-is c) ∙ full c
 
-stored-of-requires : tie.Need-stored-of-requires
-stored-of-requires c κs = search needs
-
-operand-requires : tie.Need-operand-requires
-operand-requires c κs = search needs
-
 copy-requires : tie.Need-copy-requires
 copy-requires c κs = omega (arith, c .before .before .before .before .before .before .before .before .pre .0 .same (c .before .if1 .taken), part-full (c .before .before .before))
-
-same-length : tie.Need-same-length
-same-length c = search needs
 
 returns : tie.Need-returns
 returns c = stands-same (plain-0 (c .before .before .before .before .before .before .before .before .before .before .before .args .w) (c .before .before .before .before .before .before .before .before .before .before .before .args .limits) (c .before .before .before .before .before .before .before .before .before .before .before .args .v) (block (c .before .before .before .before .before .before .before .before .before .before .before .args .x .lengths) (take (stored (c .before .before .before .before .before .before .before .before .before .before .before .args .x)) (drop (c .before .before .before .before .before .before .before .before .before .before .before .args .xf) (source (c .before .before .before .before .before .before .before .before .before .before .before .args .xi) (c .before .before .before .before .before .before .before .before .before .before .before .args .coefficients .now) (c .before .before .before .before .before .before .before .before .before .before .before .args .pool .now))))) (c .before .before .before .before .if1 .taken)) (copied-stands (c .before .before .before .before .before .before .before .before .before .before .before .args .x .lengths) (take (stored (c .before .before .before .before .before .before .before .before .before .before .before .args .x)) (drop (c .before .before .before .before .before .before .before .before .before .before .before .args .xf) (source (c .before .before .before .before .before .before .before .before .before .before .before .args .xi) (c .before .before .before .before .before .before .before .before .before .before .before .args .coefficients .now) (c .before .before .before .before .before .before .before .before .before .before .before .args .pool .now)))) (c .before .before .copy .ensures ∙ ap (take (length (c .before .before .before .before .before .before .before .before .before .before .before .args .out .now))) (part-is (c .before .before .before .before .before .before))) (c .before .before .before .before .before .before .before .before .before .before .before .pre .0 .same (c .before .before .before .before .if1 .taken) ∙ sym (full (c .before .before .before .before .before .before))))
@@ -46,17 +37,11 @@ returns c = stands-same (plain-0 (c .before .before .before .before .before .bef
 zero-put-requires : tie.Need-zero-put-requires
 zero-put-requires c κs = rw (part-full (c .before .before .before .before)) (c .before .before .before .before .before .before .before .before .before .pre .0 .row (c .before .if2 .taken))
 
-same-length-2 : tie.Need-same-length-2
-same-length-2 c = search needs
-
 returns-2 : tie.Need-returns-2
 returns-2 c = stands-same (plain-1 (c .before .before .before .before .before .before .before .before .before .before .before .before .args .w) (c .before .before .before .before .before .before .before .before .before .before .before .before .args .limits) (c .before .before .before .before .before .before .before .before .before .before .before .before .args .v) (block (c .before .before .before .before .before .before .before .before .before .before .before .before .args .x .lengths) (take (stored (c .before .before .before .before .before .before .before .before .before .before .before .before .args .x)) (drop (c .before .before .before .before .before .before .before .before .before .before .before .before .args .xf) (source (c .before .before .before .before .before .before .before .before .before .before .before .before .args .xi) (c .before .before .before .before .before .before .before .before .before .before .before .before .args .coefficients .now) (c .before .before .before .before .before .before .before .before .before .before .before .before .args .pool .now))))) (c .before .before .before .before .if2 .taken)) (rw (part-is (c .before .before .before .before .before .before .before)) at (put-stands (c .before .before .zero-put .ensures)))
 
 line-put-requires : tie.Need-line-put-requires
 line-put-requires c κs = rw (part-full (c .before .before .before .before .before)) (c .before .before .before .before .before .before .before .before .before .before .pre .0 .line (c .before .before .before .if1 .left) (c .before .before .if2 .left))
-
-same-length-3 : tie.Need-same-length-3
-same-length-3 c = search needs
 
 returns-3 : tie.Need-returns-3
 returns-3 c = stands-same (plain-2 (c .before .before .before .before .before .before .before .before .before .before .before .before .before .args .w) (c .before .before .before .before .before .before .before .before .before .before .before .before .before .args .limits) (c .before .before .before .before .before .before .before .before .before .before .before .before .before .args .v) (block (c .before .before .before .before .before .before .before .before .before .before .before .before .before .args .x .lengths) (take (stored (c .before .before .before .before .before .before .before .before .before .before .before .before .before .args .x)) (drop (c .before .before .before .before .before .before .before .before .before .before .before .before .before .args .xf) (source (c .before .before .before .before .before .before .before .before .before .before .before .before .before .args .xi) (c .before .before .before .before .before .before .before .before .before .before .before .before .before .args .coefficients .now) (c .before .before .before .before .before .before .before .before .before .before .before .before .before .args .pool .now))))) (c .before .before .before .before .before .before .if1 .left) (c .before .before .before .before .before .if2 .left)) (rw (part-is (c .before .before .before .before .before .before .before .before)) at (put-stands (c .before .before .line-put .ensures)))
@@ -65,14 +50,14 @@ pub plain-from-spec : {M : Type 1} → statement M
 plain-from-spec =
     tie.close
     (tie.spec
-    stored-of-requires
-    operand-requires
+    (λ c κs. search needs)
+    (λ c κs. search needs)
     copy-requires
-    same-length
+    (λ c. search needs)
     returns
     zero-put-requires
-    same-length-2
+    (λ c. search needs)
     returns-2
     line-put-requires
-    same-length-3
+    (λ c. search needs)
     returns-3)

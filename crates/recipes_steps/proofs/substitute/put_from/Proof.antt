@@ -30,26 +30,11 @@ part-full c = ap length (part-is c) ∙ full c
 small : (c : tie.After-count-of) → c .count-of .result ≤ length (c .before .before .before .before .before .before .before .args .work .now)
 small c = omega (arith, c .count-of .ensures, c .before .before .before .before .before .before .before .pre .1 .0)
 
-stored-of-requires : tie.Need-stored-of-requires
-stored-of-requires c κs = search needs
-
-operand-requires : tie.Need-operand-requires
-operand-requires c κs = search needs
-
-count-of-requires : tie.Need-count-of-requires
-count-of-requires c κs = search needs
-
-slice-relend-prefix-load : tie.Need-slice-relend-prefix-load
-slice-relend-prefix-load c = search needs
-
 slice-aggregate-load : tie.Need-slice-aggregate-load
 slice-aggregate-load c = sym (length-take-le _ _ (small (c .before)))
 
 load-requires : tie.Need-load-requires
 load-requires c κs = rw (part-full (c .before .before .before), length-take-le _ _ (small (c .before)), c .before .count-of .ensures) (c .before .before .before .before .before .before .before .before .pre .0)
-
-same-length : tie.Need-same-length
-same-length c = search needs
 
 returns : tie.Need-returns
 returns c = front-kept (c .before .before .before .before .before .before .before .before .before .before .before .args .work .now) (rw (part-is (c .before .before .before .before .before .before)) at (c .before .before .load .ensures)) (length-table _ (count (c .before .before .before .before .before .before .before .before .before .before .before .args .c))) (c .before .before .before .before .count-of .ensures) (small (c .before .before .before .before))
@@ -58,11 +43,11 @@ pub put-from-spec : {M : Type 1} → statement M
 put-from-spec =
     tie.close
     (tie.spec
-    stored-of-requires
-    operand-requires
-    count-of-requires
-    slice-relend-prefix-load
+    (λ c κs. search needs)
+    (λ c κs. search needs)
+    (λ c κs. search needs)
+    (λ c. search needs)
     slice-aggregate-load
     load-requires
-    same-length
+    (λ c. search needs)
     returns)

@@ -32,9 +32,6 @@ add-end c = omega (arith, c .before .before .before .pre .1 .1 .1 .1, c .before 
 loop-holds : tie.Need-loop-holds Inv-loop μ-loop
 loop-holds c = runs-first (lying (c .before .before .before .args .xi) (c .before .before .before .args .coefficients .now) (take (c .before .before .before .args .at) (c .before .before .before .args .pool .now)) (c .before .before .before .args .xf) (c .before .before .before .args .x) .coeffs) (c .before .before .before .args .pool .now) (c .before .before .before .args .work .now) (c .before .before .before .pre .0) (c .before .before .before .pre .1 .0) (c .before .before .before .pre .1 .1 .1 .1)
 
-sub-left : tie.Need-sub-left Inv-loop μ-loop
-sub-left c = omega arith
-
 slice-reshare-prefix-row-from : tie.Need-slice-reshare-prefix-row-from Inv-loop μ-loop
 slice-reshare-prefix-row-from c = omega (arith, c .before .loop .inv .stays .below .len, c .before .before .before .before .before .pre .1 .1 .1 .1)
 
@@ -47,20 +44,11 @@ row-from-requires c κs = let s = to-less (c .before .before .before .loop .inv)
 mul-turn : tie.Need-mul-turn Inv-loop μ-loop
 mul-turn c = omega (arith, c .before .before .before .before .before .before .before .loop .inv .stays .below .len, c .before .before .before .before .before .before .before .before .before .before .before .pre .1 .1 .1 .1, c .before .before .before .before .before .before .before .before .before .before .before .good)
 
-sub-turn : tie.Need-sub-turn Inv-loop μ-loop
-sub-turn c = omega arith
-
-part-turn-start : tie.Need-part-turn-start Inv-loop μ-loop
-part-turn-start c = omega arith
-
 part-turn-end : tie.Need-part-turn-end Inv-loop μ-loop
 part-turn-end c = omega (arith, c .before .before .before .before .before .before .before .loop .inv .stays .below .len, c .before .before .before .before .before .before .before .before .before .before .before .pre .1 .1 .1 .1)
 
 turn-requires : tie.Need-turn-requires Inv-loop μ-loop
 turn-requires c κs = let s = to-less (c .before .before .before .before .before .before .before .before .loop .inv) (c .before .before .before .before .before .before .before .before .loop .left - 1) (omega (arith, c .before .before .before .before .before .before .before .loop-test .taken)) in next-turning (s .runs .room) refl (c .before .before .before .before .row-from .ensures .below .len)
-
-loop-less : tie.Need-loop-less Inv-loop μ-loop
-loop-less c = omega arith
 
 loop-again : tie.Need-loop-again Inv-loop μ-loop
 loop-again c = let s = to-less (c .before .before .before .before .before .before .before .before .before .before .before .before .before .loop .inv) (c .before .before .before .before .before .before .before .before .before .before .before .before .before .loop .left - 1) (omega (arith, c .before .before .before .before .before .before .before .before .before .before .before .before .loop-test .taken)) in to-next s (same-operand (c .before .before .before .before .before .before .before .before .before .before .before .before .before .before .before .before .before .args .xi) (c .before .before .before .before .before .before .before .before .before .before .before .before .before .before .before .before .before .args .coefficients .now) (c .before .before .before .before .before .before .before .before .before .before .before .before .before .before .before .before .before .args .xf) (c .before .before .before .before .before .before .before .before .before .before .before .before .before .before .before .before .before .args .x) (c .before .before .before .before .before .before .before .before .before .before .before .before .before .loop .inv .stays .below .head)) (c .before .before .before .before .before .before .before .before .before .row-from .ensures) (c .before .before .before .before .turn .ensures) (c .before .before .before .before .turn .kept .1 .1 .1 .1 .1 .1 .0) (part-kept (c .before .before .before .before .before .before .before .before .before .before .before .before .before .before .before .before .before .args .at) (c .before .before .before .before .before .before .before .before .before .before .before .before .before .before .before .before .before .args .at + c .before .before .before .before .before .before .before .before .before .before .before .before .before .before .before .before .before .args .n) (c .before .before .before .before .before .before .before .before .before .before .before .before .before .loop .pool) (c .before .before .before .before .turn .last .1 .1 .1 .1 .1 .1 .0) (c .before .before .before .before .turn .kept .1 .1 .1 .1 .1 .1 .0 ∙ length-part (c .before .before .before .before .before .before .before .before .before .before .before .before .before .before .before .before .before .args .at) (c .before .before .before .before .before .before .before .before .before .before .before .before .before .before .before .before .before .args .at + c .before .before .before .before .before .before .before .before .before .before .before .before .before .before .before .before .before .args .n) (c .before .before .before .before .before .before .before .before .before .before .before .before .before .loop .pool) (omega arith) (omega (arith, c .before .before .before .before .before .before .before .before .before .before .before .before .before .loop .inv .stays .below .len, c .before .before .before .before .before .before .before .before .before .before .before .before .before .before .before .before .before .pre .1 .1 .1 .1))) (omega arith) (omega (arith, c .before .before .before .before .before .before .before .before .before .before .before .before .before .loop .inv .stays .below .len, c .before .before .before .before .before .before .before .before .before .before .before .before .before .before .before .before .before .pre .1 .1 .1 .1)))
@@ -83,16 +71,16 @@ rows-to-spec =
     mul-row
     add-end
     loop-holds
-    sub-left
+    (λ c. omega arith)
     slice-reshare-prefix-row-from
     slice-aggregate-row-from
     row-from-requires
     mul-turn
-    sub-turn
-    part-turn-start
+    (λ c. omega arith)
+    (λ c. omega arith)
     part-turn-end
     turn-requires
-    loop-less
+    (λ c. omega arith)
     loop-again
     same-length
     same-length-2

@@ -17,12 +17,6 @@ use Rattle.shape_words.proofs.places.count_of.Reads as count-of-reads
 full : (c : tie.Start) → length (lying (c .args .xi) (c .args .coefficients .now) (take (c .args .at) (c .args .pool .now)) (c .args .xf) (c .args .x) .coeffs) ≡ stored (c .args .x)
 full c = length-operand (c .args .xf) (stored (c .args .x)) (source (c .args .xi) (c .args .coefficients .now) (take (c .args .at) (c .args .pool .now))) (lies-source (c .args .coefficients .now) (take (c .args .at) (c .args .pool .now)) (c .pre .1 .0) (length-take-le _ _ (omega (arith, c .pre .1 .1 .1 .room))))
 
-mul-room : tie.Need-mul-room
-mul-room c = search needs
-
-slice-relend-prefix-front-to : tie.Need-slice-relend-prefix-front-to
-slice-relend-prefix-front-to c = search needs
-
 slice-aggregate-front-to : tie.Need-slice-aggregate-front-to
 slice-aggregate-front-to c = sym (length-take-le _ _ (c .before .before .before .before .before .before .pre .1 .1 .1 .spare))
 
@@ -41,12 +35,6 @@ add-pad-2 c = omega (arith, c .before .before .before .before .before .before .b
 pad-requires : tie.Need-pad-requires
 pad-requires c κs = (omega (arith, value-count (c .before .before .before .before .before .before .before .before .before .before .before .before .before .pre .0) (lying (c .before .before .before .before .before .before .before .before .before .before .before .before .before .args .xi) (c .before .before .before .before .before .before .before .before .before .before .before .before .before .args .coefficients .now) (take (c .before .before .before .before .before .before .before .before .before .before .before .before .before .args .at) (c .before .before .before .before .before .before .before .before .before .before .before .before .before .args .pool .now)) (c .before .before .before .before .before .before .before .before .before .before .before .before .before .args .xf) (c .before .before .before .before .before .before .before .before .before .before .before .before .before .args .x) .coeffs) (lying (c .before .before .before .before .before .before .before .before .before .before .before .before .before .args .yi) (c .before .before .before .before .before .before .before .before .before .before .before .before .before .args .coefficients .now) (take (c .before .before .before .before .before .before .before .before .before .before .before .before .before .args .at) (c .before .before .before .before .before .before .before .before .before .before .before .before .before .args .pool .now)) (c .before .before .before .before .before .before .before .before .before .before .before .before .before .args .yf) (c .before .before .before .before .before .before .before .before .before .before .before .before .before .args .y) .coeffs) (full (c .before .before .before .before .before .before .before .before .before .before .before .before .before)) (c .before .before .before .before .before .before .front-to .ensures) (c .before .count-of .ensures)), omega (arith, c .before .before .before .before .before .before .before .before .before .before .before .before .before .pre .1 .1 .1 .room, c .before .before .before .before .before .before .front-to .ensures .stays .below .len))
 
-same-length : tie.Need-same-length
-same-length c = search needs
-
-same-length-2 : tie.Need-same-length-2
-same-length-2 c = search needs
-
 returns : tie.Need-returns
 returns c = (value-head (c .before .before .before .before .before .before .before .before .before .before .before .before .before .before .before .before .pre .0) (lying (c .before .before .before .before .before .before .before .before .before .before .before .before .before .before .before .before .args .xi) (c .before .before .before .before .before .before .before .before .before .before .before .before .before .before .before .before .args .coefficients .now) (take (c .before .before .before .before .before .before .before .before .before .before .before .before .before .before .before .before .args .at) (c .before .before .before .before .before .before .before .before .before .before .before .before .before .before .before .before .args .pool .now)) (c .before .before .before .before .before .before .before .before .before .before .before .before .before .before .before .before .args .xf) (c .before .before .before .before .before .before .before .before .before .before .before .before .before .before .before .before .args .x) .coeffs) (lying (c .before .before .before .before .before .before .before .before .before .before .before .before .before .before .before .before .args .yi) (c .before .before .before .before .before .before .before .before .before .before .before .before .before .before .before .before .args .coefficients .now) (take (c .before .before .before .before .before .before .before .before .before .before .before .before .before .before .before .before .args .at) (c .before .before .before .before .before .before .before .before .before .before .before .before .before .before .before .before .args .pool .now)) (c .before .before .before .before .before .before .before .before .before .before .before .before .before .before .before .before .args .yf) (c .before .before .before .before .before .before .before .before .before .before .before .before .before .before .before .before .args .y) .coeffs) (full (c .before .before .before .before .before .before .before .before .before .before .before .before .before .before .before .before)) (c .before .before .before .before .before .before .before .before .before .front-to .ensures), value-kept (c .before .before .before .before .before .before .before .before .before .before .before .before .before .before .before .before .pre .0) (lying (c .before .before .before .before .before .before .before .before .before .before .before .before .before .before .before .before .args .xi) (c .before .before .before .before .before .before .before .before .before .before .before .before .before .before .before .before .args .coefficients .now) (take (c .before .before .before .before .before .before .before .before .before .before .before .before .before .before .before .before .args .at) (c .before .before .before .before .before .before .before .before .before .before .before .before .before .before .before .before .args .pool .now)) (c .before .before .before .before .before .before .before .before .before .before .before .before .before .before .before .before .args .xf) (c .before .before .before .before .before .before .before .before .before .before .before .before .before .before .before .before .args .x) .coeffs) (lying (c .before .before .before .before .before .before .before .before .before .before .before .before .before .before .before .before .args .yi) (c .before .before .before .before .before .before .before .before .before .before .before .before .before .before .before .before .args .coefficients .now) (take (c .before .before .before .before .before .before .before .before .before .before .before .before .before .before .before .before .args .at) (c .before .before .before .before .before .before .before .before .before .before .before .before .before .before .before .before .args .pool .now)) (c .before .before .before .before .before .before .before .before .before .before .before .before .before .before .before .before .args .yf) (c .before .before .before .before .before .before .before .before .before .before .before .before .before .before .before .before .args .y) .coeffs) (full (c .before .before .before .before .before .before .before .before .before .before .before .before .before .before .before .before)) (c .before .before .before .before .before .before .before .before .before .front-to .ensures) (c .before .before .before .before .count-of .ensures) (c .before .before .pad .ensures))
 
@@ -54,14 +42,14 @@ pub substitute-to-spec : {M : Type 1} → statement M
 substitute-to-spec =
     tie.close
     (tie.spec
-    mul-room
-    slice-relend-prefix-front-to
+    (λ c. search needs)
+    (λ c. search needs)
     slice-aggregate-front-to
     front-to-requires
     count-of-requires
     add-pad
     add-pad-2
     pad-requires
-    same-length
-    same-length-2
+    (λ c. search needs)
+    (λ c. search needs)
     returns)

@@ -19,29 +19,8 @@ abbrev μ-loop : tie.MeasureT-loop
 loop-holds : tie.Need-loop-holds Inv-loop μ-loop
 loop-holds c = (omega arith, below-none _)
 
-sub-word-of : tie.Need-sub-word-of Inv-loop μ-loop
-sub-word-of c = search needs
-
-sub-word-of-2 : tie.Need-sub-word-of-2 Inv-loop μ-loop
-sub-word-of-2 c = search needs
-
-mul-word-of : tie.Need-mul-word-of Inv-loop μ-loop
-mul-word-of c = search needs
-
-shared-slice-read-word-of : tie.Need-shared-slice-read-word-of Inv-loop μ-loop
-shared-slice-read-word-of c = search needs
-
-word-of-requires : tie.Need-word-of-requires Inv-loop μ-loop
-word-of-requires c κs = search needs
-
 returns : tie.Need-returns Inv-loop μ-loop
 returns c = record { within = omega arith; each = c .before .before .before .before .loop .inv .1; stop = λ l. ne-eqb _ 0x3ff0000000000001 (λ e. c .if1 .taken (c .before .word-of .ensures ∙ e)) }
-
-add-k : tie.Need-add-k Inv-loop μ-loop
-add-k c = search needs
-
-loop-less : tie.Need-loop-less Inv-loop μ-loop
-loop-less c = search needs
 
 loop-again : tie.Need-loop-again Inv-loop μ-loop
 loop-again c = (omega arith, below-more _ _ (c .before .before .before .before .loop .inv .1) (eq-eqb _ 0x3ff0000000000001 (sym (c .before .word-of .ensures) ∙ c .if1 .left)))
@@ -56,13 +35,13 @@ untouched-spec =
     Inv-loop
     μ-loop
     loop-holds
-    sub-word-of
-    sub-word-of-2
-    mul-word-of
-    shared-slice-read-word-of
-    word-of-requires
+    (λ c. search needs)
+    (λ c. search needs)
+    (λ c. search needs)
+    (λ c. search needs)
+    (λ c κs. search needs)
     returns
-    add-k
-    loop-less
+    (λ c. search needs)
+    (λ c. search needs)
     loop-again
     returns-2)

@@ -14,38 +14,11 @@ Inv-loop xs at first k₀ k = (at < k) × ((k ≤ length xs) × (AlikeTo (bitsIn
 abbrev μ-loop : tie.MeasureT-loop
 μ-loop xs at first k₀ k = length xs - k
 
-mul-word-of : tie.Need-mul-word-of Inv-loop μ-loop
-mul-word-of c = search needs
-
-shared-slice-read-word-of : tie.Need-shared-slice-read-word-of Inv-loop μ-loop
-shared-slice-read-word-of c = search needs
-
-word-of-requires : tie.Need-word-of-requires Inv-loop μ-loop
-word-of-requires c κs = search needs
-
-add-k : tie.Need-add-k Inv-loop μ-loop
-add-k c = search needs
-
 loop-holds : tie.Need-loop-holds Inv-loop μ-loop
 loop-holds c = (omega arith, (omega arith, (alike-one _ _, c .word-of .ensures)))
 
-mul-word-of-2 : tie.Need-mul-word-of-2 Inv-loop μ-loop
-mul-word-of-2 c = search needs
-
-shared-slice-read-word-of-2 : tie.Need-shared-slice-read-word-of-2 Inv-loop μ-loop
-shared-slice-read-word-of-2 c = search needs
-
-word-of-requires-2 : tie.Need-word-of-requires-2 Inv-loop μ-loop
-word-of-requires-2 c κs = search needs
-
 returns : tie.Need-returns Inv-loop μ-loop
 returns c = record { after = omega arith; within = omega arith; each = c .before .before .before .before .loop .inv .1 .1 .0; stop = λ l e. c .if1 .taken (c .before .word-of2 .ensures ∙ e ∙ sym (c .before .before .before .before .loop .inv .1 .1 .1)) }
-
-add-k-2 : tie.Need-add-k-2 Inv-loop μ-loop
-add-k-2 c = search needs
-
-loop-less : tie.Need-loop-less Inv-loop μ-loop
-loop-less c = search needs
 
 loop-again : tie.Need-loop-again Inv-loop μ-loop
 loop-again c = (omega arith, (omega arith, (below-more _ _ (c .before .before .before .before .loop .inv .1 .1 .0) (λ m. sym (c .before .word-of2 .ensures) ∙ c .if1 .left ∙ c .before .before .before .before .loop .inv .1 .1 .1), c .before .before .before .before .loop .inv .1 .1 .1)))
@@ -59,16 +32,16 @@ alike-floats-spec =
     (tie.spec
     Inv-loop
     μ-loop
-    mul-word-of
-    shared-slice-read-word-of
-    word-of-requires
-    add-k
+    (λ c. search needs)
+    (λ c. search needs)
+    (λ c κs. search needs)
+    (λ c. search needs)
     loop-holds
-    mul-word-of-2
-    shared-slice-read-word-of-2
-    word-of-requires-2
+    (λ c. search needs)
+    (λ c. search needs)
+    (λ c κs. search needs)
     returns
-    add-k-2
-    loop-less
+    (λ c. search needs)
+    (λ c. search needs)
     loop-again
     returns-2)

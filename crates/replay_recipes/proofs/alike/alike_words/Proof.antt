@@ -13,32 +13,11 @@ Inv-loop xs at k₀ k = (at < k) × ((k ≤ length xs) × AlikeTo (wordIn xs) at
 abbrev μ-loop : tie.MeasureT-loop
 μ-loop xs at k₀ k = length xs - k
 
-add-k : tie.Need-add-k Inv-loop μ-loop
-add-k c = search needs
-
 loop-holds : tie.Need-loop-holds Inv-loop μ-loop
 loop-holds c = (omega arith, (omega arith, alike-one _ _))
 
-mul-if1 : tie.Need-mul-if1 Inv-loop μ-loop
-mul-if1 c = search needs
-
-shared-slice-read-if1 : tie.Need-shared-slice-read-if1 Inv-loop μ-loop
-shared-slice-read-if1 c = search needs
-
-mul-if1-2 : tie.Need-mul-if1-2 Inv-loop μ-loop
-mul-if1-2 c = search needs
-
-shared-slice-read-if1-2 : tie.Need-shared-slice-read-if1-2 Inv-loop μ-loop
-shared-slice-read-if1-2 c = search needs
-
 returns : tie.Need-returns Inv-loop μ-loop
 returns c = record { after = omega arith; within = omega arith; each = c .before .before .before .before .loop .inv .1 .1; stop = λ l e. c .if1 .taken e }
-
-add-k-2 : tie.Need-add-k-2 Inv-loop μ-loop
-add-k-2 c = search needs
-
-loop-less : tie.Need-loop-less Inv-loop μ-loop
-loop-less c = search needs
 
 loop-again : tie.Need-loop-again Inv-loop μ-loop
 loop-again c = (omega arith, (omega arith, below-more _ _ (c .before .before .before .before .loop .inv .1 .1) (λ m. c .if1 .left)))
@@ -52,14 +31,14 @@ alike-words-spec =
     (tie.spec
     Inv-loop
     μ-loop
-    add-k
+    (λ c. search needs)
     loop-holds
-    mul-if1
-    shared-slice-read-if1
-    mul-if1-2
-    shared-slice-read-if1-2
+    (λ c. search needs)
+    (λ c. search needs)
+    (λ c. search needs)
+    (λ c. search needs)
     returns
-    add-k-2
-    loop-less
+    (λ c. search needs)
+    (λ c. search needs)
     loop-again
     returns-2)

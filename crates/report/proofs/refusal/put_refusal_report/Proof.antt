@@ -9,21 +9,6 @@ use Rattle.report.proofs.refusal.put_meaning.Reads as put-meaning-reads
 use Rattle.report.proofs.refusal.put_refused.Reads as put-refused-reads
 use Rattle.report.proofs.refusal.put_where.Reads as put-where-reads
 
-put-refused-requires : tie.Need-put-refused-requires
-put-refused-requires c κs = search needs
-
-cast-put-where : tie.Need-cast-put-where
-cast-put-where c = search needs
-
-put-where-requires : tie.Need-put-where-requires
-put-where-requires c κs = search needs
-
-put-meaning-requires : tie.Need-put-meaning-requires
-put-meaning-requires c κs = search needs
-
-same-length : tie.Need-same-length
-same-length c = search needs
-
 returns : tie.Need-returns
 unfolding refusalReport
 returns c = puts-then (c .before .before .before .before .before .before .before .before .before .before .before .put-refused .ensures) (puts-then (c .before .before .before .before .before .before .put-where .ensures) (c .before .before .put-meaning .ensures))
@@ -32,9 +17,9 @@ pub put-refusal-report-spec : {M : Type 1} → statement M
 put-refusal-report-spec =
     tie.close
     (tie.spec
-    put-refused-requires
-    cast-put-where
-    put-where-requires
-    put-meaning-requires
-    same-length
+    (λ c κs. search needs)
+    (λ c. search needs)
+    (λ c κs. search needs)
+    (λ c κs. search needs)
+    (λ c. search needs)
     returns)

@@ -8,21 +8,6 @@ use Rattle.report.proofs.refusal.put_where.Lts as lts
 use Rattle.report_lines.proofs.put.put.Reads as put-reads
 use Rattle.report_lines.proofs.put.tell.Reads as tell-reads
 
-slice-aggregate-tell : tie.Need-slice-aggregate-tell
-slice-aggregate-tell c = search needs
-
-tell-requires : tie.Need-tell-requires
-tell-requires c κs = search needs
-
-slice-aggregate-put : tie.Need-slice-aggregate-put
-slice-aggregate-put c = search needs
-
-put-requires : tie.Need-put-requires
-put-requires c κs = search needs
-
-same-length : tie.Need-same-length
-same-length c = search needs
-
 returns : tie.Need-returns
 unfolding bytes
 returns c = rw (c .before .before .before .before .before .before .before .before .before .before .if1 .taken) (puts-then (c .before .before .before .before .before .before .before .tell .ensures) (c .before .before .put .ensures))
@@ -34,10 +19,10 @@ pub put-where-spec : {M : Type 1} → statement M
 put-where-spec =
     tie.close
     (tie.spec
-    slice-aggregate-tell
-    tell-requires
-    slice-aggregate-put
-    put-requires
-    same-length
+    (λ c. search needs)
+    (λ c κs. search needs)
+    (λ c. search needs)
+    (λ c κs. search needs)
+    (λ c. search needs)
     returns
     returns-2)

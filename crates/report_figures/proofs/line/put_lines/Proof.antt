@@ -20,15 +20,6 @@ loop-holds : tie.Need-loop-holds Inv-loop μ-loop
 unfolding joined
 loop-holds c = record { most = omega arith; len = refl; put = puts-none _ _ }
 
-put-figure-requires : tie.Need-put-figure-requires Inv-loop μ-loop
-put-figure-requires c κs = search needs
-
-add-p : tie.Need-add-p Inv-loop μ-loop
-add-p c = omega arith
-
-loop-less : tie.Need-loop-less Inv-loop μ-loop
-loop-less c = omega arith
-
 loop-again : tie.Need-loop-again Inv-loop μ-loop
 loop-again c = record { most = omega arith; len = c .before .before .put-figure .kept .1 .1 .1 .1 .0 ∙ c .before .before .before .before .before .loop .inv .len; put = puts-joined _ _ (c .before .before .before .before .before .loop .inv .put) (c .before .before .put-figure .ensures) }
 
@@ -45,9 +36,9 @@ put-lines-spec =
     Inv-loop
     μ-loop
     loop-holds
-    put-figure-requires
-    add-p
-    loop-less
+    (λ c κs. search needs)
+    (λ c. omega arith)
+    (λ c. omega arith)
     loop-again
     same-length
     returns)

@@ -6,24 +6,6 @@ use borrow.Author.Needs.{needs}
 use Rattle.report_figures.proofs.line.put_part.Statement.{statement}
 use Rattle.report_figures.proofs.line.put_part.Tie as tie
 
-slice-aggregate-put-if : tie.Need-slice-aggregate-put-if
-slice-aggregate-put-if c = search needs
-
-put-if-requires : tie.Need-put-if-requires
-put-if-requires c κs = search needs
-
-mul-put-number : tie.Need-mul-put-number
-mul-put-number c = search needs
-
-array-read-put-number : tie.Need-array-read-put-number
-array-read-put-number c = search needs
-
-put-number-requires : tie.Need-put-number-requires
-put-number-requires c κs = search needs
-
-same-length : tie.Need-same-length
-same-length c = search needs
-
 returns : tie.Need-returns
 unfolding partText bytes
 returns c = rw (lt-ltb _ _ (c .before .before .before .before .before .before .before .before .before .if1 .taken)) (puts-then (c .before .before .before .before .before .before .put-if .ensures) (c .before .before .put-number .ensures))
@@ -36,11 +18,11 @@ pub put-part-spec : {M : Type 1} → statement M
 put-part-spec =
     tie.close
     (tie.spec
-    slice-aggregate-put-if
-    put-if-requires
-    mul-put-number
-    array-read-put-number
-    put-number-requires
-    same-length
+    (λ c. search needs)
+    (λ c κs. search needs)
+    (λ c. search needs)
+    (λ c. search needs)
+    (λ c κs. search needs)
+    (λ c. search needs)
     returns
     returns-2)

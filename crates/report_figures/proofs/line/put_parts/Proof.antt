@@ -19,15 +19,6 @@ loop-holds : tie.Need-loop-holds Inv-loop μ-loop
 unfolding joined
 loop-holds c = record { most = omega arith; len = refl; put = puts-none _ _ }
 
-put-part-requires : tie.Need-put-part-requires Inv-loop μ-loop
-put-part-requires c κs = search needs
-
-add-v : tie.Need-add-v Inv-loop μ-loop
-add-v c = omega arith
-
-loop-less : tie.Need-loop-less Inv-loop μ-loop
-loop-less c = omega arith
-
 loop-again : tie.Need-loop-again Inv-loop μ-loop
 loop-again c = record { most = omega arith; len = c .before .before .put-part .kept .1 .1 .1 .1 .0 ∙ c .before .before .before .before .before .loop .inv .len; put = puts-joined _ _ (c .before .before .before .before .before .loop .inv .put) (c .before .before .put-part .ensures) }
 
@@ -44,9 +35,9 @@ put-parts-spec =
     Inv-loop
     μ-loop
     loop-holds
-    put-part-requires
-    add-v
-    loop-less
+    (λ c κs. search needs)
+    (λ c. omega arith)
+    (λ c. omega arith)
     loop-again
     same-length
     returns)

@@ -9,18 +9,6 @@ use Rattle.report_lines.proofs.cuts.put_cut_line.Reads as put-cut-line-
 use Rattle.report_trace.proofs.cut.is_cut.Reads as is-cut-reads
 use Rattle.report_trace.proofs.decide.step_word.Reads as step-word-reads
 
-step-word-requires : tie.Need-step-word-requires
-step-word-requires c κs = search needs
-
-is-cut-requires : tie.Need-is-cut-requires
-is-cut-requires c κs = search needs
-
-put-cut-line-requires : tie.Need-put-cut-line-requires
-put-cut-line-requires c κs = search needs
-
-same-length : tie.Need-same-length
-same-length c = search needs
-
 returns : tie.Need-returns
 unfolding cutText
 returns c = rw (← c .before .before .before .before .before .before .step-word .ensures, ← c .before .before .before .before .before .is-cut .ensures, c .before .before .before .before .if1 .taken) (c .before .before .put-cut-line .ensures)
@@ -33,9 +21,9 @@ pub put-cut-spec : {M : Type 1} → statement M
 put-cut-spec =
     tie.close
     (tie.spec
-    step-word-requires
-    is-cut-requires
-    put-cut-line-requires
-    same-length
+    (λ c κs. search needs)
+    (λ c κs. search needs)
+    (λ c κs. search needs)
+    (λ c. search needs)
     returns
     returns-2)

@@ -13,26 +13,8 @@ use Rattle.report_lines.proofs.put.put.Reads as put-reads
 use Rattle.report_trace.proofs.cut.limit_at.Reads as limit-at-reads
 use Rattle.report_trace.proofs.decide.decider.Reads as decider-reads
 
-limit-at-requires : tie.Need-limit-at-requires
-limit-at-requires c κs = search needs
-
-decider-requires : tie.Need-decider-requires
-decider-requires c κs = search needs
-
-put-ends-at-requires : tie.Need-put-ends-at-requires
-put-ends-at-requires c κs = search needs
-
 put-further-requires : tie.Need-put-further-requires
 put-further-requires c κs = (omega arith, omega arith)
-
-slice-aggregate-put : tie.Need-slice-aggregate-put
-slice-aggregate-put c = search needs
-
-put-requires : tie.Need-put-requires
-put-requires c κs = search needs
-
-same-length : tie.Need-same-length
-same-length c = omega arith
 
 returns : tie.Need-returns
 unfolding endLine bytes
@@ -42,11 +24,11 @@ pub put-end-line-spec : {M : Type 1} → statement M
 put-end-line-spec =
     tie.close
     (tie.spec
-    limit-at-requires
-    decider-requires
-    put-ends-at-requires
+    (λ c κs. search needs)
+    (λ c κs. search needs)
+    (λ c κs. search needs)
     put-further-requires
-    slice-aggregate-put
-    put-requires
-    same-length
+    (λ c. search needs)
+    (λ c κs. search needs)
+    (λ c. omega arith)
     returns)

@@ -11,30 +11,6 @@ use Rattle.report_lines.proofs.put.tell.Reads as tell-reads
 use Rattle.report_trace.proofs.cut.limit_at.Reads as limit-at-reads
 use Rattle.report_trace.proofs.far.furthest.Reads as furthest-reads
 
-furthest-requires : tie.Need-furthest-requires
-furthest-requires c κs = search needs
-
-limit-at-requires : tie.Need-limit-at-requires
-limit-at-requires c κs = search needs
-
-limit-at-requires-2 : tie.Need-limit-at-requires-2
-limit-at-requires-2 c κs = search needs
-
-slice-aggregate-tell : tie.Need-slice-aggregate-tell
-slice-aggregate-tell c = search needs
-
-tell-requires : tie.Need-tell-requires
-tell-requires c κs = search needs
-
-slice-aggregate-tell-2 : tie.Need-slice-aggregate-tell-2
-slice-aggregate-tell-2 c = search needs
-
-tell-requires-2 : tie.Need-tell-requires-2
-tell-requires-2 c κs = search needs
-
-same-length : tie.Need-same-length
-same-length c = search needs
-
 returns : tie.Need-returns
 unfolding furtherText bytes
 returns c = rw (← c .before .before .before .before .before .before .before .before .before .before .before .before .before .furthest .ensures, ← c .before .before .before .before .before .before .before .before .before .before .before .before .limit-at .ensures, ← c .before .before .before .before .before .before .before .before .before .before .before .limit-at2 .ensures, lt-ltb _ _ (c .before .before .before .before .before .before .before .before .before .before .if1 .taken)) (puts-then (c .before .before .before .before .before .before .before .tell .ensures) (c .before .before .tell2 .ensures))
@@ -47,13 +23,13 @@ pub put-further-spec : {M : Type 1} → statement M
 put-further-spec =
     tie.close
     (tie.spec
-    furthest-requires
-    limit-at-requires
-    limit-at-requires-2
-    slice-aggregate-tell
-    tell-requires
-    slice-aggregate-tell-2
-    tell-requires-2
-    same-length
+    (λ c κs. search needs)
+    (λ c κs. search needs)
+    (λ c κs. search needs)
+    (λ c. search needs)
+    (λ c κs. search needs)
+    (λ c. search needs)
+    (λ c κs. search needs)
+    (λ c. search needs)
     returns
     returns-2)

@@ -9,24 +9,6 @@ use Rattle.report_lines.proofs.cuts.put_place_kind.Lts as lts
 use Rattle.report_lines.proofs.put.put_either.Reads as put-either-reads
 use Rattle.report_lines.proofs.put.tell.Reads as tell-reads
 
-slice-aggregate-tell : tie.Need-slice-aggregate-tell
-slice-aggregate-tell c = search needs
-
-tell-requires : tie.Need-tell-requires
-tell-requires c κs = search needs
-
-slice-aggregate-put-either : tie.Need-slice-aggregate-put-either
-slice-aggregate-put-either c = search needs
-
-slice-aggregate-put-either-2 : tie.Need-slice-aggregate-put-either-2
-slice-aggregate-put-either-2 c = search needs
-
-put-either-requires : tie.Need-put-either-requires
-put-either-requires c κs = search needs
-
-same-length : tie.Need-same-length
-same-length c = search needs
-
 returns : tie.Need-returns
 unfolding placeKindText bytes
 returns c = puts-then (c .before .before .before .before .before .before .before .before .tell .ensures) (c .before .before .put-either .ensures)
@@ -35,10 +17,10 @@ pub put-place-kind-spec : {M : Type 1} → statement M
 put-place-kind-spec =
     tie.close
     (tie.spec
-    slice-aggregate-tell
-    tell-requires
-    slice-aggregate-put-either
-    slice-aggregate-put-either-2
-    put-either-requires
-    same-length
+    (λ c. search needs)
+    (λ c κs. search needs)
+    (λ c. search needs)
+    (λ c. search needs)
+    (λ c κs. search needs)
+    (λ c. search needs)
     returns)

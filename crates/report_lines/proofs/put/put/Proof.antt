@@ -14,20 +14,11 @@ use Rattle.sheet_text.proofs.print.put_bytes.Reads as put-bytes-reads
 returns : tie.Need-returns
 returns c = puts-past _ (c .if1 .taken)
 
-sub-least : tie.Need-sub-least
-sub-least c = search needs
-
-least-requires : tie.Need-least-requires
-least-requires c κs = search needs
-
 slice-aggregate-put-bytes : tie.Need-slice-aggregate-put-bytes
 slice-aggregate-put-bytes c = sym (length-take-le _ _ (omega (arith, c .before .least .ensures)))
 
 put-bytes-requires : tie.Need-put-bytes-requires
 put-bytes-requires c κs = simp length-take (omega (arith, c .before .before .least .ensures))
-
-same-length : tie.Need-same-length
-same-length c = search needs
 
 returns-2 : tie.Need-returns-2
 returns-2 c = puts-clipped _ (omega arith) (rw (c .before .before .before .before .before .least .ensures) at (c .before .before .put-bytes .ensures))
@@ -37,9 +28,9 @@ put-spec =
     tie.close
     (tie.spec
     returns
-    sub-least
-    least-requires
+    (λ c. search needs)
+    (λ c κs. search needs)
     slice-aggregate-put-bytes
     put-bytes-requires
-    same-length
+    (λ c. search needs)
     returns-2)

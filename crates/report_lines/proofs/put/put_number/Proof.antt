@@ -12,23 +12,11 @@ use Rattle.report_lines.proofs.put.put_number.Lts as lts
 use Rattle.report_lines.proofs.put.put.Reads as put-reads
 use Rattle.sheet_text.proofs.print.put_decimal.Reads as put-decimal-reads
 
-slice-aggregate-put-decimal : tie.Need-slice-aggregate-put-decimal
-slice-aggregate-put-decimal c = search needs
-
 put-decimal-requires : tie.Need-put-decimal-requires
 put-decimal-requires c κs = omega (arith, decimal-most 20 (c .before .before .args .n) (omega arith) (omega arith) (omega arith))
 
-array-share-prefix-digits : tie.Need-array-share-prefix-digits
-array-share-prefix-digits c = search needs
-
 slice-aggregate-put : tie.Need-slice-aggregate-put
 slice-aggregate-put c = sym (length-take-le _ _ (omega (arith, c .before .before .put-decimal .ensures .fits, put-len (c .before .before .put-decimal .ensures))))
-
-put-requires : tie.Need-put-requires
-put-requires c κs = search needs
-
-same-length : tie.Need-same-length
-same-length c = search needs
 
 returns : tie.Need-returns
 returns c = rw (put-taken (c .before .before .before .before .before .before .put-decimal .ensures)) at (c .before .before .put .ensures)
@@ -37,10 +25,10 @@ pub put-number-spec : {M : Type 1} → statement M
 put-number-spec =
     tie.close
     (tie.spec
-    slice-aggregate-put-decimal
+    (λ c. search needs)
     put-decimal-requires
-    array-share-prefix-digits
+    (λ c. search needs)
     slice-aggregate-put
-    put-requires
-    same-length
+    (λ c κs. search needs)
+    (λ c. search needs)
     returns)

@@ -10,30 +10,6 @@ use Rattle.report_trace.proofs.cut.uses_in.Reads as uses-in-reads
 use Rattle.report_trace.proofs.decide.is_equal.Reads as is-equal-reads
 use Rattle.report_trace.proofs.decide.step_word.Reads as step-word-reads
 
-step-word-requires : tie.Need-step-word-requires
-step-word-requires c κs = search needs
-
-step-of-requires : tie.Need-step-of-requires
-step-of-requires c κs = search needs
-
-uses-in-requires : tie.Need-uses-in-requires
-uses-in-requires c κs = search needs
-
-is-equal-requires : tie.Need-is-equal-requires
-is-equal-requires c κs = search needs
-
-pick-requires : tie.Need-pick-requires
-pick-requires c κs = search needs
-
-is-equal-requires-2 : tie.Need-is-equal-requires-2
-is-equal-requires-2 c κs = search needs
-
-pick-requires-2 : tie.Need-pick-requires-2
-pick-requires-2 c κs = search needs
-
-pick-requires-3 : tie.Need-pick-requires-3
-pick-requires-3 c κs = search needs
-
 returns : tie.Need-returns
 returns c = follow-is _ _ _ _ _ (c .before .before .before .before .before .before .before .step-word .ensures) (c .before .before .before .before .before .before .step-of .ensures) (c .before .before .before .before .before .uses-in .ensures) (c .before .before .before .before .is-equal .ensures) (c .before .before .before .pick .ensures) (c .before .before .is-equal2 .ensures) (c .before .pick2 .ensures) (c .pick3 .ensures)
 
@@ -41,12 +17,12 @@ pub follow-spec : {M : Type 1} → statement M
 follow-spec =
     tie.close
     (tie.spec
-    step-word-requires
-    step-of-requires
-    uses-in-requires
-    is-equal-requires
-    pick-requires
-    is-equal-requires-2
-    pick-requires-2
-    pick-requires-3
+    (λ c κs. search needs)
+    (λ c κs. search needs)
+    (λ c κs. search needs)
+    (λ c κs. search needs)
+    (λ c κs. search needs)
+    (λ c κs. search needs)
+    (λ c κs. search needs)
+    (λ c κs. search needs)
     returns)

@@ -27,20 +27,11 @@ array-share-prefix-found c = omega (arith, found-len _ _ _ _ (c .before .loop .i
 slice-aggregate-furthest-next : tie.Need-slice-aggregate-furthest-next Inv-loop μ-loop
 slice-aggregate-furthest-next c = sym (length-take-le _ _ (omega (arith, found-len _ _ _ _ (c .before .before .loop .inv .1))))
 
-furthest-next-requires : tie.Need-furthest-next-requires Inv-loop μ-loop
-furthest-next-requires c κs = search needs
-
 mul-found : tie.Need-mul-found Inv-loop μ-loop
 mul-found c = omega (arith, found-len _ _ _ _ (c .before .before .before .loop .inv .1))
 
 array-write-found : tie.Need-array-write-found Inv-loop μ-loop
 array-write-found c = omega (arith, found-len _ _ _ _ (c .before .before .before .loop .inv .1))
-
-add-k : tie.Need-add-k Inv-loop μ-loop
-add-k c = search needs
-
-loop-less : tie.Need-loop-less Inv-loop μ-loop
-loop-less c = search needs
 
 loop-again : tie.Need-loop-again Inv-loop μ-loop
 loop-again c = (omega arith, found-more _ _ _ _ (c .before .before .before .loop .inv .1) (c .furthest-next .ensures) (omega arith))
@@ -50,9 +41,6 @@ array-share-prefix-found-2 c = omega (arith, found-len _ _ _ _ (c .before .loop 
 
 slice-aggregate-furthest-next-2 : tie.Need-slice-aggregate-furthest-next-2 Inv-loop μ-loop
 slice-aggregate-furthest-next-2 c = sym (length-take-le _ _ (omega (arith, found-len _ _ _ _ (c .before .before .loop .inv .1))))
-
-furthest-next-requires-2 : tie.Need-furthest-next-requires-2 Inv-loop μ-loop
-furthest-next-requires-2 c κs = search needs
 
 returns : tie.Need-returns Inv-loop μ-loop
 returns c = found-end _ _ _ _ (c .before .before .before .loop .inv .1) (c .before .before .before .loop .inv .0) (omega arith) (c .furthest-next2 .ensures)
@@ -66,13 +54,13 @@ furthest-spec =
     loop-holds
     array-share-prefix-found
     slice-aggregate-furthest-next
-    furthest-next-requires
+    (λ c κs. search needs)
     mul-found
     array-write-found
-    add-k
-    loop-less
+    (λ c. search needs)
+    (λ c. search needs)
     loop-again
     array-share-prefix-found-2
     slice-aggregate-furthest-next-2
-    furthest-next-requires-2
+    (λ c κs. search needs)
     returns)

@@ -22,18 +22,9 @@ abbrev μ-loop : tie.MeasureT-loop
 loop-holds : tie.Need-loop-holds Inv-loop μ-loop
 loop-holds c = passing-none _ _ _
 
-goes-on-requires : tie.Need-goes-on-requires Inv-loop μ-loop
-goes-on-requires c κs = search needs
-
 returns : tie.Need-returns Inv-loop μ-loop
 unfolding isWhole
 returns c = sym (passing-stop (c .before .before .before .loop .inv) (c .before .before .loop-test .taken) (from-zero _ _ _ _ _ (c .before .goes-on .ensures) (not-true _ (c .if1 .taken))))
-
-add-v : tie.Need-add-v Inv-loop μ-loop
-add-v c = search needs
-
-loop-less : tie.Need-loop-less Inv-loop μ-loop
-loop-less c = search needs
 
 loop-again : tie.Need-loop-again Inv-loop μ-loop
 loop-again c = passing-more (c .before .before .before .loop .inv) (c .before .before .loop-test .taken) (from-zero _ _ _ _ _ (c .before .goes-on .ensures) (not-false _ (c .if1 .left)))
@@ -49,9 +40,9 @@ is-whole-spec =
     Inv-loop
     μ-loop
     loop-holds
-    goes-on-requires
+    (λ c κs. search needs)
     returns
-    add-v
-    loop-less
+    (λ c. search needs)
+    (λ c. search needs)
     loop-again
     returns-2)

@@ -10,72 +10,6 @@ use Rattle.shape.proofs.announce.power_header.Reads as power-header-rea
 use Rattle.shape.proofs.announce.single_header.Reads as single-header-reads
 use Rattle.shape.proofs.announce.substitution_header.Reads as substitution-header-reads
 
-enum-told : tie.Need-enum-told
-enum-told c = search needs
-
-none-requires : tie.Need-none-requires
-none-requires c κs = search needs
-
-enum-told-2 : tie.Need-enum-told-2
-enum-told-2 c = search needs
-
-single-header-requires : tie.Need-single-header-requires
-single-header-requires c κs = search needs
-
-enum-told-3 : tie.Need-enum-told-3
-enum-told-3 c = search needs
-
-paired-header-requires : tie.Need-paired-header-requires
-paired-header-requires c κs = search needs
-
-enum-told-4 : tie.Need-enum-told-4
-enum-told-4 c = search needs
-
-paired-header-requires-2 : tie.Need-paired-header-requires-2
-paired-header-requires-2 c κs = search needs
-
-enum-told-5 : tie.Need-enum-told-5
-enum-told-5 c = search needs
-
-paired-header-requires-3 : tie.Need-paired-header-requires-3
-paired-header-requires-3 c κs = search needs
-
-enum-told-6 : tie.Need-enum-told-6
-enum-told-6 c = search needs
-
-single-header-requires-2 : tie.Need-single-header-requires-2
-single-header-requires-2 c κs = search needs
-
-enum-known-f : tie.Need-enum-known-f
-enum-known-f c = search needs
-
-power-header-requires : tie.Need-power-header-requires
-power-header-requires c κs = search needs
-
-enum-told-7 : tie.Need-enum-told-7
-enum-told-7 c = search needs
-
-single-header-requires-3 : tie.Need-single-header-requires-3
-single-header-requires-3 c κs = search needs
-
-enum-known-f-2 : tie.Need-enum-known-f-2
-enum-known-f-2 c = search needs
-
-substitution-header-requires : tie.Need-substitution-header-requires
-substitution-header-requires c κs = search needs
-
-enum-told-8 : tie.Need-enum-told-8
-enum-told-8 c = search needs
-
-single-header-requires-4 : tie.Need-single-header-requires-4
-single-header-requires-4 c κs = search needs
-
-enum-told-9 : tie.Need-enum-told-9
-enum-told-9 c = search needs
-
-single-header-requires-5 : tie.Need-single-header-requires-5
-single-header-requires-5 c κs = search needs
-
 returns : tie.Need-returns
 unfolding announced
 returns c = rw (c .before .enum-told .given .1) (c .none .ensures)
@@ -124,28 +58,28 @@ pub announced-of-spec : {M : Type 1} → statement M
 announced-of-spec =
     tie.close
     (tie.spec
-    enum-told
-    none-requires
-    enum-told-2
-    single-header-requires
-    enum-told-3
-    paired-header-requires
-    enum-told-4
-    paired-header-requires-2
-    enum-told-5
-    paired-header-requires-3
-    enum-told-6
-    single-header-requires-2
-    enum-known-f
-    power-header-requires
-    enum-told-7
-    single-header-requires-3
-    enum-known-f-2
-    substitution-header-requires
-    enum-told-8
-    single-header-requires-4
-    enum-told-9
-    single-header-requires-5
+    (λ c. search needs)
+    (λ c κs. search needs)
+    (λ c. search needs)
+    (λ c κs. search needs)
+    (λ c. search needs)
+    (λ c κs. search needs)
+    (λ c. search needs)
+    (λ c κs. search needs)
+    (λ c. search needs)
+    (λ c κs. search needs)
+    (λ c. search needs)
+    (λ c κs. search needs)
+    (λ c. search needs)
+    (λ c κs. search needs)
+    (λ c. search needs)
+    (λ c κs. search needs)
+    (λ c. search needs)
+    (λ c κs. search needs)
+    (λ c. search needs)
+    (λ c κs. search needs)
+    (λ c. search needs)
+    (λ c κs. search needs)
     returns
     returns-2
     returns-3

@@ -7,18 +7,6 @@ use borrow.Author.Needs.{needs}
 use Rattle.shape.proofs.announce.product_header.Statement.{statement}
 use Rattle.shape.proofs.announce.product_header.Tie as tie
 
-min-degrees-p1-requires : tie.Need-min-degrees-p1-requires
-min-degrees-p1-requires c κs = search needs
-
-most-requires : tie.Need-most-requires
-most-requires c κs = search needs
-
-cut-to-requires : tie.Need-cut-to-requires
-cut-to-requires c κs = search needs
-
-cut-to-requires-2 : tie.Need-cut-to-requires-2
-cut-to-requires-2 c κs = search needs
-
 sum-shape-requires : tie.Need-sum-shape-requires
 sum-shape-requires c κs =
     let s = c .before .before .before .before .before .before in
@@ -36,9 +24,9 @@ pub product-header-spec : {M : Type 1} → statement M
 product-header-spec =
     tie.close
     (tie.spec
-    min-degrees-p1-requires
-    most-requires
-    cut-to-requires
-    cut-to-requires-2
+    (λ c κs. search needs)
+    (λ c κs. search needs)
+    (λ c κs. search needs)
+    (λ c κs. search needs)
     sum-shape-requires
     returns)

@@ -9,26 +9,14 @@ use Rattle.shape.proofs.announce.substitution_length.Reads as reads
 use Rattle.shape.proofs.announce.substitution_length.Lts as lts
 use Rattle.shape.proofs.limits.least.Reads as least-reads
 
-sub-more : tie.Need-sub-more
-sub-more c = search needs
-
-sub-more-2 : tie.Need-sub-more-2
-sub-more-2 c = search needs
-
 mul-more : tie.Need-mul-more
 mul-more c = let p : (c) .args .p - 1 ≤ 63 = omega arith in let b : (c) .args .b - 1 ≤ 63 = omega arith in omega (arith, mul-le-mul p b)
 
 add-least : tie.Need-add-least
 add-least c = let p : (c .before) .args .p - 1 ≤ 63 = omega arith in let b : (c .before) .args .b - 1 ≤ 63 = omega arith in omega (arith, mul-le-mul p b)
 
-least-requires : tie.Need-least-requires
-least-requires c κs = search needs
-
 add-least-2 : tie.Need-add-least-2
 add-least-2 c = let p : (c .before) .args .p - 1 ≤ 63 = omega arith in let b : (c .before) .args .b - 1 ≤ 63 = omega arith in omega (arith, mul-le-mul p b)
-
-least-requires-2 : tie.Need-least-requires-2
-least-requires-2 c κs = search needs
 
 returns : tie.Need-returns
 returns c = simp (eq-eqb _ _ (c .before .if1 .taken)) (c .least .ensures)
@@ -40,12 +28,12 @@ pub substitution-length-spec : {M : Type 1} → statement M
 substitution-length-spec =
     tie.close
     (tie.spec
-    sub-more
-    sub-more-2
+    (λ c. search needs)
+    (λ c. search needs)
     mul-more
     add-least
-    least-requires
+    (λ c κs. search needs)
     add-least-2
-    least-requires-2
+    (λ c κs. search needs)
     returns
     returns-2)

@@ -8,18 +8,6 @@ use Rattle.shape_words.proofs.places.count_of.Tie as tie
 use Rattle.shape_words.proofs.places.count_of.Reads as reads
 use Rattle.shape_words.proofs.places.count_of.Lts as lts
 
-array-read-result : tie.Need-array-read-result
-array-read-result c = search needs
-
-array-read-result-2 : tie.Need-array-read-result-2
-array-read-result-2 c = search needs
-
-array-read-result-3 : tie.Need-array-read-result-3
-array-read-result-3 c = search needs
-
-array-read-result-4 : tie.Need-array-read-result-4
-array-read-result-4 c = search needs
-
 mul-result : tie.Need-mul-result
 mul-result c = omega (arith, size2 (c .pre))
 
@@ -36,10 +24,10 @@ pub count-of-spec : {M : Type 1} → statement M
 count-of-spec =
     tie.close
     (tie.spec
-    array-read-result
-    array-read-result-2
-    array-read-result-3
-    array-read-result-4
+    (λ c. search needs)
+    (λ c. search needs)
+    (λ c. search needs)
+    (λ c. search needs)
     mul-result
     mul-result-2
     mul-result-3

@@ -11,51 +11,6 @@ use Rattle.shape_words.proofs.word.pack.Reads as reads
 use Rattle.shape_words.proofs.word.pack.Lts as lts
 use Rattle.shape_words.proofs.word.push.Reads as push-reads
 
-array-read-push : tie.Need-array-read-push
-array-read-push c = search needs
-
-push-requires : tie.Need-push-requires
-push-requires c κs = search needs
-
-array-read-push-2 : tie.Need-array-read-push-2
-array-read-push-2 c = search needs
-
-push-requires-2 : tie.Need-push-requires-2
-push-requires-2 c κs = search needs
-
-array-read-push-3 : tie.Need-array-read-push-3
-array-read-push-3 c = search needs
-
-push-requires-3 : tie.Need-push-requires-3
-push-requires-3 c κs = search needs
-
-array-read-push-4 : tie.Need-array-read-push-4
-array-read-push-4 c = search needs
-
-push-requires-4 : tie.Need-push-requires-4
-push-requires-4 c κs = search needs
-
-array-read-push-5 : tie.Need-array-read-push-5
-array-read-push-5 c = search needs
-
-push-requires-5 : tie.Need-push-requires-5
-push-requires-5 c κs = search needs
-
-array-read-push-6 : tie.Need-array-read-push-6
-array-read-push-6 c = search needs
-
-push-requires-6 : tie.Need-push-requires-6
-push-requires-6 c κs = search needs
-
-array-read-push-7 : tie.Need-array-read-push-7
-array-read-push-7 c = search needs
-
-push-requires-7 : tie.Need-push-requires-7
-push-requires-7 c κs = search needs
-
-array-read-push-8 : tie.Need-array-read-push-8
-array-read-push-8 c = search needs
-
 push-requires-8 : tie.Need-push-requires-8
 push-requires-8 c κs =
     let g = (c .before .before .before .before .before .before .before .before .before) .pre in
@@ -79,20 +34,20 @@ pub pack-spec : {M : Type 1} → statement M
 pack-spec =
     tie.close
     (tie.spec
-    array-read-push
-    push-requires
-    array-read-push-2
-    push-requires-2
-    array-read-push-3
-    push-requires-3
-    array-read-push-4
-    push-requires-4
-    array-read-push-5
-    push-requires-5
-    array-read-push-6
-    push-requires-6
-    array-read-push-7
-    push-requires-7
-    array-read-push-8
+    (λ c. search needs)
+    (λ c κs. search needs)
+    (λ c. search needs)
+    (λ c κs. search needs)
+    (λ c. search needs)
+    (λ c κs. search needs)
+    (λ c. search needs)
+    (λ c κs. search needs)
+    (λ c. search needs)
+    (λ c κs. search needs)
+    (λ c. search needs)
+    (λ c κs. search needs)
+    (λ c. search needs)
+    (λ c κs. search needs)
+    (λ c. search needs)
     push-requires-8
     returns)

@@ -19,12 +19,6 @@ third c = put-then (second (c .before .before .before .before)) (c .put-byte .en
 fourth : (c : tie.After-put-line) → Put 0 (((doneWord ++ decimal (c .before .before .before .before .before .before .before .before .before .before .before .before .before .before .before .before .before .args .steps)) ++ newline) ++ hexLine (c .before .before .before .before .before .before .before .before .before .before .before .before .before .before .before .before .before .args .header)) (c .before .before .before .before .before .before .before .before .before .before .before .before .before .before .before .before .before .args .to .now) (c .put-line .last .1 .1 .0) (c .put-line .result)
 fourth c = put-then (third (c .before .before .before .before)) (c .put-line .ensures)
 
-slice-aggregate-put-bytes : tie.Need-slice-aggregate-put-bytes
-slice-aggregate-put-bytes c = search needs
-
-put-bytes-requires : tie.Need-put-bytes-requires
-put-bytes-requires c κs = search needs
-
 put-decimal-requires : tie.Need-put-decimal-requires
 put-decimal-requires c κs = omega (arith, put-len (c .before .before .before .put-bytes .ensures), c .before .before .before .put-bytes .ensures .behind, decimal-most 3 (c .before .before .before .before .before .before .before .before .args .steps) (omega arith) (omega arith) (omega arith))
 
@@ -37,9 +31,6 @@ put-line-requires c κs = omega (arith, put-len (third (c .before .before .befor
 put-floats-requires : tie.Need-put-floats-requires
 put-floats-requires c κs = omega (arith, put-len (fourth (c .before .before .before)), c .before .before .before .before .before .before .before .before .before .before .before .before .before .before .before .put-bytes .ensures .behind, c .before .before .before .before .before .before .before .before .before .before .before .put-decimal .ensures .behind, c .before .before .before .before .before .before .before .put-byte .ensures .behind, c .before .before .before .put-line .ensures .behind, length-line (c .before .before .before .before .before .before .before .before .before .before .before .before .before .before .before .before .before .before .before .before .args .header), decimal-most 3 (c .before .before .before .before .before .before .before .before .before .before .before .before .before .before .before .before .before .before .before .before .args .steps) (omega arith) (omega arith) (omega arith))
 
-same-length : tie.Need-same-length
-same-length c = search needs
-
 returns : tie.Need-returns
 unfolding doneText
 returns c = simp append-assoc at (put-then (fourth (c .before .before .before .before .before .before)) (c .before .before .put-floats .ensures))
@@ -48,11 +39,11 @@ pub put-done-spec : {M : Type 1} → statement M
 put-done-spec =
     tie.close
     (tie.spec
-    slice-aggregate-put-bytes
-    put-bytes-requires
+    (λ c. search needs)
+    (λ c κs. search needs)
     put-decimal-requires
     put-byte-requires
     put-line-requires
     put-floats-requires
-    same-length
+    (λ c. search needs)
     returns)

@@ -7,32 +7,17 @@ use borrow.Author.Needs.{needs}
 use Rattle.sheet.proofs.print.put_refusal.Statement.{statement}
 use Rattle.sheet.proofs.print.put_refusal.Tie as tie
 
-slice-aggregate-put-bytes : tie.Need-slice-aggregate-put-bytes
-slice-aggregate-put-bytes c = search needs
-
-put-bytes-requires : tie.Need-put-bytes-requires
-put-bytes-requires c κs = search needs
-
-cast-put-decimal : tie.Need-cast-put-decimal
-cast-put-decimal c = search needs
-
 put-decimal-requires : tie.Need-put-decimal-requires
 put-decimal-requires c κs = let a = c .before .before .before .before .put-bytes .ensures in omega (arith, put-len a, a .behind, decimal-most 3 (c .before .before .before .before .before .before .before .before .args .r .number) (omega arith) (omega arith) (omega arith))
 
 put-byte-requires : tie.Need-put-byte-requires
 put-byte-requires c κs = let a = c .before .before .before .before .before .before .before .before .put-bytes .ensures in let b = c .before .before .before .put-decimal .ensures in omega (arith, put-len a, a .behind, put-len b, b .behind, decimal-most 3 (c .before .before .before .before .before .before .before .before .before .before .before .before .args .r .number) (omega arith) (omega arith) (omega arith))
 
-cast-put-decimal-2 : tie.Need-cast-put-decimal-2
-cast-put-decimal-2 c = search needs
-
 put-decimal-requires-2 : tie.Need-put-decimal-requires-2
 put-decimal-requires-2 c κs = let a = c .before .before .before .before .before .before .before .before .before .before .before .before .before .put-bytes .ensures in let b = c .before .before .before .before .before .before .before .before .put-decimal .ensures in let d = c .before .before .before .before .put-byte .ensures in omega (arith, put-len a, a .behind, put-len b, b .behind, put-len d, d .behind, decimal-most 3 (c .before .before .before .before .before .before .before .before .before .before .before .before .before .before .before .before .before .args .r .number) (omega arith) (omega arith) (omega arith), decimal-most 3 (c .before .before .before .before .before .before .before .before .before .before .before .before .before .before .before .before .before .args .r .place) (omega arith) (omega arith) (omega arith))
 
 put-byte-requires-2 : tie.Need-put-byte-requires-2
 put-byte-requires-2 c κs = let a = c .before .before .before .before .before .before .before .before .before .before .before .before .before .before .before .before .before .put-bytes .ensures in let b = c .before .before .before .before .before .before .before .before .before .before .before .before .put-decimal .ensures in let d = c .before .before .before .before .before .before .before .before .put-byte .ensures in let e = c .before .before .before .put-decimal2 .ensures in omega (arith, put-len a, a .behind, put-len b, b .behind, put-len d, d .behind, put-len e, e .behind, decimal-most 3 (c .before .before .before .before .before .before .before .before .before .before .before .before .before .before .before .before .before .before .before .before .before .args .r .number) (omega arith) (omega arith) (omega arith), decimal-most 3 (c .before .before .before .before .before .before .before .before .before .before .before .before .before .before .before .before .before .before .before .before .before .args .r .place) (omega arith) (omega arith) (omega arith))
-
-same-length : tie.Need-same-length
-same-length c = search needs
 
 returns : tie.Need-returns
 unfolding refusedText
@@ -42,13 +27,13 @@ pub put-refusal-spec : {M : Type 1} → statement M
 put-refusal-spec =
     tie.close
     (tie.spec
-    slice-aggregate-put-bytes
-    put-bytes-requires
-    cast-put-decimal
+    (λ c. search needs)
+    (λ c κs. search needs)
+    (λ c. search needs)
     put-decimal-requires
     put-byte-requires
-    cast-put-decimal-2
+    (λ c. search needs)
     put-decimal-requires-2
     put-byte-requires-2
-    same-length
+    (λ c. search needs)
     returns)

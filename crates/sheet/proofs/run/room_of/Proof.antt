@@ -8,26 +8,11 @@ use borrow.Author.Needs.{needs}
 use Rattle.sheet.proofs.run.room_of.Statement.{statement}
 use Rattle.sheet.proofs.run.room_of.Tie as tie
 
-mul-steps : tie.Need-mul-steps
-mul-steps c = search needs
-
-sub-steps : tie.Need-sub-steps
-sub-steps c = search needs
-
-part-steps-start : tie.Need-part-steps-start
-part-steps-start c = search needs
-
-part-steps-end : tie.Need-part-steps-end
-part-steps-end c = search needs
-
 slice-aggregate-total-of : tie.Need-slice-aggregate-total-of
 slice-aggregate-total-of c = sym (length-take-le _ _ (omega arith))
 
 total-of-requires : tie.Need-total-of-requires
 total-of-requires c κs = (front-known (c .before .before .before .args .known .now) (c .before .before .before .args .inputs) (c .before .before .before .pre .0), simp length-take (omega arith))
-
-sub-total-of : tie.Need-sub-total-of
-sub-total-of c = search needs
 
 slice-aggregate-total-of-2 : tie.Need-slice-aggregate-total-of-2
 slice-aggregate-total-of-2 c = sym (length-take-le _ _ (omega arith))
@@ -51,13 +36,13 @@ pub room-of-spec : {M : Type 1} → statement M
 room-of-spec =
     tie.close
     (tie.spec
-    mul-steps
-    sub-steps
-    part-steps-start
-    part-steps-end
+    (λ c. search needs)
+    (λ c. search needs)
+    (λ c. search needs)
+    (λ c. search needs)
     slice-aggregate-total-of
     total-of-requires
-    sub-total-of
+    (λ c. search needs)
     slice-aggregate-total-of-2
     total-of-requires-2
     total-of-requires-3

@@ -7,15 +7,6 @@ use borrow.Author.Needs.{needs}
 use Rattle.sheet.proofs.run.run_judged.Statement.{statement}
 use Rattle.sheet.proofs.run.run_judged.Tie as tie
 
-floats-requires : tie.Need-floats-requires
-floats-requires c κs = search needs
-
-places-requires : tie.Need-places-requires
-places-requires c κs = search needs
-
-floats-requires-2 : tie.Need-floats-requires-2
-floats-requires-2 c κs = search needs
-
 room-of-requires : tie.Need-room-of-requires
 room-of-requires c κs = (running-known (c .before .before .before .before .before .before .before .before .pre .0), (omega (arith, running-many (c .before .before .before .before .before .before .before .before .pre .0), running-passed (c .before .before .before .before .before .before .before .before .pre .0) .accepts .sizes .some), omega (arith, running-many (c .before .before .before .before .before .before .before .before .pre .0), running-passed (c .before .before .before .before .before .before .before .before .pre .0) .accepts .sizes .fit)))
 
@@ -46,9 +37,6 @@ slice-aggregate-run-in-4 c = sym (length-take-le _ _ (array-borrow-prefix-scratc
 run-in-requires : tie.Need-run-in-requires
 run-in-requires c κs = running-in (c .before .before .before .before .before .before .before .before .before .before .before .before .before .pre .0) (c .before .before .before .before .room-of .ensures) (sym (slice-aggregate-run-in (c .before .before .before))) (sym (slice-aggregate-run-in-2 (c .before .before))) (sym (slice-aggregate-run-in-3 (c .before))) (sym (slice-aggregate-run-in-4 c))
 
-same-length : tie.Need-same-length
-same-length c = search needs
-
 returns : tie.Need-returns
 returns c = ends-more _ (c .before .before .before .before .before .run-in .ensures)
 
@@ -56,9 +44,9 @@ pub run-judged-spec : {M : Type 1} → statement M
 run-judged-spec =
     tie.close
     (tie.spec
-    floats-requires
-    places-requires
-    floats-requires-2
+    (λ c κs. search needs)
+    (λ c κs. search needs)
+    (λ c κs. search needs)
     room-of-requires
     array-borrow-prefix-coefficients
     slice-aggregate-run-in
@@ -69,5 +57,5 @@ run-judged-spec =
     array-borrow-prefix-scratch
     slice-aggregate-run-in-4
     run-in-requires
-    same-length
+    (λ c. search needs)
     returns)

@@ -9,14 +9,8 @@ use borrow.Author.Needs.{needs}
 use Rattle.sheet.proofs.run.run_read.Statement.{statement}
 use Rattle.sheet.proofs.run.run_read.Tie as tie
 
-step-count-requires : tie.Need-step-count-requires
-step-count-requires c κs = search needs
-
 add-end : tie.Need-add-end
 add-end c = omega (arith, opening-fit (c .before .before .before .before .before .before .pre .0), c .step-count .ensures)
-
-add-fill-words : tie.Need-add-fill-words
-add-fill-words c = search needs
 
 total-of-requires : tie.Need-total-of-requires
 total-of-requires c κs = (opening-known (c .before .before .before .before .before .before .pre .0), omega (arith, opening-few (c .before .before .before .before .before .before .pre .0)))
@@ -39,18 +33,6 @@ slice-reshare-prefix-judge-own c = omega (arith, steps-room (c .before .before .
 slice-aggregate-judge-own : tie.Need-slice-aggregate-judge-own
 slice-aggregate-judge-own c = sym (length-take-le _ _ (slice-reshare-prefix-judge-own (c .before)))
 
-judge-own-requires : tie.Need-judge-own-requires
-judge-own-requires c κs = search needs
-
-refused-requires : tie.Need-refused-requires
-refused-requires c κs = search needs
-
-same-length : tie.Need-same-length
-same-length c = search needs
-
-same-length-2 : tie.Need-same-length-2
-same-length-2 c = search needs
-
 returns : tie.Need-returns
 returns c = record { refusal = c .refused .ensures ∙ judged-refused (c .before .before .before .before .before .before .before .before .before .before .before .before .before .before .before .before .before .before .before .pre .0) (steps-read (c .before .before .before .before .before .before .before .before .before .before .before .before .before .before .before .before .before .before .before .pre .0) (c .before .before .before .before .before .before .before .before .before .before .before .before .before .before .before .before .before .before .before .args .steps .now) (c .before .before .before .before .before .before .before .before .before .before .before .before .before .step-count .ensures) (c .before .before .before .before .before .before .before .before .before .before .before .before .total-of .ensures) (c .before .before .before .before .before .before .before .before .before .before .before .before .before .before .before .before .before .before .before .pre .1 .steps) (c .before .before .before .before .before .before .before .before .before .before .fill-words .ensures)) (c .before .before .before .before .before .judge-own .ensures) (c .before .if1 .taken); done = λ z. absurd (c .before .if1 .taken (ap (λ (x : Refusal). x .number) (sym (c .refused .ensures)) ∙ z)) }
 
@@ -69,15 +51,6 @@ slice-aggregate-run-judged-2 c = sym (length-take-le _ _ (slice-reshare-prefix-r
 run-judged-requires : tie.Need-run-judged-requires
 run-judged-requires c κs = (running (c .before .before .before .before .before .before .before .before .before .before .before .before .before .before .before .before .before .before .before .before .before .pre .0) (steps-read (c .before .before .before .before .before .before .before .before .before .before .before .before .before .before .before .before .before .before .before .before .before .pre .0) (c .before .before .before .before .before .before .before .before .before .before .before .before .before .before .before .before .before .before .before .before .before .args .steps .now) (c .before .before .before .before .before .before .before .before .before .before .before .before .before .before .before .step-count .ensures) (c .before .before .before .before .before .before .before .before .before .before .before .before .before .before .total-of .ensures) (c .before .before .before .before .before .before .before .before .before .before .before .before .before .before .before .before .before .before .before .before .before .pre .1 .steps) (c .before .before .before .before .before .before .before .before .before .before .before .before .fill-words .ensures)) (c .before .before .before .before .before .before .before .judge-own .ensures) (c .before .before .before .if1 .left) (ap (λ n. length (c .before .before .before .before .before .before .before .before .before .before .before .before .before .before .before .before .before .before .before .before .before .args .headers .now) + n) (slice-aggregate-run-judged (c .before .before))), c .before .before .before .before .before .before .before .before .before .before .before .before .before .before .before .before .before .before .before .before .before .pre .1 .pool)
 
-same-length-3 : tie.Need-same-length-3
-same-length-3 c = search needs
-
-same-length-4 : tie.Need-same-length-4
-same-length-4 c = search needs
-
-same-length-5 : tie.Need-same-length-5
-same-length-5 c = search needs
-
 returns-2 : tie.Need-returns-2
 returns-2 c = ended-done _ _ (running (c .before .before .before .before .before .before .before .before .before .before .before .before .before .before .before .before .before .before .before .before .before .before .before .before .pre .0) (steps-read (c .before .before .before .before .before .before .before .before .before .before .before .before .before .before .before .before .before .before .before .before .before .before .before .before .pre .0) (c .before .before .before .before .before .before .before .before .before .before .before .before .before .before .before .before .before .before .before .before .before .before .before .before .args .steps .now) (c .before .before .before .before .before .before .before .before .before .before .before .before .before .before .before .before .before .before .step-count .ensures) (c .before .before .before .before .before .before .before .before .before .before .before .before .before .before .before .before .before .total-of .ensures) (c .before .before .before .before .before .before .before .before .before .before .before .before .before .before .before .before .before .before .before .before .before .before .before .before .pre .1 .steps) (c .before .before .before .before .before .before .before .before .before .before .before .before .before .before .before .fill-words .ensures)) (c .before .before .before .before .before .before .before .before .before .before .judge-own .ensures) (c .before .before .before .before .before .before .if1 .left) (ap (λ n. length (c .before .before .before .before .before .before .before .before .before .before .before .before .before .before .before .before .before .before .before .before .before .before .before .before .args .headers .now) + n) (slice-aggregate-run-judged (c .before .before .before .before .before)))) (c .before .before .before .before .before .before .before .before .before .before .before .before .before .before .before .before .before .before .step-count .ensures) refl (c .before .before .run-judged .ensures)
 
@@ -85,9 +58,9 @@ pub run-read-spec : {M : Type 1} → statement M
 run-read-spec =
     tie.close
     (tie.spec
-    step-count-requires
+    (λ c κs. search needs)
     add-end
-    add-fill-words
+    (λ c. search needs)
     total-of-requires
     add-fill-words-2
     slice-relend-prefix-fill-words
@@ -95,17 +68,17 @@ run-read-spec =
     fill-words-requires
     slice-reshare-prefix-judge-own
     slice-aggregate-judge-own
-    judge-own-requires
-    refused-requires
-    same-length
-    same-length-2
+    (λ c κs. search needs)
+    (λ c κs. search needs)
+    (λ c. search needs)
+    (λ c. search needs)
     returns
     slice-reshare-prefix-run-judged
     slice-aggregate-run-judged
     slice-reshare-prefix-run-judged-2
     slice-aggregate-run-judged-2
     run-judged-requires
-    same-length-3
-    same-length-4
-    same-length-5
+    (λ c. search needs)
+    (λ c. search needs)
+    (λ c. search needs)
     returns-2)

@@ -16,32 +16,11 @@ abbrev μ-loop : tie.MeasureT-loop
 loop-holds : tie.Need-loop-holds Inv-loop μ-loop
 loop-holds c = passing-none _ _ _
 
-add-byte-at : tie.Need-add-byte-at Inv-loop μ-loop
-add-byte-at c = search needs
-
-byte-at-requires : tie.Need-byte-at-requires Inv-loop μ-loop
-byte-at-requires c κs = search needs
-
-is-digit-requires : tie.Need-is-digit-requires Inv-loop μ-loop
-is-digit-requires c κs = search needs
-
 returns : tie.Need-returns Inv-loop μ-loop
 returns c = digits-stop (c .before .before .before .before .before .before .args .text .now) (c .before .before .before .before .loop .inv) (c .before .before .before .loop-test .taken) (c .before .before .byte-at .ensures) (c .before .is-digit .ensures) (not-true _ (c .if1 .taken))
 
-add-k : tie.Need-add-k Inv-loop μ-loop
-add-k c = search needs
-
-loop-less : tie.Need-loop-less Inv-loop μ-loop
-loop-less c = search needs
-
 loop-again : tie.Need-loop-again Inv-loop μ-loop
 loop-again c = digits-more (c .before .before .before .before .before .before .args .text .now) (c .before .before .before .before .loop .inv) (c .before .before .before .loop-test .taken) (c .before .before .byte-at .ensures) (c .before .is-digit .ensures) (not-false _ (c .if1 .left))
-
-add-byte-at-2 : tie.Need-add-byte-at-2 Inv-loop μ-loop
-add-byte-at-2 c = search needs
-
-byte-at-requires-2 : tie.Need-byte-at-requires-2 Inv-loop μ-loop
-byte-at-requires-2 c κs = search needs
 
 returns-2 : tie.Need-returns-2 Inv-loop μ-loop
 returns-2 c = digits-end (c .before .before .before .before .args .text .now) (c .before .before .loop .inv) (c .before .loop-test .left) (c .byte-at2 .ensures)
@@ -53,13 +32,13 @@ is-line-spec =
     Inv-loop
     μ-loop
     loop-holds
-    add-byte-at
-    byte-at-requires
-    is-digit-requires
+    (λ c. search needs)
+    (λ c κs. search needs)
+    (λ c κs. search needs)
     returns
-    add-k
-    loop-less
+    (λ c. search needs)
+    (λ c. search needs)
     loop-again
-    add-byte-at-2
-    byte-at-requires-2
+    (λ c. search needs)
+    (λ c κs. search needs)
     returns-2)

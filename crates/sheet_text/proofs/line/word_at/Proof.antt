@@ -14,26 +14,11 @@ abbrev μ-loop : tie.MeasureT-loop
 loop-holds : tie.Need-loop-holds Inv-loop μ-loop
 loop-holds c = taking-none _ _
 
-add-loop : tie.Need-add-loop Inv-loop μ-loop
-add-loop c = search needs
-
 mul-word : tie.Need-mul-word Inv-loop μ-loop
 mul-word c = omega (arith, taking-small (c .before .loop .inv) (c .loop-test .taken))
 
-byte-at-requires : tie.Need-byte-at-requires Inv-loop μ-loop
-byte-at-requires c κs = search needs
-
-digit-of-requires : tie.Need-digit-of-requires Inv-loop μ-loop
-digit-of-requires c κs = search needs
-
 add-word : tie.Need-add-word Inv-loop μ-loop
 add-word c = omega (arith, taking-small (c .before .before .before .loop .inv) (c .before .before .loop-test .taken), c .digit-of .ensures, digit-small (c .before .byte-at .result))
-
-add-k : tie.Need-add-k Inv-loop μ-loop
-add-k c = search needs
-
-loop-less : tie.Need-loop-less Inv-loop μ-loop
-loop-less c = search needs
 
 loop-again : tie.Need-loop-again Inv-loop μ-loop
 loop-again c = taking-more (c .before .before .before .loop .inv) (c .before .before .loop-test .taken) (c .before .byte-at .ensures) (c .digit-of .ensures)
@@ -48,12 +33,12 @@ word-at-spec =
     Inv-loop
     μ-loop
     loop-holds
-    add-loop
+    (λ c. search needs)
     mul-word
-    byte-at-requires
-    digit-of-requires
+    (λ c κs. search needs)
+    (λ c κs. search needs)
     add-word
-    add-k
-    loop-less
+    (λ c. search needs)
+    (λ c. search needs)
     loop-again
     returns)

@@ -15,23 +15,11 @@ abbrev μ-loop : tie.MeasureT-loop
 loop-holds : tie.Need-loop-holds Inv-loop μ-loop
 loop-holds c = table-none _ _ _ _ (omega arith)
 
-add-to : tie.Need-add-to Inv-loop μ-loop
-add-to c = omega arith
-
 slice-write-to : tie.Need-slice-write-to Inv-loop μ-loop
 slice-write-to c = omega (arith, put-len (c .before .loop .inv .put))
 
-add-k : tie.Need-add-k Inv-loop μ-loop
-add-k c = search needs
-
-loop-less : tie.Need-loop-less Inv-loop μ-loop
-loop-less c = search needs
-
 loop-again : tie.Need-loop-again Inv-loop μ-loop
 loop-again c = table-more (c .before .loop .inv) refl (c .loop-test .taken) (omega arith)
-
-add-result : tie.Need-add-result Inv-loop μ-loop
-add-result c = omega arith
 
 same-length : tie.Need-same-length Inv-loop μ-loop
 same-length c = put-len (c .before .loop .inv .put)
@@ -46,11 +34,11 @@ put-spaces-spec =
     Inv-loop
     μ-loop
     loop-holds
-    add-to
+    (λ c. omega arith)
     slice-write-to
-    add-k
-    loop-less
+    (λ c. search needs)
+    (λ c. search needs)
     loop-again
-    add-result
+    (λ c. omega arith)
     same-length
     returns)

@@ -15,26 +15,11 @@ abbrev μ-loop : tie.MeasureT-loop
 loop-holds : tie.Need-loop-holds Inv-loop μ-loop
 loop-holds c = table-none _ _ _ _ (omega arith)
 
-hex-digit-requires : tie.Need-hex-digit-requires Inv-loop μ-loop
-hex-digit-requires c κs = search needs
-
-add-to : tie.Need-add-to Inv-loop μ-loop
-add-to c = omega arith
-
 slice-write-to : tie.Need-slice-write-to Inv-loop μ-loop
 slice-write-to c = omega (arith, put-len (c .before .before .loop .inv .put))
 
-add-k : tie.Need-add-k Inv-loop μ-loop
-add-k c = search needs
-
-loop-less : tie.Need-loop-less Inv-loop μ-loop
-loop-less c = search needs
-
 loop-again : tie.Need-loop-again Inv-loop μ-loop
 loop-again c = table-more (c .before .before .loop .inv) (c .hex-digit .ensures) (c .before .loop-test .taken) (omega arith)
-
-add-result : tie.Need-add-result Inv-loop μ-loop
-add-result c = omega arith
 
 same-length : tie.Need-same-length Inv-loop μ-loop
 same-length c = put-len (c .before .loop .inv .put)
@@ -49,12 +34,12 @@ put-word-spec =
     Inv-loop
     μ-loop
     loop-holds
-    hex-digit-requires
-    add-to
+    (λ c κs. search needs)
+    (λ c. omega arith)
     slice-write-to
-    add-k
-    loop-less
+    (λ c. search needs)
+    (λ c. search needs)
     loop-again
-    add-result
+    (λ c. omega arith)
     same-length
     returns)

@@ -17,9 +17,6 @@ abbrev μ-loop : tie.MeasureT-loop
 loop-holds : tie.Need-loop-holds Inv-loop μ-loop
 loop-holds c = record { room = c .before .before .before .pre .0; front = c .before .before .before .pre .1; rest = refl }
 
-sub-left : tie.Need-sub-left Inv-loop μ-loop
-sub-left c = omega arith
-
 mul-load-row : tie.Need-mul-load-row Inv-loop μ-loop
 mul-load-row c = omega (arith, c .before .loop .inv .room .small)
 
@@ -28,9 +25,6 @@ load-row-requires c κs = let s = runs-less (c .before .before .loop .inv) (c .b
 
 turn-requires : tie.Need-turn-requires Inv-loop μ-loop
 turn-requires c κs = let s = runs-less (c .before .before .before .before .before .before .before .loop .inv) (c .before .before .before .before .before .before .before .loop .left - 1) (omega (arith, c .before .before .before .before .before .before .loop-test .taken)) in next-turning (s .room) refl (c .before .before .before .before .load-row .ensures .below .len)
-
-loop-less : tie.Need-loop-less Inv-loop μ-loop
-loop-less c = omega arith
 
 loop-again : tie.Need-loop-again Inv-loop μ-loop
 loop-again c = runs-next (runs-less (c .before .before .before .before .before .before .before .before .before .before .before .before .loop .inv) (c .before .before .before .before .before .before .before .before .before .before .before .before .loop .left - 1) (omega (arith, c .before .before .before .before .before .before .before .before .before .before .before .loop-test .taken))) (c .before .before .before .before .before .before .before .before .before .load-row .ensures) (c .before .before .before .before .turn .ensures) (c .before .before .before .before .turn .kept .1 .1 .1 .1 .1 .1 .0)
@@ -51,11 +45,11 @@ horner-rows-spec =
     Inv-loop
     μ-loop
     loop-holds
-    sub-left
+    (λ c. omega arith)
     mul-load-row
     load-row-requires
     turn-requires
-    loop-less
+    (λ c. omega arith)
     loop-again
     same-length
     same-length-2

@@ -24,9 +24,6 @@ front c = take-at (c .load .last .1 .1 .1 .0) (drop (c .before .before .count-of
 again : (c : tie.After-load) → c .before .before .count-of .result ≤ length (c .load .last .1 .1 .1 .0 ++ drop (c .before .before .count-of .result) (c .before .before .before .before .before .before .args .out .now))
 again c = simp length-append (omega (arith, loaded c))
 
-cut-to-requires : tie.Need-cut-to-requires
-cut-to-requires c κs = search needs
-
 count-of-requires : tie.Need-count-of-requires
 count-of-requires c κs = cuts-lens (c .before .before .before .pre) (c .cut-to .ensures)
 
@@ -66,9 +63,6 @@ slice-aggregate-power-parts c = sym (length-take-le _ _ (again ((c .before .befo
 power-parts-requires : tie.Need-power-parts-requires
 power-parts-requires c κs = let t = cuts-own (c .before .before .before .before .before .before .before .before .before .before .pre) (c .before .before .before .before .before .before .before .cut-to .ensures) in (rows-whole t (c .before .before .before .before .before .before .count-of .ensures) (ap (λ (q : List ℕ). at q (c .before .before .before .before .before .before .before .before .before .before .args .v)) (c .before .strides-of .ensures)), rw (length-take-le (c .before .before .before .before .before .before .count-of .result) (c .before .before .before .before .load .last .1 .1 .1 .0 ++ drop (c .before .before .before .before .before .before .count-of .result) (c .before .before .before .before .before .before .before .before .before .before .args .out .now)) (again ((c .before .before .before .before)))) (parts-whole t (c .before .before .before .before .before .before .count-of .ensures) (ap (λ (q : List ℕ). at q (c .before .before .before .before .before .before .before .before .before .before .args .v)) (c .before .strides-of .ensures))))
 
-same-length : tie.Need-same-length
-same-length c = search needs
-
 returns : tie.Need-returns
 returns c = let x = front ((c .before .before .before .before .before .before .before)) in let l = length-take-le (c .before .before .before .before .before .before .before .before .before .count-of .result) (c .before .before .before .before .before .before .before .load .last .1 .1 .1 .0 ++ drop (c .before .before .before .before .before .before .before .before .before .count-of .result) (c .before .before .before .before .before .before .before .before .before .before .before .before .before .args .out .now)) (again ((c .before .before .before .before .before .before .before))) in let j = powered-put (c .before .before .before .before .before .before .before .before .before .before .before .before .before .args .limits) (c .before .before .before .before .before .before .before .before .before .before .before .before .before .args .la) (c .before .before .before .before .before .before .before .before .before .before .before .before .before .args .v) (c .before .before .before .before .before .before .before .before .before .before .before .before .before .args .m) (c .before .before .before .before .before .before .before .before .before .before .before .before .before .args .a .now) (cuts-own (c .before .before .before .before .before .before .before .before .before .before .before .before .before .pre) (c .before .before .before .before .before .before .before .before .before .before .cut-to .ensures)) (c .before .before .before .before .before .before .before .before .before .before .cut-to .ensures) (c .before .before .before .before .before .before .before .before .before .count-of .ensures) (ap (λ (q : List ℕ). at q (c .before .before .before .before .before .before .before .before .before .before .before .before .before .args .v)) (c .before .before .before .before .strides-of .ensures)) (x ∙ c .before .before .before .before .before .before .before .load .ensures) (c .before .before .power-parts .ensures) l in put-front (c .before .before .before .before .before .before .before .before .before .count-of .result) (j .0) (j .1) (c .before .before .power-parts .kept .1 .1 .1 .0 ∙ l) (ap (λ (y : List Float). c .before .before .power-parts .last .1 .1 .1 .0 ++ y) (drop-at (c .before .before .before .before .before .before .before .load .last .1 .1 .1 .0) (drop (c .before .before .before .before .before .before .before .before .before .count-of .result) (c .before .before .before .before .before .before .before .before .before .before .before .before .before .args .out .now)) (c .before .before .before .before .before .before .before .before .before .count-of .result) (loaded ((c .before .before .before .before .before .before .before)))))
 
@@ -76,7 +70,7 @@ pub line-put-spec : {M : Type 1} → statement M
 line-put-spec =
     tie.close
     (tie.spec
-    cut-to-requires
+    (λ c κs. search needs)
     count-of-requires
     slice-relend-prefix-load
     slice-aggregate-load
@@ -90,5 +84,5 @@ line-put-spec =
     slice-relend-prefix-power-parts
     slice-aggregate-power-parts
     power-parts-requires
-    same-length
+    (λ c. search needs)
     returns)

@@ -15,17 +15,11 @@ choose-requires c κs = (given-lens (c .before .before .before .before .before .
 copy-requires : tie.Need-copy-requires
 copy-requires c κs = omega (arith, c .before .before .before .before .before .before .before .before .before .before .pre .out, given-same (c .before .before .before .before .before .before .before .before .before .before .pre) (lacks (c .before .before .before .before .before .before .before .before .before .before .args .x .vars) (c .before .before .before .before .before .before .before .before .before .before .args .v) (c .before .before .before .before .before .before .before .before .before .before .args .h .limits) (block (c .before .before .before .before .before .before .before .before .before .before .args .x .lengths) (c .before .before .before .before .before .before .before .before .before .before .args .a .now)) (block (c .before .before .before .before .before .before .before .before .before .before .args .y .lengths) (c .before .before .before .before .before .before .before .before .before .before .args .b .now)) (c .before .before .choose .ensures) (c .before .if1 .taken)))
 
-same-length : tie.Need-same-length
-same-length c = search needs
-
 returns : tie.Need-returns
 returns c = stands-same (value-0 (c .before .before .before .before .before .before .before .before .before .before .before .before .before .args .x .vars) (c .before .before .before .before .before .before .before .before .before .before .before .before .before .args .v) (c .before .before .before .before .before .before .before .before .before .before .before .before .before .args .h .limits) (block (c .before .before .before .before .before .before .before .before .before .before .before .before .before .args .x .lengths) (c .before .before .before .before .before .before .before .before .before .before .before .before .before .args .a .now)) (block (c .before .before .before .before .before .before .before .before .before .before .before .before .before .args .y .lengths) (c .before .before .before .before .before .before .before .before .before .before .before .before .before .args .b .now)) (c .before .before .before .before .before .choose .ensures) (c .before .before .before .before .if1 .taken)) (copied-stands (c .before .before .before .before .before .before .before .before .before .before .before .before .before .args .x .lengths) (c .before .before .before .before .before .before .before .before .before .before .before .before .before .args .a .now) (c .before .before .copy .ensures) (c .before .before .before .before .before .before .before .before .before .before .before .before .before .pre .out ∙ given-same (c .before .before .before .before .before .before .before .before .before .before .before .before .before .pre) (lacks (c .before .before .before .before .before .before .before .before .before .before .before .before .before .args .x .vars) (c .before .before .before .before .before .before .before .before .before .before .before .before .before .args .v) (c .before .before .before .before .before .before .before .before .before .before .before .before .before .args .h .limits) (block (c .before .before .before .before .before .before .before .before .before .before .before .before .before .args .x .lengths) (c .before .before .before .before .before .before .before .before .before .before .before .before .before .args .a .now)) (block (c .before .before .before .before .before .before .before .before .before .before .before .before .before .args .y .lengths) (c .before .before .before .before .before .before .before .before .before .before .before .before .before .args .b .now)) (c .before .before .before .before .before .choose .ensures) (c .before .before .before .before .if1 .taken))))
 
 zero-put-requires : tie.Need-zero-put-requires
 zero-put-requires c κs = row-cuts (given-puts (c .before .before .before .before .before .before .before .before .before .before .before .pre) (has-1 (c .before .before .before .before .before .before .before .before .before .before .before .args .x .vars) (c .before .before .before .before .before .before .before .before .before .before .before .args .v) (c .before .before .before .before .before .before .before .before .before .before .before .args .h .limits) (block (c .before .before .before .before .before .before .before .before .before .before .before .args .x .lengths) (c .before .before .before .before .before .before .before .before .before .before .before .args .a .now)) (block (c .before .before .before .before .before .before .before .before .before .before .before .args .y .lengths) (c .before .before .before .before .before .before .before .before .before .before .before .args .b .now)) (c .before .before .before .choose .ensures) (c .before .if2 .taken)))
-
-same-length-2 : tie.Need-same-length-2
-same-length-2 c = search needs
 
 returns-2 : tie.Need-returns-2
 returns-2 c = stands-same (value-1 (c .before .before .before .before .before .before .before .before .before .before .before .before .before .before .args .x .vars) (c .before .before .before .before .before .before .before .before .before .before .before .before .before .before .args .v) (c .before .before .before .before .before .before .before .before .before .before .before .before .before .before .args .h .limits) (block (c .before .before .before .before .before .before .before .before .before .before .before .before .before .before .args .x .lengths) (c .before .before .before .before .before .before .before .before .before .before .before .before .before .before .args .a .now)) (block (c .before .before .before .before .before .before .before .before .before .before .before .before .before .before .args .y .lengths) (c .before .before .before .before .before .before .before .before .before .before .before .before .before .before .args .b .now)) (c .before .before .before .before .before .before .choose .ensures) (c .before .before .before .before .if2 .taken)) (put-stands (c .before .before .zero-put .ensures))
@@ -33,20 +27,11 @@ returns-2 c = stands-same (value-1 (c .before .before .before .before .before .b
 line-put-requires : tie.Need-line-put-requires
 line-put-requires c κs = line-cuts (given-puts (c .before .before .before .before .before .before .before .before .before .before .before .before .before .pre) (has-2 (c .before .before .before .before .before .before .before .before .before .before .before .before .before .args .x .vars) (c .before .before .before .before .before .before .before .before .before .before .before .before .before .args .v) (c .before .before .before .before .before .before .before .before .before .before .before .before .before .args .h .limits) (block (c .before .before .before .before .before .before .before .before .before .before .before .before .before .args .x .lengths) (c .before .before .before .before .before .before .before .before .before .before .before .before .before .args .a .now)) (block (c .before .before .before .before .before .before .before .before .before .before .before .before .before .args .y .lengths) (c .before .before .before .before .before .before .before .before .before .before .before .before .before .args .b .now)) (c .before .before .before .before .before .choose .ensures) (c .before .before .if3 .taken))) (c .before .before .before .before .before .before .before .before .before .before .before .before .before .args .a .now) (c .before .before .before .before .before .before .before .before .before .before .before .before .before .args .b .now) (c .before .before .before .before .before .choose .result .line .m) (line-2 (c .before .before .before .before .before .before .before .before .before .before .before .before .before .args .x .vars) (c .before .before .before .before .before .before .before .before .before .before .before .before .before .args .v) (c .before .before .before .before .before .before .before .before .before .before .before .before .before .args .h .limits) (block (c .before .before .before .before .before .before .before .before .before .before .before .before .before .args .x .lengths) (c .before .before .before .before .before .before .before .before .before .before .before .before .before .args .a .now)) (block (c .before .before .before .before .before .before .before .before .before .before .before .before .before .args .y .lengths) (c .before .before .before .before .before .before .before .before .before .before .before .before .before .args .b .now)) (c .before .before .before .before .before .choose .ensures) (c .before .before .if3 .taken))
 
-same-length-3 : tie.Need-same-length-3
-same-length-3 c = search needs
-
 returns-3 : tie.Need-returns-3
 returns-3 c = stands-same (value-2 (c .before .before .before .before .before .before .before .before .before .before .before .before .before .before .before .before .args .x .vars) (c .before .before .before .before .before .before .before .before .before .before .before .before .before .before .before .before .args .v) (c .before .before .before .before .before .before .before .before .before .before .before .before .before .before .before .before .args .h .limits) (block (c .before .before .before .before .before .before .before .before .before .before .before .before .before .before .before .before .args .x .lengths) (c .before .before .before .before .before .before .before .before .before .before .before .before .before .before .before .before .args .a .now)) (block (c .before .before .before .before .before .before .before .before .before .before .before .before .before .before .before .before .args .y .lengths) (c .before .before .before .before .before .before .before .before .before .before .before .before .before .before .before .before .args .b .now)) (c .before .before .before .before .before .before .before .before .choose .ensures) (c .before .before .before .before .before .if3 .taken)) (put-stands (c .before .before .line-put .ensures))
 
 horner-put-requires : tie.Need-horner-put-requires
 horner-put-requires c κs = (given-puts (c .before .before .before .before .before .before .before .before .before .before .before .before .before .pre) (has-3 (c .before .before .before .before .before .before .before .before .before .before .before .before .before .args .x .vars) (c .before .before .before .before .before .before .before .before .before .before .before .before .before .args .v) (c .before .before .before .before .before .before .before .before .before .before .before .before .before .args .h .limits) (block (c .before .before .before .before .before .before .before .before .before .before .before .before .before .args .x .lengths) (c .before .before .before .before .before .before .before .before .before .before .before .before .before .args .a .now)) (block (c .before .before .before .before .before .before .before .before .before .before .before .before .before .args .y .lengths) (c .before .before .before .before .before .before .before .before .before .before .before .before .before .args .b .now)) (c .before .before .before .before .before .choose .ensures) (c .before .before .before .before .if1 .left) (c .before .before .before .if2 .left) (c .before .before .if3 .left)), some-3 (c .before .before .before .before .before .before .before .before .before .before .before .before .before .args .x .vars) (c .before .before .before .before .before .before .before .before .before .before .before .before .before .args .v) (c .before .before .before .before .before .before .before .before .before .before .before .before .before .args .h .limits) (block (c .before .before .before .before .before .before .before .before .before .before .before .before .before .args .x .lengths) (c .before .before .before .before .before .before .before .before .before .before .before .before .before .args .a .now)) (block (c .before .before .before .before .before .before .before .before .before .before .before .before .before .args .y .lengths) (c .before .before .before .before .before .before .before .before .before .before .before .before .before .args .b .now)) (c .before .before .before .before .before .choose .ensures) (c .before .before .before .before .if1 .left) (c .before .before .before .if2 .left) (c .before .before .if3 .left))
-
-same-length-4 : tie.Need-same-length-4
-same-length-4 c = search needs
-
-same-length-5 : tie.Need-same-length-5
-same-length-5 c = search needs
 
 returns-4 : tie.Need-returns-4
 returns-4 c = stands-same (value-3 (c .before .before .before .before .before .before .before .before .before .before .before .before .before .before .before .before .before .before .args .x .vars) (c .before .before .before .before .before .before .before .before .before .before .before .before .before .before .before .before .before .before .args .v) (c .before .before .before .before .before .before .before .before .before .before .before .before .before .before .before .before .before .before .args .h .limits) (block (c .before .before .before .before .before .before .before .before .before .before .before .before .before .before .before .before .before .before .args .x .lengths) (c .before .before .before .before .before .before .before .before .before .before .before .before .before .before .before .before .before .before .args .a .now)) (block (c .before .before .before .before .before .before .before .before .before .before .before .before .before .before .before .before .before .before .args .y .lengths) (c .before .before .before .before .before .before .before .before .before .before .before .before .before .before .before .before .before .before .args .b .now)) (c .before .before .before .before .before .before .before .before .before .before .choose .ensures) (c .before .before .before .before .before .before .before .before .before .if1 .left) (c .before .before .before .before .before .before .before .before .if2 .left) (c .before .before .before .before .before .before .before .if3 .left)) (c .before .before .before .before .horner-put .ensures)
@@ -57,15 +42,15 @@ substitute-front-spec =
     (tie.spec
     choose-requires
     copy-requires
-    same-length
+    (λ c. search needs)
     returns
     zero-put-requires
-    same-length-2
+    (λ c. search needs)
     returns-2
     line-put-requires
-    same-length-3
+    (λ c. search needs)
     returns-3
     horner-put-requires
-    same-length-4
-    same-length-5
+    (λ c. search needs)
+    (λ c. search needs)
     returns-4)

@@ -7,9 +7,6 @@ use borrow.Author.Needs.{needs}
 use Rattle.substitution.proofs.kernel.substitute_into.Statement.{statement}
 use Rattle.substitution.proofs.kernel.substitute_into.Tie as tie
 
-substitute-front-requires : tie.Need-substitute-front-requires
-substitute-front-requires c κs = search needs
-
 count-of-requires : tie.Need-count-of-requires
 count-of-requires c κs = into-lens (c .before .before .before .before .before .before .before .before .before .before .before .pre) (c .before .before .before .before .before .before .before .before .before .before .before .args .a .now) (c .before .before .before .before .before .before .before .before .before .before .before .args .b .now) refl (c .before .before .before .before .substitute-front .ensures)
 
@@ -25,15 +22,6 @@ part-clear-start c = omega (arith, into-small (c .before .before .before .before
 part-clear-end : tie.Need-part-clear-end
 part-clear-end c = omega (arith, (c .before .before .before .before .before .substitute-front .kept .1 .1 .1 .1 .1 .1 .1 .0), c .before .before .before .before .before .before .before .before .before .before .before .before .pre .out)
 
-clear-requires : tie.Need-clear-requires
-clear-requires c κs = search needs
-
-same-length : tie.Need-same-length
-same-length c = search needs
-
-same-length-2 : tie.Need-same-length-2
-same-length-2 c = search needs
-
 returns : tie.Need-returns
 returns c = let k = (c .before .before .before .before .before .before .before .before .before .substitute-front .kept .1 .1 .1 .1 .1 .1 .1 .0) in let o = c .before .before .before .before .before .before .before .before .before .before .before .before .before .before .before .before .pre .out in let s = into-small (c .before .before .before .before .before .before .before .before .before .before .before .before .before .before .before .before .pre) (c .before .before .before .before .before .before .before .before .before .before .before .before .before .before .before .before .args .a .now) (c .before .before .before .before .before .before .before .before .before .before .before .before .before .before .before .before .args .b .now) refl (c .before .before .before .before .before .before .before .before .before .substitute-front .ensures) (c .before .before .before .before .count-of .ensures) in (c .before .before .before .before .before .before .before .before .before .substitute-front .ensures .lengths, stands-padded _ _ (c .before .before .before .before .before .before .before .before .before .substitute-front .ensures) (k ∙ o) s (into-full (c .before .before .before .before .before .before .before .before .before .before .before .before .before .before .before .before .pre) (c .before .before .before .before .before .before .before .before .before .before .before .before .before .before .before .before .args .a .now) (c .before .before .before .before .before .before .before .before .before .before .before .before .before .before .before .before .args .b .now) refl (c .before .before .before .before .before .before .before .before .before .substitute-front .ensures) (c .before .before .before .before .count-of .ensures)) (c .before .before .clear .ensures) (simp (length-take, length-drop) (omega (arith, k, o, s))))
 
@@ -41,13 +29,13 @@ pub substitute-into-spec : {M : Type 1} → statement M
 substitute-into-spec =
     tie.close
     (tie.spec
-    substitute-front-requires
+    (λ c κs. search needs)
     count-of-requires
     mul-clear
     sub-clear
     part-clear-start
     part-clear-end
-    clear-requires
-    same-length
-    same-length-2
+    (λ c κs. search needs)
+    (λ c. search needs)
+    (λ c. search needs)
     returns)

@@ -6,9 +6,6 @@ use borrow.Author.Needs.{needs}
 use Rattle.substitution.proofs.kernel.zero_put.Statement.{statement}
 use Rattle.substitution.proofs.kernel.zero_put.Tie as tie
 
-row-lengths-requires : tie.Need-row-lengths-requires
-row-lengths-requires c κs = search needs
-
 count-of-requires : tie.Need-count-of-requires
 count-of-requires c κs = cuts-lens (c .before .before .before .pre) (c .row-lengths .ensures)
 
@@ -21,9 +18,6 @@ slice-aggregate-pick c = sym (length-take-le _ (c .before .before .before .befor
 pick-requires : tie.Need-pick-requires
 pick-requires c κs = cuts-picks (c .before .before .before .before .before .pre) (c .before .before .row-lengths .ensures) (length-take-le _ (c .before .before .before .before .before .args .out .now) (cuts-fits (c .before .before .before .before .before .pre) (c .before .before .row-lengths .ensures) (c .before .count-of .ensures)) ∙ c .before .count-of .ensures)
 
-same-length : tie.Need-same-length
-same-length c = search needs
-
 returns : tie.Need-returns
 returns c = let j = row-parts (c .before .before .before .before .before .before .before .before .args .limits) (c .before .before .before .before .before .before .before .before .args .v) (c .before .before .before .before .before .before .before .before .args .la) (c .before .before .before .before .before .before .before .before .args .a .now) 0 (c .before .before .before .before .before .row-lengths .ensures) (c .before .before .pick .ensures) in put-front (c .before .before .before .before .count-of .result) (j .0) (j .1) (c .before .before .pick .kept .1 .1 .1 .1 .1 .0 ∙ length-take-le _ (c .before .before .before .before .before .before .before .before .args .out .now) (cuts-fits (c .before .before .before .before .before .before .before .before .pre) (c .before .before .before .before .before .row-lengths .ensures) (c .before .before .before .before .count-of .ensures))) refl
 
@@ -31,10 +25,10 @@ pub zero-put-spec : {M : Type 1} → statement M
 zero-put-spec =
     tie.close
     (tie.spec
-    row-lengths-requires
+    (λ c κs. search needs)
     count-of-requires
     slice-relend-prefix-pick
     slice-aggregate-pick
     pick-requires
-    same-length
+    (λ c. search needs)
     returns)

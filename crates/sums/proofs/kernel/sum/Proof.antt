@@ -25,9 +25,6 @@ used c = c .sum-into .kept .1 .1 .1 .1 .1 .1 .1 .1 .1 .0 ∙ length-take-le _ _ 
 rooms : (c : tie.After-sum-into) → 8 * c .before .before .before .before .before .before .before .before .before .before .before .before .before .before .before .open-pair .result .n ≤ length (c .sum-into .last .1 .1 .1 .1 .1 .1 .1 .1 .1 .0 ++ drop (8 * c .before .before .before .before .before .before .before .before .before .before .before .before .before .before .before .open-pair .result .n) (c .before .before .before .before .before .before .before .before .before .before .before .before .before .before .before .before .before .before .before .before .args .scratch .now))
 rooms c = simp length-append (omega (arith, used c))
 
-open-pair-requires : tie.Need-open-pair-requires
-open-pair-requires c κs = search needs
-
 returns : tie.Need-returns
 unfolding sumAnswer sumOut sumScratch
 returns c = let e = (c .before .before .before .open-pair .ensures .refusal) in let n = c .if1 .taken in (refused-answer e (announcedPair Sum (c .before .before .before .before .before .before .before .before .args .ah) (c .before .before .before .before .before .before .before .before .args .bh)) (value (c .before .before .before .before .before .before .before .before)) n, (refused-out e (announcedPair Sum (c .before .before .before .before .before .before .before .before .args .ah) (c .before .before .before .before .before .before .before .before .args .bh)) (value (c .before .before .before .before .before .before .before .before)) n (c .before .before .before .before .before .before .before .before .args .out .now), refused-scratch e (announcedPair Sum (c .before .before .before .before .before .before .before .before .args .ah) (c .before .before .before .before .before .before .before .before .args .bh)) (value (c .before .before .before .before .before .before .before .before)) n (c .before .before .before .before .before .before .before .before .args .scratch .now)))
@@ -62,17 +59,8 @@ slice-relend-prefix-clear c = rooms (c .before .before .before .before)
 slice-aggregate-clear : tie.Need-slice-aggregate-clear
 slice-aggregate-clear c = sym (length-take-le _ _ (rooms (c .before .before .before .before .before)))
 
-clear-requires : tie.Need-clear-requires
-clear-requires c κs = search needs
-
 pack-requires : tie.Need-pack-requires
 pack-requires c κs = let t = c .before .before .before .before .before .before .before .before .before .before .before .before .before .before .before .before .before .before .before .before .before .before .before .open-pair .ensures .tells (c .before .before .before .before .before .before .before .before .before .before .before .before .before .before .before .before .before .before .before .before .if1 .left) in rw (t .told) ((opened-ready (c .before .before .before .before .before .before .before .before .before .before .before .before .before .before .before .before .before .before .before .before .before .before .before .open-pair .ensures) (c .before .before .before .before .before .before .before .before .before .before .before .before .before .before .before .before .before .before .before .before .if1 .left)) .announced .regular .rules)
-
-same-length : tie.Need-same-length
-same-length c = search needs
-
-same-length-2 : tie.Need-same-length-2
-same-length-2 c = search needs
 
 returns-2 : tie.Need-returns-2
 unfolding sumAnswer sumOut sumScratch
@@ -82,7 +70,7 @@ pub sum-spec : {M : Type 1} → statement M
 sum-spec =
     tie.close
     (tie.spec
-    open-pair-requires
+    (λ c κs. search needs)
     returns
     mul-room
     slice-aggregate-sum-into
@@ -94,8 +82,8 @@ sum-spec =
     sum-into-requires
     slice-relend-prefix-clear
     slice-aggregate-clear
-    clear-requires
+    (λ c κs. search needs)
     pack-requires
-    same-length
-    same-length-2
+    (λ c. search needs)
+    (λ c. search needs)
     returns-2)

@@ -4,20 +4,8 @@ use borrow.Author.Needs.{needs}
 use Rattle.taylor.proofs.answers.put_linear.Statement.{statement}
 use Rattle.taylor.proofs.answers.put_linear.Tie as tie
 
-enum-known-r : tie.Need-enum-known-r
-enum-known-r c = search needs
-
 add-result : tie.Need-add-result
 add-result c = omega (arith, rw (c .before .before .r .given .1) at ((c .before .before .before .before) .pre))
-
-enum-known-r-2 : tie.Need-enum-known-r-2
-enum-known-r-2 c = search needs
-
-refusal-word-requires : tie.Need-refusal-word-requires
-refusal-word-requires c κs = search needs
-
-add-result-2 : tie.Need-add-result-2
-add-result-2 c = search needs
 
 returns : tie.Need-returns
 returns c = rw (c .before .before .r .given .1, c .if1 .taken) (refl, (refl, refl))
@@ -32,11 +20,11 @@ pub put-linear-spec : {M : Type 1} → statement M
 put-linear-spec =
     tie.close
     (tie.spec
-    enum-known-r
+    (λ c. search needs)
     add-result
-    enum-known-r-2
-    refusal-word-requires
-    add-result-2
+    (λ c. search needs)
+    (λ c κs. search needs)
+    (λ c. search needs)
     returns
     returns-2
     returns-3)
