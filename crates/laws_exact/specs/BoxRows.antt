@@ -7,8 +7,8 @@ use native.Mathlib.Nat.{le-of-suc-le-suc}
 use native.Mathlib.Omega.{arith}
 use lib.ListN.{length, set}
 use Rattle.lists.specs.Four.{at}
-use Rattle.model.specs.Sum.{Adding, sum, addN, sumN}
-use Rattle.model.specs.Box.{box, boxN}
+use Rattle.model_textbook.specs.Sum.{Adding, sum, addN, sumN}
+use Rattle.model_textbook.specs.Box.{box, boxN}
 use Rattle.laws_whole.specs.SumLaws.{sum-one, sum-same, sum-first, sum-split, sum-shift, sum-narrow}
 use Rattle.laws_whole.specs.Index.{InBox}
 use Rattle.laws_whole.specs.BoxLaws.{sum-box}

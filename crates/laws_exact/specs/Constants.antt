@@ -11,10 +11,10 @@ use borrow.Author.Tests.{ne-eqb}
 use Rattle.lists.specs.Four.{at-four, at, each}
 use Rattle.model.specs.Header.{count, ones}
 use Rattle.model.specs.Places.{offset}
-use Rattle.model.specs.Box.{degree}
+use Rattle.model_textbook.specs.Box.{degree}
 use Rattle.model.specs.Poly.{Block}
 use Rattle.model.specs.Product.{constantBlock, scaled, scaledAt}
-use Rattle.model.specs.Textbook.{Series, times, origin}
+use Rattle.model_textbook.specs.Textbook.{Series, times, origin}
 use Rattle.laws_whole.specs.Whole.{Whole}
 use Rattle.laws_whole.specs.Exact.{whole-mul}
 use Rattle.laws_whole.specs.IndexLaws.{within-length}

@@ -13,7 +13,7 @@ use Rattle.model.specs.Header.{count}
 use Rattle.model.specs.Places.{index}
 use Rattle.model.specs.Limits.{cutTo}
 use Rattle.model.specs.Poly.{Block, cut}
-use Rattle.model.specs.Textbook.{Series, seriesOf, weight}
+use Rattle.model_textbook.specs.Textbook.{Series, seriesOf, weight}
 use Rattle.laws_whole.specs.Whole.{whole-one}
 use Rattle.laws_whole.specs.Index.{Within}
 use Rattle.laws_whole.specs.BoxSizes.{boxN-le, boxN-part}

@@ -12,9 +12,9 @@ use lib.IntN.{ℤ, pos, natAbs, _+ℤ_, _*ℤ_, zero-*ℤ, *ℤ-comm, +ℤ-comm}
 use borrow.Author.Tests.{eqb-true, eqb-false, ne-eqb}
 use Rattle.lists.specs.Test.{decide}
 use Rattle.lists.specs.Four.{at, four, each, one-changed}
-use Rattle.model.specs.Sum.{addN, addZ}
-use Rattle.model.specs.Box.{upTo, indexMinus, degree}
-use Rattle.model.specs.Textbook.{Series, times, origin, rest}
+use Rattle.model_textbook.specs.Sum.{addN, addZ}
+use Rattle.model_textbook.specs.Box.{upTo, indexMinus, degree}
+use Rattle.model_textbook.specs.Textbook.{Series, times, origin, rest}
 use Rattle.laws_whole.specs.Index.{Within}
 use Rattle.laws_whole.specs.IndexLaws.{within-length, upTo-within, within-upTo, minus-minus, minus-self, four-at}
 use Rattle.laws_whole.specs.BoxLaws.{box-only, box-same, box-reverse}

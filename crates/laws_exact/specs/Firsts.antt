@@ -13,11 +13,11 @@ use lib.Seq.{getD-set-same, getD-set-other}
 use borrow.Author.Tests.{eqb-true, eqb-false}
 use Rattle.lists.specs.Test.{decide}
 use Rattle.lists.specs.Four.{at, each, four-same}
-use Rattle.model.specs.Box.{degree}
+use Rattle.model_textbook.specs.Box.{degree}
 use Rattle.model.specs.Header.{count}
 use Rattle.model.specs.Places.{place, inside}
 use Rattle.model.specs.Poly.{Block, block}
-use Rattle.model.specs.Textbook.{Series, origin}
+use Rattle.model_textbook.specs.Textbook.{Series, origin}
 use Rattle.laws_whole.specs.Whole.{Whole}
 use Rattle.laws_whole.specs.IndexLaws.{four-at}
 use Rattle.shape_words.specs.Lengths.{Inside, inside-is, is-inside, inside-four, inside-at}

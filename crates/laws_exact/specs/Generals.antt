@@ -14,11 +14,11 @@ use Rattle.lists.specs.Four.{at}
 use Rattle.model.specs.Header.{count}
 use Rattle.model.specs.Places.{index, inside}
 use Rattle.model.specs.Limits.{sumShape}
-use Rattle.model.specs.Box.{indexMinus}
+use Rattle.model_textbook.specs.Box.{indexMinus}
 use Rattle.model.specs.Refusals.{zeroF}
 use Rattle.model.specs.Poly.{Block, block}
 use Rattle.model.specs.General.{productAt, general}
-use Rattle.model.specs.Textbook.{Series, times}
+use Rattle.model_textbook.specs.Textbook.{Series, times}
 use Rattle.laws_whole.specs.Whole.{whole-zero}
 use Rattle.laws_whole.specs.Index.{Within}
 use Rattle.laws_whole.specs.IndexLaws.{in-box-length, within-length, minus-length, minus-within, four-at}

@@ -21,7 +21,7 @@ use Rattle.model.specs.Refusals.{zeroF}
 use Rattle.model.specs.Poly.{Block, block, coefficientAt}
 use Rattle.model.specs.Negate.{negatedAt}
 use Rattle.model.specs.Add.{join, joinAt, placeJoined, firstJoined, turned, joined, joinedBlock}
-use Rattle.model.specs.Textbook.{Series, origin}
+use Rattle.model_textbook.specs.Textbook.{Series, origin}
 use Rattle.laws_whole.specs.Int.{abs-neg}
 use Rattle.laws_whole.specs.Whole.{Whole, whole-zero}
 use Rattle.laws_whole.specs.Exact.{whole-add, whole-sub, whole-neg}

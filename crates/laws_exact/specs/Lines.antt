@@ -19,7 +19,7 @@ use Rattle.model.specs.Refusals.{zeroF}
 use Rattle.model.specs.Poly.{Block, readAt}
 use Rattle.model.specs.Linear.{rowOne, linearIn, lineOf}
 use Rattle.model.specs.Product.{raised, linearProduct}
-use Rattle.model.specs.Textbook.{Series, times, origin}
+use Rattle.model_textbook.specs.Textbook.{Series, times, origin}
 use Rattle.laws_whole.specs.Int.{abs-mul}
 use Rattle.laws_whole.specs.Whole.{Whole}
 use Rattle.laws_whole.specs.Compare.{eq-zero}

@@ -11,12 +11,12 @@ use lib.Ieee.{eq}
 use borrow.Author.Tests.{eqb-true}
 use Rattle.lists.specs.Test.{decide, and-left, and-right, or-right, of-both}
 use Rattle.lists.specs.Four.{at, each}
-use Rattle.model.specs.Box.{indexMinus, degree}
+use Rattle.model_textbook.specs.Box.{indexMinus, degree}
 use Rattle.model.specs.Refusals.{zeroF}
 use Rattle.model.specs.Poly.{Block}
 use Rattle.model.specs.Readings.{first}
 use Rattle.model.specs.Product.{isConstant, isZero, constantBlock, multiplied}
-use Rattle.model.specs.Textbook.{Series, times, origin}
+use Rattle.model_textbook.specs.Textbook.{Series, times, origin}
 use Rattle.laws_whole.specs.Whole.{whole-zero}
 use Rattle.laws_whole.specs.Compare.{eq-zero}
 use Rattle.laws_whole.specs.IndexLaws.{within-length, minus-length, minus-within}

@@ -15,7 +15,7 @@ use Rattle.model.specs.Announced.{announced, paired}
 use Rattle.model.specs.Poly.{Poly, Block, block, blockOf, coefficientAt, cut}
 use Rattle.model.specs.General.{general}
 use Rattle.model.specs.Product.{productPoly}
-use Rattle.model.specs.Textbook.{times}
+use Rattle.model_textbook.specs.Textbook.{times}
 use Rattle.laws_whole.specs.Whole.{Whole}
 use Rattle.laws_whole.specs.Compare.{whole-eq}
 use Rattle.shape_words.specs.Rules.{Regular, ruled-at}

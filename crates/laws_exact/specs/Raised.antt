@@ -16,7 +16,7 @@ use Rattle.model.specs.Header.{count}
 use Rattle.model.specs.Places.{index}
 use Rattle.model.specs.Poly.{Block, block}
 use Rattle.model.specs.Product.{grown, raisedAt, raised}
-use Rattle.model.specs.Textbook.{Series}
+use Rattle.model_textbook.specs.Textbook.{Series}
 use Rattle.laws_whole.specs.Whole.{Whole, whole-zero}
 use Rattle.laws_whole.specs.Exact.{whole-mul}
 use Rattle.shape_words.specs.Lengths.{Inside, is-inside, inside-four, inside-at}

@@ -5,7 +5,7 @@ use Prim.Native.Nat.{ℕ, zero, suc, _+_, _*_, _≤_, _<_}
 use native.Mathlib.Omega.{arith}
 use Rattle.lists.specs.Four.{at, four}
 use Rattle.model.specs.Header.{span}
-use Rattle.model.specs.Box.{degree}
+use Rattle.model_textbook.specs.Box.{degree}
 use Rattle.laws_whole.specs.Index.{InBox}
 use Rattle.laws_whole.specs.PlaceLaws.{boxCount}
 

@@ -12,11 +12,11 @@ use Rattle.lists.specs.Four.{at, four, each}
 use Rattle.model.specs.declared.Header.{Header}
 use Rattle.model.specs.declared.Family.the-variants.{Sum, Product}
 use Rattle.model.specs.Announced.{announced}
-use Rattle.model.specs.Sum.{addN}
+use Rattle.model_textbook.specs.Sum.{addN}
 use Rattle.model.specs.Poly.{Poly, blockOf}
 use Rattle.model.specs.Add.{combined}
 use Rattle.model.specs.Product.{productPoly}
-use Rattle.model.specs.Textbook.{Series, seriesOf, weight, plus, less, times}
+use Rattle.model_textbook.specs.Textbook.{Series, seriesOf, weight, plus, less, times}
 use Rattle.laws_whole.specs.Int.{abs-sub}
 use Rattle.laws_whole.specs.Index.{Within}
 use Rattle.laws_whole.specs.BoxLaws.{box-plus}

@@ -15,7 +15,7 @@ use Rattle.lists.specs.Four.{at}
 use Rattle.model.specs.Header.{span}
 use Rattle.model.specs.Poly.{Block}
 use Rattle.model.specs.General.{lo, steps, alone, productAt}
-use Rattle.model.specs.Textbook.{Series, times}
+use Rattle.model_textbook.specs.Textbook.{Series, times}
 use Rattle.laws_whole.specs.Index.{InBox}
 use Rattle.laws_whole.specs.PlaceLaws.{boxPlace}
 use Rattle.laws_whole.specs.SeriesSizes.{sizes, abs-times}

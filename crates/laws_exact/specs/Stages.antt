@@ -13,12 +13,12 @@ use lib.Ieee.{eq}
 use borrow.Author.Tests.{eqb-true}
 use Rattle.lists.specs.Test.{and-left, and-right, of-both}
 use Rattle.lists.specs.Four.{at, four, each}
-use Rattle.model.specs.Box.{degree}
+use Rattle.model_textbook.specs.Box.{degree}
 use Rattle.model.specs.Poly.{Block}
 use Rattle.model.specs.Readings.{oneF, first}
 use Rattle.model.specs.Linear.{linear}
 use Rattle.model.specs.Product.{isConstant, isOne, constantBlock, scaled, plainProduct, linearProduct, productOf}
-use Rattle.model.specs.Textbook.{Series, seriesOf, weight, times, origin}
+use Rattle.model_textbook.specs.Textbook.{Series, seriesOf, weight, times, origin}
 use Rattle.laws_whole.specs.Int.{*ℤ-unit}
 use Rattle.laws_whole.specs.Compare.{eq-one}
 use Rattle.laws_whole.specs.Index.{InBox, Within}

@@ -15,7 +15,7 @@ use Rattle.model.specs.Announced.{announced, paired}
 use Rattle.model.specs.Poly.{Poly, blockOf, coefficientAt}
 use Rattle.model.specs.Add.{combined}
 use Rattle.model.specs.Negate.{negated}
-use Rattle.model.specs.Textbook.{Series, seriesOf, weight, plus, less}
+use Rattle.model_textbook.specs.Textbook.{Series, seriesOf, weight, plus, less}
 use Rattle.laws_whole.specs.Int.{abs-add, abs-sub}
 use Rattle.laws_whole.specs.Whole.{Whole}
 use Rattle.shape_words.specs.Rules.{Regular}

@@ -13,10 +13,10 @@ use lib.Ieee.{Float, nan, add, binary64}
 use borrow.Author.Tests.{ltb-true, ltb-false}
 use Rattle.lists.specs.Test.{decide}
 use Rattle.lists.specs.Four.{at}
-use Rattle.model.specs.Sum.{addN, addZ, sumN, sumZ}
-use Rattle.model.specs.Box.{indexMinus, degree}
+use Rattle.model_textbook.specs.Sum.{addN, addZ, sumN, sumZ}
+use Rattle.model_textbook.specs.Box.{indexMinus, degree}
 use Rattle.model.specs.General.{lo, steps, line}
-use Rattle.model.specs.Textbook.{Series, times}
+use Rattle.model_textbook.specs.Textbook.{Series, times}
 use Rattle.laws_whole.specs.Int.{abs-mul}
 use Rattle.laws_whole.specs.SumLaws.{sum-same}
 use Rattle.laws_whole.specs.SumSizes.{sumN-le, sumN-part, abs-sumZ}

@@ -14,7 +14,7 @@ use Rattle.lists.specs.Four.{at, four}
 use Rattle.model.specs.Header.{count}
 use Rattle.model.specs.Places.{place, index, inside, offset}
 use Rattle.model.specs.Poly.{Block, block, readAt, coefficientAt, cut}
-use Rattle.model.specs.Textbook.{Series, truncated, seriesOf, origin, weight}
+use Rattle.model_textbook.specs.Textbook.{Series, truncated, seriesOf, origin, weight}
 use Rattle.laws_whole.specs.Whole.{Whole, whole-one, whole-zero}
 use Rattle.laws_whole.specs.IndexLaws.{four-at}
 use Rattle.laws_whole.specs.StoredLaws.{inside-in-box, stored-past, in-box-inside}

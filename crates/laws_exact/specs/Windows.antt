@@ -8,9 +8,9 @@ use native.Mathlib.Omega.{arith}
 use lib.ListN.{length}
 use lib.IntN.{pos, natAbs, _*ℤ_}
 use Rattle.lists.specs.Four.{at, each, four-same}
-use Rattle.model.specs.Sum.{Adding, sum, sumN, sumZ, addZ}
-use Rattle.model.specs.Box.{box, upTo, indexMinus, degree}
-use Rattle.model.specs.Textbook.{Series, times, origin}
+use Rattle.model_textbook.specs.Sum.{Adding, sum, sumN, sumZ, addZ}
+use Rattle.model_textbook.specs.Box.{box, upTo, indexMinus, degree}
+use Rattle.model_textbook.specs.Textbook.{Series, times, origin}
 use Rattle.laws_whole.specs.SumLaws.{sum-split, sum-zeros, sum-one, plus-nil}
 use Rattle.laws_whole.specs.Index.{Within}
 use Rattle.laws_whole.specs.IndexLaws.{within-upTo, four-at}

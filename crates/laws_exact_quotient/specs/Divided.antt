@@ -16,7 +16,7 @@ use Rattle.model.specs.Poly.{Block, block}
 use Rattle.model.specs.Readings.{oneF, first}
 use Rattle.model.specs.Product.{isConstant, isOne}
 use Rattle.model.specs.Quotient.{dividedAt, quotientOf, divided}
-use Rattle.model.specs.Textbook.{Series, times, origin, quotient}
+use Rattle.model_textbook.specs.Textbook.{Series, times, origin, quotient}
 use Rattle.laws_whole.specs.Int.{*ℤ-unit, unit-back}
 use Rattle.laws_whole.specs.Whole.{Whole}
 use Rattle.laws_whole.specs.Exact.{whole-div}

@@ -8,7 +8,7 @@ use lib.Arith.{digits-lt}
 use lib.ListN.{getD, take, drop}
 use lib.Seq.{getD-take, getD-drop}
 use lib.Ieee.{Float, nan}
-use Rattle.model.specs.Textbook.{Series}
+use Rattle.model_textbook.specs.Textbook.{Series}
 use Rattle.laws_whole.specs.Index.{InBox, Within}
 use Rattle.laws_whole.specs.PlaceLaws.{boxCount, boxPlace}
 use Rattle.laws_whole.specs.Whole.{Whole}

@@ -6,8 +6,8 @@ use mathlib.Core.List.{List}
 use Prim.Native.Nat.{ℕ}
 use lib.ListN.{length}
 use lib.IntN.{ℤ, natAbs, _*ℤ_}
-use Rattle.model.specs.Box.{indexMinus}
-use Rattle.model.specs.Textbook.{Series, times, one, origin, quotient}
+use Rattle.model_textbook.specs.Box.{indexMinus}
+use Rattle.model_textbook.specs.Textbook.{Series, times, one, origin, quotient}
 use Rattle.laws_whole.specs.IndexLaws.{within-length, minus-length}
 use Rattle.laws_whole.specs.SeriesLaws.{times-same, times-comm, times-assoc, times-one}
 use Rattle.laws_whole.specs.QuotientLaws.{quotient-times}

@@ -10,10 +10,10 @@ use lib.IntN.{ℤ, _+ℤ_, _*ℤ_, *ℤ-zero}
 use lib.Ieee.{Float}
 use borrow.Author.Tests.{ltb-true, ltb-false}
 use Rattle.lists.specs.Test.{decide}
-use Rattle.model.specs.Sum.{addN, addZ, sumN, sumZ}
-use Rattle.model.specs.Box.{indexMinus}
+use Rattle.model_textbook.specs.Sum.{addN, addZ, sumN, sumZ}
+use Rattle.model_textbook.specs.Box.{indexMinus}
 use Rattle.model.specs.General.{lo}
-use Rattle.model.specs.Textbook.{Series, times}
+use Rattle.model_textbook.specs.Textbook.{Series, times}
 use Rattle.laws_whole.specs.SumLaws.{sum-last}
 use Rattle.laws_whole.specs.SumSizes.{sumN-part}
 use Rattle.laws_whole.specs.IndexLaws.{minus-within}

@@ -12,11 +12,11 @@ use lib.IntN.{ℤ, negℤ, natAbs, _+ℤ_, +ℤ-idl}
 use lib.Ieee.{Float}
 use Rattle.lists.specs.Four.{at}
 use Rattle.model.specs.Header.{span}
-use Rattle.model.specs.Box.{degree}
+use Rattle.model_textbook.specs.Box.{degree}
 use Rattle.model.specs.Poly.{Block, block, coefficientAt}
 use Rattle.model.specs.General.{lo}
 use Rattle.model.specs.Quotient.{rowsBefore, taken, lessened, quotientAt}
-use Rattle.model.specs.Textbook.{Series, times}
+use Rattle.model_textbook.specs.Textbook.{Series, times}
 use Rattle.laws_whole.specs.Int.{neg-+ℤ-cancel, unit-back}
 use Rattle.laws_whole.specs.Index.{InBox}
 use Rattle.laws_whole.specs.PlaceLaws.{boxPlace}

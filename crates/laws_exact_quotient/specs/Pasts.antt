@@ -10,10 +10,10 @@ use lib.IntN.{ℤ, pos, natAbs, _*ℤ_, zero-*ℤ, *ℤ-zero}
 use Rattle.lists.specs.Test.{decide}
 use Rattle.lists.specs.Four.{at}
 use Rattle.model.specs.Places.{inside}
-use Rattle.model.specs.Box.{indexMinus}
+use Rattle.model_textbook.specs.Box.{indexMinus}
 use Rattle.model.specs.Poly.{Block}
 use Rattle.model.specs.Quotient.{quotientShape}
-use Rattle.model.specs.Textbook.{Series, truncated, times, origin, quotient}
+use Rattle.model_textbook.specs.Textbook.{Series, truncated, times, origin, quotient}
 use Rattle.laws_whole.specs.IndexLaws.{minus-length, minus-within}
 use Rattle.laws_whole.specs.SeriesLaws.{times-same}
 use Rattle.laws_whole.specs.QuotientLaws.{quotient-times}

@@ -13,7 +13,7 @@ use Rattle.model.specs.Limits.{minDegreesP1}
 use Rattle.model.specs.Announced.{announced, paired}
 use Rattle.model.specs.Poly.{Poly, blockOf, coefficientAt}
 use Rattle.model.specs.Quotient.{quotientPoly}
-use Rattle.model.specs.Textbook.{Series, weight, origin, quotient}
+use Rattle.model_textbook.specs.Textbook.{Series, weight, origin, quotient}
 use Rattle.laws_whole.specs.Whole.{Whole}
 use Rattle.laws_whole.specs.BoxSizes.{boxN-part}
 use Rattle.laws_whole.specs.SeriesSizes.{sizes-le}

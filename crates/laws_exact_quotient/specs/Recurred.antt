@@ -16,7 +16,7 @@ use Rattle.model.specs.Header.{count}
 use Rattle.model.specs.Places.{place, index}
 use Rattle.model.specs.Poly.{Block, block}
 use Rattle.model.specs.Quotient.{quotientAt, recurred, quotientShape}
-use Rattle.model.specs.Textbook.{Series, origin, quotient}
+use Rattle.model_textbook.specs.Textbook.{Series, origin, quotient}
 use Rattle.laws_whole.specs.Whole.{Whole}
 use Rattle.laws_whole.specs.IndexLaws.{in-box-length, four-at}
 use Rattle.laws_whole.specs.PlaceLaws.{place-of-four}

@@ -16,13 +16,13 @@ use Rattle.lists.specs.Test.{decide}
 use Rattle.lists.specs.Four.{at, four, each, at-same}
 use Rattle.model.specs.declared.Family.the-variants.{Shift}
 use Rattle.model.specs.Header.{stored, noHeader}
-use Rattle.model.specs.Sum.{addN, addZ, sumN, sumZ}
-use Rattle.model.specs.Box.{boxN, boxZ}
+use Rattle.model_textbook.specs.Sum.{addN, addZ, sumN, sumZ}
+use Rattle.model_textbook.specs.Box.{boxN, boxZ}
 use Rattle.model.specs.Announced.{announced, single, lessIn}
 use Rattle.model.specs.Poly.{Poly, blockOf}
 use Rattle.model.specs.Readings.{sumTo}
 use Rattle.model.specs.Shifts.{shiftDownPoly}
-use Rattle.model.specs.Textbook.{Series, weight, total, shifted}
+use Rattle.model_textbook.specs.Textbook.{Series, weight, total, shifted}
 use Rattle.laws_whole.specs.Whole.{Whole}
 use Rattle.laws_whole.specs.Compare.{whole-eq}
 use Rattle.laws_whole.specs.Steps.{whole-list}

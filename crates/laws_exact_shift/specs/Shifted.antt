@@ -13,11 +13,11 @@ use borrow.Author.Tests.{leb-true, leb-false, eqb-true, eqb-false, eq-eqb, ne-eq
 use Rattle.lists.specs.Test.{decide}
 use Rattle.lists.specs.Four.{at, at-four, one-changed, at-same, at-other}
 use Rattle.model.specs.Places.{inside}
-use Rattle.model.specs.Sum.{addZ, sumN, sumZ}
+use Rattle.model_textbook.specs.Sum.{addZ, sumN, sumZ}
 use Rattle.model.specs.Announced.{announced, single, lessIn}
 use Rattle.model.specs.Poly.{Poly, blockOf, coefficientAt}
 use Rattle.model.specs.Shifts.{inRow, byIndex, rowSum, shiftDownPoly}
-use Rattle.model.specs.Textbook.{Series, weight, shifted}
+use Rattle.model_textbook.specs.Textbook.{Series, weight, shifted}
 use Rattle.laws_whole.specs.Whole.{Whole}
 use Rattle.laws_whole.specs.Exact.{whole-add}
 use Rattle.laws_whole.specs.Steps.{whole-sum}

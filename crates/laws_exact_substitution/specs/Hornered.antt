@@ -10,9 +10,9 @@ use lib.Seq.{set-set}
 use lib.IntN.{ℤ, pos, natAbs, _+ℤ_, _*ℤ_, +ℤ-idr, zero-*ℤ}
 use borrow.Author.Tests.{ne-eqb}
 use Rattle.lists.specs.Four.{at, at-same}
-use Rattle.model.specs.Sum.{addN, addZ, sumN, sumZ}
-use Rattle.model.specs.Box.{boxN, indexMinus}
-use Rattle.model.specs.Textbook.{Series, weight, plus, times, power, coefficientOf, substitute}
+use Rattle.model_textbook.specs.Sum.{addN, addZ, sumN, sumZ}
+use Rattle.model_textbook.specs.Box.{boxN, indexMinus}
+use Rattle.model_textbook.specs.Textbook.{Series, weight, plus, times, power, coefficientOf, substitute}
 use Rattle.laws_whole.specs.SumLaws.{sum-same, sum-only, sum-first, sum-empty}
 use Rattle.laws_whole.specs.SumSizes.{sumN-part}
 use Rattle.laws_whole.specs.IndexLaws.{in-box-length}

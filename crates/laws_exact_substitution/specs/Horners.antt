@@ -14,7 +14,7 @@ use Rattle.model.specs.Poly.{Block}
 use Rattle.model.specs.Add.{joinedBlock}
 use Rattle.model.specs.Product.{constantBlock, multiplied}
 use Rattle.model.specs.Substitute.{rowAt, horner}
-use Rattle.model.specs.Textbook.{Series, seriesOf, weight, times, coefficientOf, substitute}
+use Rattle.model_textbook.specs.Textbook.{Series, seriesOf, weight, times, coefficientOf, substitute}
 use Rattle.laws_whole.specs.Index.{InBox}
 use Rattle.laws_whole.specs.IndexLaws.{at-in-box}
 use Rattle.laws_whole.specs.SeriesSizes.{sizes-le, abs-times, weight-at}

@@ -22,7 +22,7 @@ use Rattle.model.specs.Limits.{cutTo}
 use Rattle.model.specs.Poly.{Block, block, readAt}
 use Rattle.model.specs.Readings.{oneF}
 use Rattle.model.specs.Substitute.{powered}
-use Rattle.model.specs.Textbook.{Series, seriesOf, times, origin, coefficientOf, substitute}
+use Rattle.model_textbook.specs.Textbook.{Series, seriesOf, times, origin, coefficientOf, substitute}
 use Rattle.laws_whole.specs.Int.{abs-mul, *ℤ-unit, *ℤ-assoc}
 use Rattle.laws_whole.specs.Whole.{Whole, whole-unit}
 use Rattle.laws_whole.specs.Exact.{whole-mul}

@@ -14,14 +14,14 @@ use borrow.Author.Tests.{eqb-true}
 use Rattle.lists.specs.Test.{decide, and-left, and-right}
 use Rattle.lists.specs.Four.{at}
 use Rattle.model.specs.declared.Linear.{Linear}
-use Rattle.model.specs.Box.{indexMinus}
+use Rattle.model_textbook.specs.Box.{indexMinus}
 use Rattle.model.specs.Places.{inside}
 use Rattle.model.specs.Refusals.{zeroF}
 use Rattle.model.specs.Poly.{Block}
 use Rattle.model.specs.Linear.{lineOf, linear}
 use Rattle.model.specs.Product.{isZero}
 use Rattle.model.specs.Substitute.{rowAt, powered, substituted}
-use Rattle.model.specs.Textbook.{Series, seriesOf, coefficientOf, substitute}
+use Rattle.model_textbook.specs.Textbook.{Series, seriesOf, coefficientOf, substitute}
 use Rattle.laws_whole.specs.Int.{abs-mul}
 use Rattle.laws_whole.specs.Whole.{Whole}
 use Rattle.laws_whole.specs.Compare.{eq-zero}

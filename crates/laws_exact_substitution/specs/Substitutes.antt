@@ -14,11 +14,11 @@ use Rattle.lists.specs.Test.{decide}
 use Rattle.lists.specs.Four.{at, four, each, at-four, long}
 use Rattle.model.specs.declared.Family.the-variants.{Substitution}
 use Rattle.model.specs.Header.{len}
-use Rattle.model.specs.Sum.{addN}
+use Rattle.model_textbook.specs.Sum.{addN}
 use Rattle.model.specs.Announced.{announced, paired}
 use Rattle.model.specs.Poly.{Poly, blockOf, coefficientAt}
 use Rattle.model.specs.Substitute.{substitutePoly}
-use Rattle.model.specs.Textbook.{Series, weight, coefficientOf, substitute}
+use Rattle.model_textbook.specs.Textbook.{Series, weight, coefficientOf, substitute}
 use Rattle.laws_whole.specs.Whole.{Whole}
 use Rattle.laws_whole.specs.Index.{Within}
 use Rattle.laws_whole.specs.IndexLaws.{in-box-length}

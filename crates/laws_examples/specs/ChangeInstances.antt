@@ -14,12 +14,12 @@ use Rattle.model.specs.Word.{headerOf, goodWord}
 use Rattle.model.specs.Places.{strides, offset, inside}
 use Rattle.model.specs.Limits.{minLimit, minDegreesP1}
 use Rattle.model.specs.Announced.{announced, paired}
-use Rattle.model.specs.Sum.{sum}
-use Rattle.model.specs.Box.{box, upTo, indexMinus, degree}
+use Rattle.model_textbook.specs.Sum.{sum}
+use Rattle.model_textbook.specs.Box.{box, upTo, indexMinus, degree}
 use Rattle.model.specs.Poly.{blockOf, held, coefficientAt}
 use Rattle.model.specs.Shifts.{shiftDownPoly}
 use Rattle.model.specs.Substitute.{substitutePoly}
-use Rattle.model.specs.Textbook.{truncated, seriesOf, weight, times, one, power, coefficientOf, substitute, shifted, origin}
+use Rattle.model_textbook.specs.Textbook.{truncated, seriesOf, weight, times, one, power, coefficientOf, substitute, shifted, origin}
 use Rattle.laws_whole.specs.Whole.{Whole}
 use Rattle.laws_exact.specs.Wholes.{Wholes}
 use Rattle.laws_examples.specs.Held.{held-regular, held-wholes}

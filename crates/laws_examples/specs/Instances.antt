@@ -16,11 +16,11 @@ use Rattle.model.specs.Word.{headerOf, goodWord}
 use Rattle.model.specs.Places.{strides, offset, inside}
 use Rattle.model.specs.Limits.{minLimit, minDegreesP1}
 use Rattle.model.specs.Announced.{announced, paired}
-use Rattle.model.specs.Box.{box, upTo, indexMinus, degree}
+use Rattle.model_textbook.specs.Box.{box, upTo, indexMinus, degree}
 use Rattle.model.specs.Poly.{Poly, blockOf, held, coefficientAt}
 use Rattle.model.specs.Product.{productPoly}
 use Rattle.model.specs.Quotient.{quotientPoly}
-use Rattle.model.specs.Textbook.{truncated, seriesOf, weight, times, rest, turns, quotient}
+use Rattle.model_textbook.specs.Textbook.{truncated, seriesOf, weight, times, rest, turns, quotient}
 use Rattle.laws_whole.specs.Whole.{Whole, whole-unit}
 use Rattle.shape_words.specs.Lengths.{Inside, inside-four}
 use Rattle.laws_exact.specs.Wholes.{Wholes}

@@ -3,8 +3,8 @@ use mathlib.Core.Path.{_≡_, refl, sym, ap, _∙_}
 use mathlib.Core.List.{List, [], _∷_}
 use Prim.Native.Nat.{ℕ, suc, _+_, _-_, _<_}
 use native.Mathlib.Omega.{arith}
-use Rattle.model.specs.Sum.{Adding, sum}
-use Rattle.model.specs.Box.{box, upTo, indexPlus, indexMinus}
+use Rattle.model_textbook.specs.Sum.{Adding, sum}
+use Rattle.model_textbook.specs.Box.{box, upTo, indexPlus, indexMinus}
 use Rattle.laws_whole.specs.SumLaws.{Additive, Through, sum-related, carried, equal, zeros, sum-same, sum-narrow, sum-only, sum-plus, sum-exchange, sum-reverse, sum-triangle}
 use Rattle.laws_whole.specs.Index.{InBox, Within}
 

@@ -5,7 +5,7 @@ use Prim.Native.Nat.{ℕ, _*_, _≤_}
 use native.Mathlib.Nat.{le-refl, le-trans}
 use native.Mathlib.Omega.{arith}
 use lib.IntN.{ℤ, natAbs, _*ℤ_}
-use Rattle.model.specs.Box.{box, boxN, boxZ}
+use Rattle.model_textbook.specs.Box.{box, boxN, boxZ}
 use Rattle.laws_whole.specs.SumSizes.{factorN, factorZ, left-factorZ, ordered, sized, sumN-le, sumN-term, sumN-part}
 use Rattle.laws_whole.specs.Index.{InBox, Within}
 use Rattle.laws_whole.specs.BoxLaws.{box-related, box-through}

@@ -11,9 +11,9 @@ use Rattle.lists.specs.Walk.{walk}
 use Rattle.lists.specs.Four.{each}
 use Rattle.model.specs.Header.{span}
 use Rattle.model.specs.Places.{strides, offset}
-use Rattle.model.specs.Sum.{sum, sumN}
-use Rattle.model.specs.Box.{box, boxN}
-use Rattle.model.specs.Textbook.{Series, seriesOf, weight, total, times, quotient, substitute, shifted}
+use Rattle.model_textbook.specs.Sum.{sum, sumN}
+use Rattle.model_textbook.specs.Box.{box, boxN}
+use Rattle.model_textbook.specs.Textbook.{Series, seriesOf, weight, total, times, quotient, substitute, shifted}
 use Rattle.laws_whole.specs.Whole.{Whole, whole-int, whole-minus-zero}
 use Rattle.laws_whole.specs.Exact.{whole-mul, whole-div}
 use Rattle.laws_whole.specs.Compare.{eq-zero}

@@ -6,8 +6,8 @@ use native.Mathlib.Nat.{le-refl, suc-inj, sub-self, zero-lt-suc, le-of-suc-le-su
 use native.Mathlib.Omega.{arith}
 use lib.ListN.{length}
 use Rattle.lists.specs.Four.{at, four}
-use Rattle.model.specs.Box.{upTo, indexPlus, indexMinus, degree}
-use Rattle.model.specs.Textbook.{origin}
+use Rattle.model_textbook.specs.Box.{upTo, indexPlus, indexMinus, degree}
+use Rattle.model_textbook.specs.Textbook.{origin}
 use Rattle.laws_whole.specs.Index.{InBox, Within}
 
 pub within-upTo : (j k : List ℕ) → InBox j (upTo k) → Within j k

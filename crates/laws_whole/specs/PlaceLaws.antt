@@ -7,8 +7,8 @@ use native.Mathlib.Omega.{arith}
 use lib.ListN.{length}
 use Rattle.model.specs.Header.{span, count}
 use Rattle.model.specs.Places.{strides, offset, place}
-use Rattle.model.specs.Sum.{Adding, sum}
-use Rattle.model.specs.Box.{box}
+use Rattle.model_textbook.specs.Sum.{Adding, sum}
+use Rattle.model_textbook.specs.Box.{box}
 use Rattle.laws_whole.specs.SumLaws.{sum-one, sum-same, sum-blocks}
 use Rattle.laws_whole.specs.BoxLaws.{box-same}
 use Rattle.laws_whole.specs.IndexLaws.{in-box-length, four-at}

@@ -8,8 +8,8 @@ use lib.ListN.{length}
 use lib.IntN.{ℤ, natAbs, _+ℤ_, _-ℤ_, _*ℤ_, *ℤ-comm, *ℤ-zero, -ℤ-+ℤ-cancel, +ℤ-negℤ-cancel}
 use borrow.Author.Tests.{eqb-false}
 use Rattle.lists.specs.Test.{decide}
-use Rattle.model.specs.Box.{indexMinus, degree}
-use Rattle.model.specs.Textbook.{Series, times, origin, rest, turns, quotient}
+use Rattle.model_textbook.specs.Box.{indexMinus, degree}
+use Rattle.model_textbook.specs.Textbook.{Series, times, origin, rest, turns, quotient}
 use Rattle.laws_whole.specs.Int.{unit-back}
 use Rattle.laws_whole.specs.Index.{Within}
 use Rattle.laws_whole.specs.IndexLaws.{within-length, degree-minus, minus-self}

@@ -7,9 +7,9 @@ use native.Mathlib.Omega.{arith}
 use lib.Dec.{eqb}
 use lib.IntN.{ℤ, pos, _+ℤ_, _*ℤ_, +ℤ-idl, +ℤ-idr, *ℤ-comm, *ℤ-zero}
 use borrow.Author.Tests.{eq-eqb, ne-eqb}
-use Rattle.model.specs.Sum.{addZ, sumZ}
-use Rattle.model.specs.Box.{boxZ, upTo, indexPlus, indexMinus, degree}
-use Rattle.model.specs.Textbook.{Series, plus, times, one, power, rest}
+use Rattle.model_textbook.specs.Sum.{addZ, sumZ}
+use Rattle.model_textbook.specs.Box.{boxZ, upTo, indexPlus, indexMinus, degree}
+use Rattle.model_textbook.specs.Textbook.{Series, plus, times, one, power, rest}
 use Rattle.laws_whole.specs.Int.{*ℤ-assoc, left-distrib, *ℤ-unit}
 use Rattle.laws_whole.specs.SumLaws.{sum-first, sum-shift, sum-same}
 use Rattle.laws_whole.specs.SumSizes.{sumZ-times}

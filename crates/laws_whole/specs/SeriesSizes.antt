@@ -4,9 +4,9 @@ use mathlib.Core.List.{List}
 use Prim.Native.Nat.{ℕ, _+_, _*_, _≤_}
 use native.Mathlib.Nat.{le-trans, le-of-eq, mul-comm, mul-le-mul-left}
 use lib.IntN.{natAbs}
-use Rattle.model.specs.Sum.{addN}
-use Rattle.model.specs.Box.{boxN, upTo, indexPlus, indexMinus}
-use Rattle.model.specs.Textbook.{Series, weight, plus, times}
+use Rattle.model_textbook.specs.Sum.{addN}
+use Rattle.model_textbook.specs.Box.{boxN, upTo, indexPlus, indexMinus}
+use Rattle.model_textbook.specs.Textbook.{Series, weight, plus, times}
 use Rattle.laws_whole.specs.Int.{abs-add, abs-mul}
 use Rattle.laws_whole.specs.Index.{InBox}
 use Rattle.laws_whole.specs.BoxLaws.{box-same, box-plus, box-triangle}

@@ -7,7 +7,7 @@ use lib.ListN.{getD}
 use lib.IntN.{ℤ, natAbs, _+ℤ_, _*ℤ_, +ℤ-assoc, +ℤ-idl, +ℤ-idr}
 use lib.Ieee.{Float, nan, binary64, add, mul, ofBits}
 use Rattle.lists.specs.Walk.{walk}
-use Rattle.model.specs.Sum.{sum, sumN, sumZ}
+use Rattle.model_textbook.specs.Sum.{sum, sumN, sumZ}
 use Rattle.laws_whole.specs.Int.{abs-add, abs-mul}
 use Rattle.laws_whole.specs.Whole.{Whole, whole-zero}
 use Rattle.laws_whole.specs.Exact.{whole-add, whole-mul}

@@ -11,8 +11,8 @@ use Rattle.lists.specs.Four.{at, each}
 use Rattle.lists.specs.Test.{and-left, and-right, decide}
 use Rattle.model.specs.Header.{count}
 use Rattle.model.specs.Places.{place, inside}
-use Rattle.model.specs.Sum.{addN, addZ, sumN, sumZ}
-use Rattle.model.specs.Textbook.{Series, truncated, seriesOf, weight, total}
+use Rattle.model_textbook.specs.Sum.{addN, addZ, sumN, sumZ}
+use Rattle.model_textbook.specs.Textbook.{Series, truncated, seriesOf, weight, total}
 use Rattle.laws_whole.specs.Index.{InBox, Within}
 use Rattle.laws_whole.specs.IndexLaws.{in-box-at, at-in-box, in-box-length}
 use Rattle.laws_whole.specs.BoxLaws.{box-same, box-narrow}

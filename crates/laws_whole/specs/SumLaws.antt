@@ -3,7 +3,7 @@ use mathlib.Core.Path.{_≡_, refl, sym, ap, ap₂, _∙_}
 use Prim.Native.Nat.{ℕ, zero, suc, _+_, _-_, _*_, _≤_, _<_}
 use native.Mathlib.Nat.{add-zero, zero-add, zero-mul, suc-mul, add-comm, sub-self}
 use native.Mathlib.Omega.{arith}
-use Rattle.model.specs.Sum.{Adding, sum}
+use Rattle.model_textbook.specs.Sum.{Adding, sum}
 
 -- ---- term by term
 

@@ -4,7 +4,7 @@ use Prim.Native.Nat.{ℕ, _+_, _-_, _*_, _≤_, _<_}
 use native.Mathlib.Nat.{le-refl, zero-mul, add-mul}
 use native.Mathlib.Omega.{arith}
 use lib.IntN.{ℤ, pos, negℤ, natAbs, _*ℤ_, zero-*ℤ, *ℤ-zero, negℤ-+ℤ}
-use Rattle.model.specs.Sum.{addN, addZ, sumN, sumZ}
+use Rattle.model_textbook.specs.Sum.{addN, addZ, sumN, sumZ}
 use Rattle.laws_whole.specs.Int.{abs-add, left-distrib, right-distrib}
 use Rattle.laws_whole.specs.SumLaws.{Additive, Through, sum-related, sum-through, sum-split, sum-one}
 

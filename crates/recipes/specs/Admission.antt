@@ -14,9 +14,9 @@ use Rattle.lists.specs.Part.{part}
 use Rattle.model.specs.declared.Header.{Header}
 use Rattle.model.specs.declared.Refusal.{Refusal}
 use Rattle.model.specs.Refusals.{refusedBy, noRefusal, zeros, cleared}
-use Rattle.model.specs.Recipe.{inputHeads, announcedPlaces, announcedSteps, total, largest}
-use Rattle.model.specs.Check.{orElse, checkRefusal}
-use Rattle.model.specs.Run.{lentRefusal}
+use Rattle.model_recipes.specs.Recipe.{inputHeads, announcedPlaces, announcedSteps, total, largest}
+use Rattle.model_recipes.specs.Check.{orElse, checkRefusal}
+use Rattle.model_recipes.specs.Run.{lentRefusal}
 use Rattle.shape_words.specs.Lengths.{lengths-of, count-most}
 use Rattle.recipes_kinds.specs.Known.{Known}
 use Rattle.recipes_check.specs.Asks.{or-first, or-next}

@@ -6,12 +6,12 @@ use lib.ListN.{length, drop}
 use lib.Ieee.{Float}
 use borrow.Author.Tests.{eq-eqb, ne-eqb}
 use Rattle.model.specs.declared.Refusal.{Refusal}
-use Rattle.model.specs.declared.RunAnswer.the-variants.{Done, Refused}
+use Rattle.model_recipes.specs.declared.RunAnswer.the-variants.{Done, Refused}
 use Rattle.model.specs.Word.{wordOf}
 use Rattle.model.specs.Refusals.{cleared}
-use Rattle.model.specs.Recipe.{announcedSteps, total, largest}
-use Rattle.model.specs.Check.{checkRefusal}
-use Rattle.model.specs.Run.{stepValues, laid, lentRefusal, runRefusal, runBy, runAnswer, runPool, runWords, runScratch}
+use Rattle.model_recipes.specs.Recipe.{announcedSteps, total, largest}
+use Rattle.model_recipes.specs.Check.{checkRefusal}
+use Rattle.model_recipes.specs.Run.{stepValues, laid, lentRefusal, runRefusal, runBy, runAnswer, runPool, runWords, runScratch}
 use Rattle.gates.specs.Gate.{leaves-no, leaves-yes}
 use Rattle.recipes_check.specs.Asks.{or-none}
 use Rattle.recipes_laws.specs.Never.{Lent, lent-enough, run-refusal}

@@ -14,16 +14,16 @@ use Rattle.lists.specs.Test.{decide}
 use Rattle.lists.specs.Chain.{chain, chain-append, chain-cons, chain-none, chain-keeps, length-chain}
 use Rattle.lists.specs.Part.{part, Kept}
 use Rattle.model.specs.declared.Header.{Header}
-use Rattle.model.specs.declared.Step.{Step}
+use Rattle.model_recipes.specs.declared.Step.{Step}
 use Rattle.model.specs.Header.{limit, stored, noHeader}
 use Rattle.model.specs.Word.{headerOf, wordOf}
 use Rattle.model.specs.Refusals.{padded}
 use Rattle.model.specs.Poly.{Poly}
-use Rattle.model.specs.Steps.{stepOf, rows, usesOf}
-use Rattle.model.specs.Recipe.{headAt, announcedStep, inputHeads, announcedPlaces, announcedSteps, total, largest}
-use Rattle.model.specs.Check.{namedBefore, formed, checkRefusal}
-use Rattle.model.specs.Reasons.{no-kind}
-use Rattle.model.specs.Run.{inputValues, noValue, valueAt, stepValue, values, stepValues, laid}
+use Rattle.model_recipes.specs.Steps.{stepOf, rows, usesOf}
+use Rattle.model_recipes.specs.Recipe.{headAt, announcedStep, inputHeads, announcedPlaces, announcedSteps, total, largest}
+use Rattle.model_recipes.specs.Check.{namedBefore, formed, checkRefusal}
+use Rattle.model_recipes.specs.Reasons.{no-kind}
+use Rattle.model_recipes.specs.Run.{inputValues, noValue, valueAt, stepValue, values, stepValues, laid}
 use Rattle.shape_words.specs.Rules.{Ruled, Regular}
 use Rattle.shape_words.specs.Words.{unpack-pack}
 use Rattle.shape_words.specs.Lengths.{lengths-of, count-pos}

@@ -14,14 +14,14 @@ use borrow.Author.Tests.{eqb-true, eqb-false}
 use Rattle.lists.specs.Test.{decide}
 use Rattle.lists.specs.Part.{part, Kept}
 use Rattle.model.specs.declared.Header.{Header}
-use Rattle.model.specs.declared.Step.{Step}
+use Rattle.model_recipes.specs.declared.Step.{Step}
 use Rattle.model.specs.Header.{stored, noHeader}
 use Rattle.model.specs.Word.{headerOf, wordOf}
 use Rattle.model.specs.Refusals.{zeros, padded}
 use Rattle.model.specs.Constructed.{constant, wholeF}
 use Rattle.model.specs.Poly.{Poly, poly, held}
-use Rattle.model.specs.Recipe.{inputHeads, headAt, total}
-use Rattle.model.specs.Run.{inputValues, operations, noValue, valueAt}
+use Rattle.model_recipes.specs.Recipe.{inputHeads, headAt, total}
+use Rattle.model_recipes.specs.Run.{inputValues, operations, noValue, valueAt}
 use Rattle.shape_words.specs.Lengths.{lengths-of, count-most}
 use Rattle.recipes_kinds.specs.Known.{Known, head-at}
 use Rattle.recipes_check.specs.Counts.{word-ruled}

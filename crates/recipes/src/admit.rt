@@ -12,8 +12,8 @@ ghost use Prim.Native.Nat.{_≤_};
 ghost use lib.ListN.{length, drop};
 ghost use Rattle.model.specs.Word.{wordOf};
 ghost use Rattle.model.specs.Refusals.{cleared};
-ghost use Rattle.model.specs.Recipe.{announcedSteps, total, largest};
-ghost use Rattle.model.specs.Run.{stepValues, laid};
+ghost use Rattle.model_recipes.specs.Recipe.{announcedSteps, total, largest};
+ghost use Rattle.model_recipes.specs.Run.{stepValues, laid};
 ghost use Rattle.recipes.specs.Running.{Admitted};
 ghost use Rattle.recipes.specs.Admission.{Admits};
 

@@ -4,14 +4,14 @@ mod running;
 
 use admit::admit;
 use admit::run_admitted;
-use model::CheckAnswer;
-use model::RunAnswer;
+use model_recipes::CheckAnswer;
+use model_recipes::RunAnswer;
 use recipes_check::judge;
 use recipes_check::largest_of;
 use recipes_check::total_of;
 ghost use mathlib.Core.Path.{_≡_};
-ghost use Rattle.model.specs.Check.{checkAnswer};
-ghost use Rattle.model.specs.Run.{runAnswer, runPool, runWords, runScratch};
+ghost use Rattle.model_recipes.specs.Check.{checkAnswer};
+ghost use Rattle.model_recipes.specs.Run.{runAnswer, runPool, runWords, runScratch};
 
 // What a run of the recipe takes, or why there is none: refusals 7, 1, 3, 4, 5.
 pub fn check(headers: &[u64], steps: &[u64]) -> CheckAnswer

@@ -2,7 +2,7 @@
 // `starts` says where each value begins, an input's among the coefficients, a step's in the pool.
 use gates::stored_of;
 use model::Header;
-use model::Step;
+use model_recipes::Step;
 use recipes_kinds::step::step_of;
 use recipes_steps::perform::constant_to;
 use recipes_steps::perform::perform;
@@ -15,8 +15,8 @@ ghost use lib.ListN.{length, take, drop};
 ghost use Rattle.lists.specs.Part.{Kept};
 ghost use Rattle.model.specs.Word.{headerOf, wordOf};
 ghost use Rattle.model.specs.Refusals.{padded};
-ghost use Rattle.model.specs.Recipe.{inputHeads, announcedSteps, total};
-ghost use Rattle.model.specs.Run.{stepValues, laid};
+ghost use Rattle.model_recipes.specs.Recipe.{inputHeads, announcedSteps, total};
+ghost use Rattle.model_recipes.specs.Run.{stepValues, laid};
 ghost use Rattle.recipes_kinds.specs.Known.{Known};
 ghost use Rattle.recipes_operands.specs.Lent.{Lent};
 ghost use Rattle.recipes_steps.specs.Ready.{valueOf};

@@ -9,11 +9,11 @@ use lib.Seq.{take-nil}
 use borrow.Author.Tests.{eq-eqb, ne-eqb}
 use Rattle.lists.specs.All.{all-drop}
 use Rattle.model.specs.declared.Refusal.{Refusal}
-use Rattle.model.specs.declared.CheckAnswer.the-variants.{Accepted, Refused}
+use Rattle.model_recipes.specs.declared.CheckAnswer.the-variants.{Accepted, Refused}
 use Rattle.model.specs.Header.{noHeader}
 use Rattle.model.specs.Word.{headerOf}
-use Rattle.model.specs.Recipe.{inputHeads, announcedSteps, total, largest}
-use Rattle.model.specs.Check.{checkRefusal, checkBy, checkAnswer}
+use Rattle.model_recipes.specs.Recipe.{inputHeads, announcedSteps, total, largest}
+use Rattle.model_recipes.specs.Check.{checkRefusal, checkBy, checkAnswer}
 use Rattle.shape_words.specs.Rules.{Regular, none-regular}
 use Rattle.recipes_kinds.specs.Known.{Known}
 use Rattle.recipes_check.specs.Inputs.{inputs-known}

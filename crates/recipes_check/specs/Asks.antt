@@ -6,7 +6,7 @@ use lib.Dec.{eqb}
 use borrow.Author.Tests.{eq-eqb, ne-eqb, eqb-true, eqb-false}
 use Rattle.lists.specs.Test.{decide}
 use Rattle.model.specs.declared.Refusal.{Refusal}
-use Rattle.model.specs.Check.{askAt, orElse}
+use Rattle.model_recipes.specs.Check.{askAt, orElse}
 
 pub or-first : {r : Refusal} (next : Refusal) → (r .number ≡ 0 → ⊥) → orElse r next ≡ r
 unfolding orElse

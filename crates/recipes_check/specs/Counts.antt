@@ -9,7 +9,7 @@ use lib.Seq.{drop-cons}
 use Rattle.model.specs.declared.Header.{Header}
 use Rattle.model.specs.Header.{stored}
 use Rattle.model.specs.Word.{headerOf}
-use Rattle.model.specs.Recipe.{total, largest}
+use Rattle.model_recipes.specs.Recipe.{total, largest}
 use Rattle.shape_words.specs.Lengths.{lengths-of, count-most}
 use Rattle.shape_words.specs.Rules.{Ruled}
 use Rattle.recipes_kinds.specs.Known.{Known, head-at}

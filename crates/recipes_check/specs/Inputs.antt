@@ -12,8 +12,8 @@ use Rattle.lists.specs.Grow.{over, length-over, over-more}
 use Rattle.model.specs.Header.{noHeader, span}
 use Rattle.model.specs.Word.{goodWord}
 use Rattle.model.specs.Refusals.{refusedAt, noRefusal}
-use Rattle.model.specs.Recipe.{inputHeads}
-use Rattle.model.specs.Check.{askAt, inputsRefusal}
+use Rattle.model_recipes.specs.Recipe.{inputHeads}
+use Rattle.model_recipes.specs.Check.{askAt, inputsRefusal}
 use Rattle.shape_words.specs.Rules.{Good, none-regular}
 use Rattle.shape_words.specs.Words.{good-word}
 use Rattle.recipes_kinds.specs.Known.{Known}

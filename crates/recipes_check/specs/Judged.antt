@@ -16,8 +16,8 @@ use Rattle.model.specs.declared.Refusal.{Refusal}
 use Rattle.model.specs.Header.{noHeader}
 use Rattle.model.specs.Word.{headerOf}
 use Rattle.model.specs.Refusals.{refusedAt}
-use Rattle.model.specs.Recipe.{announcedStep, inputHeads, announcedPlaces}
-use Rattle.model.specs.Check.{orElse, rightSizes, inputsRefusal, stepsRefusal, checkRefusal}
+use Rattle.model_recipes.specs.Recipe.{announcedStep, inputHeads, announcedPlaces}
+use Rattle.model_recipes.specs.Check.{orElse, rightSizes, inputsRefusal, stepsRefusal, checkRefusal}
 use Rattle.shape_words.specs.Rules.{Regular, none-regular}
 use Rattle.recipes_kinds.specs.Known.{Known, step-regular}
 use Rattle.recipes_check.specs.Inputs.{inputs-known}

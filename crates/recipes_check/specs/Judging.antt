@@ -14,8 +14,8 @@ use Rattle.model.specs.declared.Refusal.{Refusal}
 use Rattle.model.specs.Header.{noHeader}
 use Rattle.model.specs.Word.{headerOf, wordOf}
 use Rattle.model.specs.Refusals.{noRefusal}
-use Rattle.model.specs.Recipe.{announcedStep}
-use Rattle.model.specs.Check.{orElse, stepRefusal, stepsRefusal}
+use Rattle.model_recipes.specs.Recipe.{announcedStep}
+use Rattle.model_recipes.specs.Check.{orElse, stepRefusal, stepsRefusal}
 use Rattle.shape_words.specs.Rules.{Regular, none-regular}
 use Rattle.shape_words.specs.Words.{unpack-pack}
 use Rattle.recipes_kinds.specs.Known.{Known, step-regular}

@@ -8,14 +8,14 @@ use lib.Dec.{ltb, eqb}
 use lib.ListN.{length, length-map}
 use borrow.Author.Tests.{le-leb, lt-leb}
 use Rattle.model.specs.declared.Header.{Header}
-use Rattle.model.specs.declared.Step.{Step}
-use Rattle.model.specs.declared.Uses.{Uses}
+use Rattle.model_recipes.specs.declared.Step.{Step}
+use Rattle.model_recipes.specs.declared.Uses.{Uses}
 use Rattle.model.specs.Header.{limit, stored}
 use Rattle.model.specs.Word.{headerOf}
 use Rattle.model.specs.Refusals.{refusedAt, noRefusal}
-use Rattle.model.specs.Steps.{stepOf, usesOf}
-use Rattle.model.specs.Recipe.{headAt, announcedStep}
-use Rattle.model.specs.Check.{namedBefore, zeroUnless, formed, lowers, stepRefusal}
+use Rattle.model_recipes.specs.Steps.{stepOf, usesOf}
+use Rattle.model_recipes.specs.Recipe.{headAt, announcedStep}
+use Rattle.model_recipes.specs.Check.{namedBefore, zeroUnless, formed, lowers, stepRefusal}
 
 pub formed-is : (w p : ℕ) {s : Step} {u : Uses} {a b v n : Bool} → s ≡ stepOf w → u ≡ usesOf (s .kind) → a ≡ namedBefore p (u .a) (s .a) → b ≡ namedBefore p (u .b) (s .b)
     → v ≡ zeroUnless (u .variable) (s .variable) → n ≡ zeroUnless (u .n) (s .n) → (((((u .kind && a) && b) && v) && n) && eqb (bitAnd w 16383) 0) ≡ formed w p

@@ -6,13 +6,13 @@ use native.Mathlib.Omega.{arith}
 use lib.ListN.{length, getD, length-map, List·getD-map, List·getD-eq-default}
 use Rattle.lists.specs.All.{All}
 use Rattle.model.specs.declared.Header.{Header}
-use Rattle.model.specs.declared.Step.{Step}
+use Rattle.model_recipes.specs.declared.Step.{Step}
 use Rattle.model.specs.declared.Family.{Family}
 use Rattle.model.specs.Header.{noHeader}
 use Rattle.model.specs.Word.{headerOf}
 use Rattle.model.specs.Announced.{announced}
-use Rattle.model.specs.Steps.{stepOf}
-use Rattle.model.specs.Recipe.{familyOf, headAt, announcedStep}
+use Rattle.model_recipes.specs.Steps.{stepOf}
+use Rattle.model_recipes.specs.Recipe.{familyOf, headAt, announcedStep}
 use Rattle.shape_words.specs.Rules.{Regular}
 use Rattle.shape.specs.Announced.{announced-regular}
 

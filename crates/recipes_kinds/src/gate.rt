@@ -2,7 +2,7 @@
 use gates::stored_of;
 use model::Header;
 use model::Refusal;
-use model::Step;
+use model_recipes::Step;
 use shape::announce::announced_of;
 use shape_words::word::header_of;
 ghost use mathlib.Core.Path.{_≡_};
@@ -13,8 +13,8 @@ ghost use lib.Dec.{ltb};
 ghost use lib.ListN.{length};
 ghost use Rattle.model.specs.Header.{limit};
 ghost use Rattle.model.specs.Word.{headerOf};
-ghost use Rattle.model.specs.Recipe.{headAt, announcedStep};
-ghost use Rattle.model.specs.Check.{lowers, stepRefusal};
+ghost use Rattle.model_recipes.specs.Recipe.{headAt, announcedStep};
+ghost use Rattle.model_recipes.specs.Check.{lowers, stepRefusal};
 ghost use Rattle.recipes_kinds.specs.Known.{Known};
 
 // The header that the place p announces; past the places known no variables.

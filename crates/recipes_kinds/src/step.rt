@@ -1,12 +1,12 @@
 // Step words, unpacked by shifts and masks, and the table of kinds.
 use model::Family;
-use model::Step;
-use model::Uses;
+use model_recipes::Step;
+use model_recipes::Uses;
 ghost use mathlib.Core.Path.{_≡_};
 ghost use Prim.Native.Nat.{_<_};
-ghost use Rattle.model.specs.Steps.{stepOf, usesOf};
-ghost use Rattle.model.specs.Recipe.{familyOf};
-ghost use Rattle.model.specs.Check.{namedBefore, zeroUnless, formed};
+ghost use Rattle.model_recipes.specs.Steps.{stepOf, usesOf};
+ghost use Rattle.model_recipes.specs.Recipe.{familyOf};
+ghost use Rattle.model_recipes.specs.Check.{namedBefore, zeroUnless, formed};
 
 // What the fields of a word say, well formed or not.
 pub fn step_of(word: u64) -> Step

@@ -17,10 +17,10 @@ use Rattle.model.specs.Header.{limit, stored, noHeader}
 use Rattle.model.specs.Word.{headerOf}
 use Rattle.model.specs.Refusals.{noRefusal}
 use Rattle.model.specs.Poly.{Poly}
-use Rattle.model.specs.Steps.{stepOf}
-use Rattle.model.specs.Recipe.{familyOf, headAt, announcedStep, inputHeads, announcedPlaces, announcedSteps, total, largest}
-use Rattle.model.specs.Check.{askAt, formed, stepRefusal, checkRefusal}
-use Rattle.model.specs.Run.{inputValues, noValue, valueAt, stepValue, values, nineRefusal}
+use Rattle.model_recipes.specs.Steps.{stepOf}
+use Rattle.model_recipes.specs.Recipe.{familyOf, headAt, announcedStep, inputHeads, announcedPlaces, announcedSteps, total, largest}
+use Rattle.model_recipes.specs.Check.{askAt, formed, stepRefusal, checkRefusal}
+use Rattle.model_recipes.specs.Run.{inputValues, noValue, valueAt, stepValue, values, nineRefusal}
 use Rattle.shape.specs.Under.{announced-under, count-under}
 use Rattle.shape.specs.Keeps.{Keeps, keeps-good}
 use Rattle.recipes_check.specs.Asks.{ask-none}

@@ -11,8 +11,8 @@ use Rattle.model.specs.Header.{stored, noHeader}
 use Rattle.model.specs.Word.{wordOf, fields}
 use Rattle.model.specs.Refusals.{padded}
 use Rattle.model.specs.Poly.{Poly}
-use Rattle.model.specs.Recipe.{headAt, announcedPlaces, announcedSteps, total}
-use Rattle.model.specs.Run.{noValue, valueAt, values, stepValues, laid, runRefusal, runPool, runWords}
+use Rattle.model_recipes.specs.Recipe.{headAt, announcedPlaces, announcedSteps, total}
+use Rattle.model_recipes.specs.Run.{noValue, valueAt, values, stepValues, laid, runRefusal, runPool, runWords}
 use Rattle.shape.specs.Under.{count-under}
 use Rattle.gates.specs.Gate.{leaves-yes}
 use Rattle.recipes_laws.specs.Follows.{Follows}

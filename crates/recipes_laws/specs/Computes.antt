@@ -7,7 +7,7 @@ use lib.Dec.{ltb, leb}
 use lib.ListN.{getD}
 use borrow.Author.Tests.{leb-true, leb-false, ltb-true, ltb-false}
 use Rattle.lists.specs.Test.{decide}
-use Rattle.model.specs.declared.Step.{Step}
+use Rattle.model_recipes.specs.declared.Step.{Step}
 use Rattle.model.specs.Poly.{Poly}
 use Rattle.model.specs.Negate.{negated}
 use Rattle.model.specs.Add.{combined}
@@ -16,10 +16,10 @@ use Rattle.model.specs.Quotient.{quotientPoly}
 use Rattle.model.specs.Power.{powerPoly}
 use Rattle.model.specs.Shifts.{derivativePoly, expansionPoly, shiftDownPoly}
 use Rattle.model.specs.Substitute.{substitutePoly}
-use Rattle.model.specs.Steps.{stepOf, rows, usesOf}
-use Rattle.model.specs.Check.{formed}
-use Rattle.model.specs.Reasons.{no-kind, late-a, late-b}
-use Rattle.model.specs.Run.{operations, noValue, valueAt, stepValue}
+use Rattle.model_recipes.specs.Steps.{stepOf, rows, usesOf}
+use Rattle.model_recipes.specs.Check.{formed}
+use Rattle.model_recipes.specs.Reasons.{no-kind, late-a, late-b}
+use Rattle.model_recipes.specs.Run.{operations, noValue, valueAt, stepValue}
 use Rattle.recipes_laws.specs.Formed.{formed-right}
 use Rattle.recipes_laws.specs.Demand.{Computed}
 

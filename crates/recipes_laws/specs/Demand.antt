@@ -10,9 +10,9 @@ use lib.ListN.{length, take, drop, getD}
 use lib.Ieee.{Float}
 use Rattle.model.specs.declared.Header.{Header}
 use Rattle.model.specs.declared.Refusal.{Refusal}
-use Rattle.model.specs.declared.Step.{Step}
-use Rattle.model.specs.declared.CheckAnswer.the-variants.{Accepted}
-use Rattle.model.specs.declared.RunAnswer.the-variants.{Done, Refused}
+use Rattle.model_recipes.specs.declared.Step.{Step}
+use Rattle.model_recipes.specs.declared.CheckAnswer.the-variants.{Accepted}
+use Rattle.model_recipes.specs.declared.RunAnswer.the-variants.{Done, Refused}
 use Rattle.model.specs.Header.{len, stored, noHeader, goodHeader}
 use Rattle.model.specs.Word.{wordOf}
 use Rattle.model.specs.Refusals.{padded}
@@ -25,10 +25,10 @@ use Rattle.model.specs.Quotient.{quotientPoly}
 use Rattle.model.specs.Power.{powerPoly}
 use Rattle.model.specs.Shifts.{derivativePoly, expansionPoly, shiftDownPoly}
 use Rattle.model.specs.Substitute.{substitutePoly}
-use Rattle.model.specs.Steps.{stepOf, usesOf}
-use Rattle.model.specs.Recipe.{headAt, announcedPlaces, announcedSteps, total}
-use Rattle.model.specs.Check.{checkAnswer}
-use Rattle.model.specs.Run.{inputValues, valueAt, values, runAnswer, runPool, runWords}
+use Rattle.model_recipes.specs.Steps.{stepOf, usesOf}
+use Rattle.model_recipes.specs.Recipe.{headAt, announcedPlaces, announcedSteps, total}
+use Rattle.model_recipes.specs.Check.{checkAnswer}
+use Rattle.model_recipes.specs.Run.{inputValues, valueAt, values, runAnswer, runPool, runWords}
 
 -- the value v keeps to the announced header h
 pub record AsAnnounced (h : Header) (v : Poly) : Type 0 where

@@ -8,12 +8,12 @@ use lib.Ieee.{Float}
 use borrow.Author.Tests.{eq-eqb, ne-eqb}
 use Rattle.model.specs.declared.Header.{Header}
 use Rattle.model.specs.declared.Refusal.{Refusal}
-use Rattle.model.specs.declared.CheckAnswer.the-variants.{Accepted}
-use Rattle.model.specs.declared.RunAnswer.the-variants.{Done, Refused}
+use Rattle.model_recipes.specs.declared.CheckAnswer.the-variants.{Accepted}
+use Rattle.model_recipes.specs.declared.RunAnswer.the-variants.{Done, Refused}
 use Rattle.model.specs.Poly.{Poly}
-use Rattle.model.specs.Recipe.{inputHeads, announcedSteps, total, largest}
-use Rattle.model.specs.Check.{checkRefusal, checkAnswer}
-use Rattle.model.specs.Run.{runBy, runRefusal, runAnswer}
+use Rattle.model_recipes.specs.Recipe.{inputHeads, announcedSteps, total, largest}
+use Rattle.model_recipes.specs.Check.{checkRefusal, checkAnswer}
+use Rattle.model_recipes.specs.Run.{runBy, runRefusal, runAnswer}
 use Rattle.shape_words.specs.Rules.{Good, header-good}
 use Rattle.shape.specs.Keeps.{Keeps, keeps-good}
 use Rattle.recipes_check.specs.Asks.{by-refusal}

@@ -14,12 +14,12 @@ use Rattle.lists.specs.Chain.{chain, length-chain}
 use Rattle.lists.specs.Test.{decide}
 use Rattle.model.specs.declared.Header.{Header}
 use Rattle.model.specs.declared.Refusal.{Refusal}
-use Rattle.model.specs.declared.CheckAnswer.the-variants.{Accepted, Refused}
+use Rattle.model_recipes.specs.declared.CheckAnswer.the-variants.{Accepted, Refused}
 use Rattle.model.specs.Word.{headerOf, goodWord}
 use Rattle.model.specs.Refusals.{refusedAt}
-use Rattle.model.specs.Recipe.{announcedStep, inputHeads, announcedPlaces, announcedSteps, total, largest}
-use Rattle.model.specs.Check.{checkRefusal, checkAnswer}
-use Rattle.model.specs.Reasons.{WrongSizes, many-inputs, no-step, many-places, StepReason, Reason, sizes, input, step, turn, FirstReason}
+use Rattle.model_recipes.specs.Recipe.{announcedStep, inputHeads, announcedPlaces, announcedSteps, total, largest}
+use Rattle.model_recipes.specs.Check.{checkRefusal, checkAnswer}
+use Rattle.model_recipes.specs.Reasons.{WrongSizes, many-inputs, no-step, many-places, StepReason, Reason, sizes, input, step, turn, FirstReason}
 use Rattle.recipes_check.specs.Asks.{by-refusal}
 use Rattle.recipes_check.specs.Answered.{answer-no, answer-yes}
 use Rattle.recipes_check.specs.Judged.{Sizes}

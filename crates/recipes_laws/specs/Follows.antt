@@ -12,16 +12,16 @@ use lib.Ieee.{Float}
 use Rattle.lists.specs.All.{All, all-snoc}
 use Rattle.lists.specs.Grow.{length-snoc}
 use Rattle.model.specs.declared.Header.{Header}
-use Rattle.model.specs.declared.Step.{Step}
+use Rattle.model_recipes.specs.declared.Step.{Step}
 use Rattle.model.specs.declared.Family.the-variants.{Constant}
 use Rattle.model.specs.Header.{stored, noHeader}
 use Rattle.model.specs.Word.{headerOf}
 use Rattle.model.specs.Announced.{announced}
 use Rattle.model.specs.Poly.{Poly}
-use Rattle.model.specs.Steps.{stepOf}
-use Rattle.model.specs.Recipe.{families, familyOf, headAt, announcedStep, inputHeads, total}
-use Rattle.model.specs.Check.{inputsRefusal}
-use Rattle.model.specs.Run.{inputValues, operations, noValue, valueAt, stepValue}
+use Rattle.model_recipes.specs.Steps.{stepOf}
+use Rattle.model_recipes.specs.Recipe.{families, familyOf, headAt, announcedStep, inputHeads, total}
+use Rattle.model_recipes.specs.Check.{inputsRefusal}
+use Rattle.model_recipes.specs.Run.{inputValues, operations, noValue, valueAt, stepValue}
 use Rattle.shape_words.specs.Rules.{Regular, Good}
 use Rattle.shape_words.specs.Words.{good-word}
 use Rattle.shape.specs.Under.{Under, under-same, under-then, announced-under}

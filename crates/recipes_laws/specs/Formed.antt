@@ -8,10 +8,10 @@ use lib.ListN.{List·getD-map}
 use borrow.Author.Tests.{ltb-true, ltb-false, lt-leb, leb-false, eqb-true, eqb-false}
 use Rattle.lists.specs.Table.{table, table-at}
 use Rattle.lists.specs.Test.{and-left, and-right, decide}
-use Rattle.model.specs.declared.Uses.{Uses}
-use Rattle.model.specs.Steps.{stepOf, spareOf, rows, noKind, usesOf}
-use Rattle.model.specs.Check.{namedBefore, zeroUnless, formed}
-use Rattle.model.specs.Reasons.{WrongWord, no-kind, late-a, late-b, unused-a, unused-b, unused-variable, unused-n, spare-bits}
+use Rattle.model_recipes.specs.declared.Uses.{Uses}
+use Rattle.model_recipes.specs.Steps.{stepOf, spareOf, rows, noKind, usesOf}
+use Rattle.model_recipes.specs.Check.{namedBefore, zeroUnless, formed}
+use Rattle.model_recipes.specs.Reasons.{WrongWord, no-kind, late-a, late-b, unused-a, unused-b, unused-variable, unused-n, spare-bits}
 use Rattle.recipes_kinds.specs.Known.{small-kind}
 
 pub not-both : (b : Bool) → b ≡ true → b ≡ false → ⊥

@@ -11,8 +11,8 @@ use Rattle.model.specs.declared.Header.{Header}
 use Rattle.model.specs.Header.{stored}
 use Rattle.model.specs.Refusals.{zeroF, zeros, padded}
 use Rattle.model.specs.Poly.{Poly}
-use Rattle.model.specs.Recipe.{headAt, total}
-use Rattle.model.specs.Run.{valueAt, laid}
+use Rattle.model_recipes.specs.Recipe.{headAt, total}
+use Rattle.model_recipes.specs.Run.{valueAt, laid}
 
 pub length-padded : (n : ℕ) (xs : List Float) → length xs ≤ n → length (padded n xs) ≡ n
 length-padded n xs l = omega (arith, length-append xs (zeros (n - length xs)), length-table (λ k. zeroF) (n - length xs))

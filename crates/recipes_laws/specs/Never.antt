@@ -12,10 +12,10 @@ use Rattle.lists.specs.Test.{and-left, and-right}
 use Rattle.model.specs.declared.Header.{Header}
 use Rattle.model.specs.declared.Refusal.{Refusal}
 use Rattle.model.specs.Refusals.{ask, noRefusal}
-use Rattle.model.specs.Recipe.{inputHeads, announcedSteps, total, largest}
-use Rattle.model.specs.Check.{orElse, checkRefusal}
-use Rattle.model.specs.Reasons.{StepReason, wrong-word, no-variable, large-n, large-count}
-use Rattle.model.specs.Run.{inputValues, nineRefusal, lentRefusal, runRefusal}
+use Rattle.model_recipes.specs.Recipe.{inputHeads, announcedSteps, total, largest}
+use Rattle.model_recipes.specs.Check.{orElse, checkRefusal}
+use Rattle.model_recipes.specs.Reasons.{StepReason, wrong-word, no-variable, large-n, large-count}
+use Rattle.model_recipes.specs.Run.{inputValues, nineRefusal, lentRefusal, runRefusal}
 use Rattle.gates.specs.Gate.{passed}
 use Rattle.recipes_check.specs.Asks.{or-first, or-next, by-refusal}
 use Rattle.recipes_laws.specs.StepReasons.{step-stopped}

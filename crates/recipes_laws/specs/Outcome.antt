@@ -13,9 +13,9 @@ use Rattle.model.specs.declared.Header.{Header}
 use Rattle.model.specs.declared.Refusal.{Refusal}
 use Rattle.model.specs.Word.{goodWord}
 use Rattle.model.specs.Refusals.{refusedAt, noRefusal}
-use Rattle.model.specs.Recipe.{announcedStep, inputHeads}
-use Rattle.model.specs.Check.{orElse, rightSizes, stepRefusal, inputsRefusal, stepsRefusal, checkRefusal}
-use Rattle.model.specs.Reasons.{WrongSizes, many-inputs, no-step, many-places}
+use Rattle.model_recipes.specs.Recipe.{announcedStep, inputHeads}
+use Rattle.model_recipes.specs.Check.{orElse, rightSizes, stepRefusal, inputsRefusal, stepsRefusal, checkRefusal}
+use Rattle.model_recipes.specs.Reasons.{WrongSizes, many-inputs, no-step, many-places}
 use Rattle.recipes_check.specs.Asks.{or-first, or-next, by-refusal}
 use Rattle.recipes_check.specs.Judged.{Sizes, sizes}
 use Rattle.recipes_laws.specs.Formed.{not-both}

@@ -9,7 +9,7 @@ use lib.Dec.{ltb, leb}
 use lib.ListN.{length, getD}
 use borrow.Author.Tests.{le-leb}
 use Rattle.model.specs.declared.Header.{Header}
-use Rattle.model.specs.declared.Step.{Step}
+use Rattle.model_recipes.specs.declared.Step.{Step}
 use Rattle.model.specs.declared.Family.{Family}
 use Rattle.model.specs.declared.Family.the-variants.{Constant, Same, Sum, Product, Quotient, Power, Shift, Substitution}
 use Rattle.model.specs.Header.{limit, stored, noHeader, ones, span, zeroWith}
@@ -18,9 +18,9 @@ use Rattle.model.specs.Announced.{announced}
 use Rattle.model.specs.Refusals.{noRefusal}
 use Rattle.model.specs.Gates.{oneGate, workGate, inGate, pairGate, withGate}
 use Rattle.model.specs.Poly.{Poly}
-use Rattle.model.specs.Steps.{stepOf}
-use Rattle.model.specs.Recipe.{families, familyOf}
-use Rattle.model.specs.Run.{valueAt, gates, stepGate}
+use Rattle.model_recipes.specs.Steps.{stepOf}
+use Rattle.model_recipes.specs.Recipe.{families, familyOf}
+use Rattle.model_recipes.specs.Run.{valueAt, gates, stepGate}
 use Rattle.shape_words.specs.Rules.{Good}
 use Rattle.shape_words.specs.Words.{unpack-pack, packed-good}
 use Rattle.recipes_laws.specs.EachKind.{by-kind}

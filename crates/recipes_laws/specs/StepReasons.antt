@@ -12,10 +12,10 @@ use Rattle.model.specs.declared.Header.{Header}
 use Rattle.model.specs.declared.Refusal.{Refusal}
 use Rattle.model.specs.Header.{limit, stored}
 use Rattle.model.specs.Refusals.{refusedAt, noRefusal}
-use Rattle.model.specs.Steps.{stepOf}
-use Rattle.model.specs.Recipe.{headAt, announcedStep}
-use Rattle.model.specs.Check.{askAt, formed, lowers, stepRefusal}
-use Rattle.model.specs.Reasons.{WrongWord, Shifts, StepReason, wrong-word, no-variable, large-n, large-count}
+use Rattle.model_recipes.specs.Steps.{stepOf}
+use Rattle.model_recipes.specs.Recipe.{headAt, announcedStep}
+use Rattle.model_recipes.specs.Check.{askAt, formed, lowers, stepRefusal}
+use Rattle.model_recipes.specs.Reasons.{WrongWord, Shifts, StepReason, wrong-word, no-variable, large-n, large-count}
 use Rattle.recipes_laws.specs.Formed.{not-both, formed-right, formed-wrong}
 
 -- a test of the shifts alone

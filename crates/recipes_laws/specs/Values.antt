@@ -10,10 +10,10 @@ use lib.Ieee.{Float}
 use Rattle.lists.specs.Chain.{chain, chain-keeps, chain-take}
 use Rattle.model.specs.Word.{headerOf}
 use Rattle.model.specs.Poly.{Poly}
-use Rattle.model.specs.Steps.{stepOf}
-use Rattle.model.specs.Recipe.{inputHeads, announcedPlaces, announcedSteps, total, largest}
-use Rattle.model.specs.Check.{checkRefusal}
-use Rattle.model.specs.Run.{inputValues, noValue, valueAt, stepValue, values}
+use Rattle.model_recipes.specs.Steps.{stepOf}
+use Rattle.model_recipes.specs.Recipe.{inputHeads, announcedPlaces, announcedSteps, total, largest}
+use Rattle.model_recipes.specs.Check.{checkRefusal}
+use Rattle.model_recipes.specs.Run.{inputValues, noValue, valueAt, stepValue, values}
 use Rattle.recipes_laws.specs.Exact.{length-known}
 use Rattle.recipes_laws.specs.Follows.{Follows, length-inputs}
 use Rattle.recipes_laws.specs.Ahead.{ahead-at, clear-at, value-at}

@@ -12,7 +12,7 @@ use borrow.Author.Tests.{eqb-true, eqb-false, ne-eqb, leb-true, leb-false, not-t
 use Rattle.lists.specs.Test.{decide, and-left, and-right}
 use Rattle.lists.specs.Part.{Kept, kept-set}
 use Rattle.model.specs.declared.Header.{Header}
-use Rattle.model.specs.declared.Step.{Step}
+use Rattle.model_recipes.specs.declared.Step.{Step}
 use Rattle.model.specs.declared.Family.{Family}
 use Rattle.model.specs.declared.Family.the-variants.{Constant, Same, Sum, Product, Quotient, Power, Shift, Substitution}
 use Rattle.model.specs.Header.{limit, stored, noHeader}
@@ -23,8 +23,8 @@ use Rattle.model.specs.Poly.{Poly, poly}
 use Rattle.model.specs.Power.{powerPoly}
 use Rattle.model.specs.Shifts.{derivativePoly, expansionPoly, shiftDownPoly}
 use Rattle.model.specs.Substitute.{substitutePoly}
-use Rattle.model.specs.Recipe.{families, familyOf}
-use Rattle.model.specs.Run.{operations, noValue}
+use Rattle.model_recipes.specs.Recipe.{families, familyOf}
+use Rattle.model_recipes.specs.Run.{operations, noValue}
 use Rattle.shape_words.specs.Rules.{Ruled, Good}
 use Rattle.shape.specs.Keeps.{Keeps}
 use Rattle.shape.specs.Under.{count-under}

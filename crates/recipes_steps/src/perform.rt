@@ -1,7 +1,7 @@
 // One step, of any kind.
 use gates::stored_of;
 use model::Header;
-use model::Step;
+use model_recipes::Step;
 use recipes_kinds::step::family_of;
 use shape::announce::announced_of;
 use shape_words::word::header_of;

@@ -2,9 +2,9 @@
 use crate::alike::alike_floats;
 use crate::alike::alike_words;
 use libc::STDOUT_FILENO;
-use model::CheckAnswer;
 use model::Refusal;
-use model::RunAnswer;
+use model_recipes::CheckAnswer;
+use model_recipes::RunAnswer;
 
 fn show_number(n: u64) {
     io::write_all(STDOUT_FILENO, b" ");

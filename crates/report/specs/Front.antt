@@ -14,11 +14,11 @@ use Rattle.lists.specs.Test.{decide, of-both}
 use Rattle.model.specs.declared.Refusal.{Refusal}
 use Rattle.model.specs.Word.{goodWord}
 use Rattle.model.specs.Refusals.{noRefusal, isNone}
-use Rattle.model.specs.Check.{askAt, orElse}
-use Rattle.model.specs.Printed.{decimal, newline, refusedText}
-use Rattle.model.specs.Sentence.{refusalReport}
-use Rattle.model.specs.Sheet.{lined, wordOn, inputCount, restCount, headersRefusal, readRefusal}
-use Rattle.model.specs.Told.{toldText}
+use Rattle.model_recipes.specs.Check.{askAt, orElse}
+use Rattle.model_texts.specs.Printed.{decimal, newline, refusedText}
+use Rattle.model_texts.specs.Sentence.{refusalReport}
+use Rattle.model_texts.specs.Sheet.{lined, wordOn, inputCount, restCount, headersRefusal, readRefusal}
+use Rattle.model_texts.specs.Told.{toldText}
 use Rattle.recipes_check.specs.Asks.{or-none, ask-none}
 use Rattle.sheet_text.specs.Value.{numberAt, behindNumber, decimal-number, decimal-behind}
 use Rattle.sheet_reading.specs.Reading.{sizesTest, restRefusal, after-sizes, count-small}

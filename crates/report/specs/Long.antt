@@ -18,14 +18,14 @@ use Rattle.model.specs.declared.Refusal.{Refusal}
 use Rattle.model.specs.Header.{stored}
 use Rattle.model.specs.Word.{headerOf, wordOf}
 use Rattle.model.specs.Refusals.{isNone}
-use Rattle.model.specs.Check.{checkRefusal}
-use Rattle.model.specs.Recipe.{inputHeads, headAt, announcedPlaces, announcedSteps, total, largest}
-use Rattle.model.specs.Run.{noValue, valueAt, values, stepValues}
-use Rattle.model.specs.Printed.{refusedWord, space, refusedText}
-use Rattle.model.specs.Report.{tell, when}
-use Rattle.model.specs.Sentence.{placeMeanings, sheetMeanings, meaning, refusalReport}
-use Rattle.model.specs.Sheet.{inputCount, stepCount, sheetHeaders, sheetCoefficients, sheetSteps, wordOn, coefficientCount, ownRefusal, recipeRefusal, readRefusal, sheetRefusal, lastValue}
-use Rattle.model.specs.Told.{limitsFirst, toldText}
+use Rattle.model_recipes.specs.Check.{checkRefusal}
+use Rattle.model_recipes.specs.Recipe.{inputHeads, headAt, announcedPlaces, announcedSteps, total, largest}
+use Rattle.model_recipes.specs.Run.{noValue, valueAt, values, stepValues}
+use Rattle.model_texts.specs.Printed.{refusedWord, space, refusedText}
+use Rattle.model_texts.specs.Report.{tell, when}
+use Rattle.model_texts.specs.Sentence.{placeMeanings, sheetMeanings, meaning, refusalReport}
+use Rattle.model_texts.specs.Sheet.{inputCount, stepCount, sheetHeaders, sheetCoefficients, sheetSteps, wordOn, coefficientCount, ownRefusal, recipeRefusal, readRefusal, sheetRefusal, lastValue}
+use Rattle.model_texts.specs.Told.{limitsFirst, toldText}
 use Rattle.shape_words.specs.Words.{unpack-pack}
 use Rattle.shape.specs.Under.{count-under}
 use Rattle.shape.specs.Keeps.{Keeps}

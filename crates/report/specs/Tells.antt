@@ -9,15 +9,15 @@ use borrow.Author.Tests.{eq-eqb, ne-eqb}
 use Rattle.lists.specs.Bytes.{bytes}
 use Rattle.model.specs.declared.Refusal.{Refusal}
 use Rattle.model.specs.Word.{headerOf, wordOf}
-use Rattle.model.specs.Recipe.{announcedPlaces}
-use Rattle.model.specs.Report.{placeText, limitsText}
-use Rattle.model.specs.Sentence.{placeMeanings, sheetMeanings, refusalReport}
-use Rattle.model.specs.Sheet.{inputCount, stepCount, sheetHeaders, sheetSteps, sheetRefusal, lastValue}
+use Rattle.model_recipes.specs.Recipe.{announcedPlaces}
+use Rattle.model_texts.specs.Report.{placeText, limitsText}
+use Rattle.model_texts.specs.Sentence.{placeMeanings, sheetMeanings, refusalReport}
+use Rattle.model_texts.specs.Sheet.{inputCount, stepCount, sheetHeaders, sheetSteps, sheetRefusal, lastValue}
 use Rattle.sheet.specs.declared.Solved.{Solved}
 use Rattle.sheet.specs.Solves.{Solution}
-use Rattle.model.specs.Figures.{figuresText}
+use Rattle.model_texts.specs.Figures.{figuresText}
 use Rattle.report_lines.specs.Before.{Within, place-told, within-before}
-use Rattle.model.specs.Told.{limitsFirst, toldText}
+use Rattle.model_texts.specs.Told.{limitsFirst, toldText}
 
 module _ (t : List ℕ) where
   pub told-refused : {q : Refusal} → sheetRefusal t ≡ q → (q .number ≡ 0 → ⊥) → toldText t ≡ refusalReport q

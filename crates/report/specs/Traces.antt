@@ -9,14 +9,14 @@ use lib.ListN.{length, getD, take}
 use borrow.Author.Tests.{ltb-true, ltb-false, eq-eqb}
 use Rattle.lists.specs.Test.{decide}
 use Rattle.model.specs.declared.Header.{Header}
-use Rattle.model.specs.declared.CheckAnswer.the-variants.{Accepted}
+use Rattle.model_recipes.specs.declared.CheckAnswer.the-variants.{Accepted}
 use Rattle.model.specs.Header.{limit}
-use Rattle.model.specs.Steps.{stepOf}
-use Rattle.model.specs.Recipe.{headAt, inputHeads, announcedPlaces, announcedSteps, total, largest}
-use Rattle.model.specs.Check.{checkRefusal, checkBy, checkAnswer}
-use Rattle.model.specs.Reasons.{Shifts, StepReason, late-a, late-b, wrong-word, large-n, step}
-use Rattle.model.specs.Sheet.{inputCount, stepCount, sheetHeaders, sheetSteps, recipeRefusal, readRefusal, sheetRefusal}
-use Rattle.model.specs.Trace.{stepWord, limitAt, decider, furthest}
+use Rattle.model_recipes.specs.Steps.{stepOf}
+use Rattle.model_recipes.specs.Recipe.{headAt, inputHeads, announcedPlaces, announcedSteps, total, largest}
+use Rattle.model_recipes.specs.Check.{checkRefusal, checkBy, checkAnswer}
+use Rattle.model_recipes.specs.Reasons.{Shifts, StepReason, late-a, late-b, wrong-word, large-n, step}
+use Rattle.model_texts.specs.Sheet.{inputCount, stepCount, sheetHeaders, sheetSteps, recipeRefusal, readRefusal, sheetRefusal}
+use Rattle.model_texts.specs.Trace.{stepWord, limitAt, decider, furthest}
 use Rattle.shape_words.specs.Rules.{ruled-at}
 use Rattle.recipes_kinds.specs.Known.{small-variable}
 use Rattle.recipes_check.specs.Asks.{or-none}

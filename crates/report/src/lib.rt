@@ -7,7 +7,7 @@ use report_lines::put_limits;
 use sheet::solve;
 ghost use lib.ListN.{length};
 ghost use mathlib.Core.Path.{_≡_};
-ghost use Rattle.model.specs.Told.{toldText};
+ghost use Rattle.model_texts.specs.Told.{toldText};
 ghost use Rattle.report_lines.specs.Puts.{Printed};
 
 // Memory for a pool.

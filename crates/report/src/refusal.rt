@@ -6,9 +6,9 @@ use sheet::print::put_refusal;
 ghost use mathlib.Core.List.{_++_};
 ghost use lib.ListN.{getD};
 ghost use Rattle.lists.specs.Bytes.{bytes};
-ghost use Rattle.model.specs.Printed.{refusedText};
-ghost use Rattle.model.specs.Report.{when, tell};
-ghost use Rattle.model.specs.Sentence.{placeMeanings, sheetMeanings, meaning, refusalReport};
+ghost use Rattle.model_texts.specs.Printed.{refusedText};
+ghost use Rattle.model_texts.specs.Report.{when, tell};
+ghost use Rattle.model_texts.specs.Sentence.{placeMeanings, sheetMeanings, meaning, refusalReport};
 ghost use Rattle.report_lines.specs.Puts.{Puts};
 
 // The line that `recipe` prints.

@@ -13,7 +13,7 @@ use Rattle.lists.specs.Table.{table}
 use Rattle.lists.specs.Test.{decide}
 use Rattle.sheet_text.specs.Put.{Put, put-front}
 use Rattle.report_lines.specs.Puts.{Printed, Puts, puts-none, puts-then}
-use Rattle.model.specs.Figures.{blanks, filled}
+use Rattle.model_texts.specs.Figures.{blanks, filled}
 
 -- a text that begins at `from` and ends at `next` is filled with spaces up to n columns
 abbrev pub Fills : ℕ → ℕ → ℕ → List ℕ → List ℕ → ℕ → Type 0

@@ -13,13 +13,13 @@ use borrow.Author.Tests.{leb-true, eq-eqb, ne-eqb, not-false}
 use Rattle.lists.specs.Bytes.{bytes}
 use Rattle.lists.specs.Table.{table}
 use Rattle.lists.specs.Test.{and-left, and-right}
-use Rattle.model.specs.Hex.{digitFor}
-use Rattle.model.specs.Printed.{digits, decimal}
+use Rattle.model_texts.specs.Hex.{digitFor}
+use Rattle.model_texts.specs.Printed.{digits, decimal}
 use Rattle.model.specs.Word.{headerOf}
 use Rattle.shape_words.specs.Lengths.{Lengths}
 use Rattle.report_lines.specs.Puts.{Puts}
 use Rattle.report_figures.specs.Fill.{puts-is}
-use Rattle.model.specs.Number.{exponentOf, digitsOf, behindPoint, isZero, isTop, isScaled, isWholeWord, sizeOf, signedText, hexText, wordText, numberText}
+use Rattle.model_texts.specs.Number.{exponentOf, digitsOf, behindPoint, isZero, isTop, isScaled, isWholeWord, sizeOf, signedText, hexText, wordText, numberText}
 
 module _ (w : ℕ) where
   pub text-zero : isZero w ≡ true → wordText w ≡ signedText w 0

@@ -11,13 +11,13 @@ use Rattle.lists.specs.Four.{at, each}
 use Rattle.lists.specs.Test.{decide}
 use Rattle.model.specs.declared.Header.{Header}
 use Rattle.model.specs.Header.{len, stored}
-use Rattle.model.specs.Hex.{digitFor, hexDigit}
+use Rattle.model_texts.specs.Hex.{digitFor, hexDigit}
 use Rattle.model.specs.Places.{index}
-use Rattle.model.specs.Printed.{decimal}
+use Rattle.model_texts.specs.Printed.{decimal}
 use Rattle.model.specs.Readings.{sumTo}
 use Rattle.model.specs.Tail.{tailOf}
-use Rattle.model.specs.Number.{isWholeWord, sizeOf, signedText, hexText, wordText, numberText}
-use Rattle.model.specs.Figures.{filled, partText, indexText, headingText, sumLine, plainLine, figureText, figuresText}
+use Rattle.model_texts.specs.Number.{isWholeWord, sizeOf, signedText, hexText, wordText, numberText}
+use Rattle.model_texts.specs.Figures.{filled, partText, indexText, headingText, sumLine, plainLine, figureText, figuresText}
 use Rattle.shape_words.specs.Lengths.{Lengths, Inside}
 use Rattle.shape_words.specs.Places.{index-inside}
 use Rattle.report_lines.specs.Columns.{inColumns, columnAfter, Piece, piece, piece-up, piece-then, piece-either, piece-if, piece-joined, piece-table, small-piece, two-digits, newline-rest, rest-up, rest-then, rest-either, Rest, Lines, lines, written, lines-up, lines-then, lines-either, lines-joined}

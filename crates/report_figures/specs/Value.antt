@@ -13,9 +13,9 @@ use lib.Ieee.Exact.{HasValue, odd-sign}
 use borrow.Author.Tests.{leb-true, eqb-true, ne-eqb}
 use Rattle.lists.specs.Bytes.{bytes}
 use Rattle.lists.specs.Test.{decide, and-left, and-right, or-right}
-use Rattle.model.specs.Printed.{decimal}
-use Rattle.model.specs.Report.{when}
-use Rattle.model.specs.Number.{exponentOf, digitsOf, behindPoint, isZero, isTop, isScaled, isWholeWord, sizeOf, signedText, wordText, numberText}
+use Rattle.model_texts.specs.Printed.{decimal}
+use Rattle.model_texts.specs.Report.{when}
+use Rattle.model_texts.specs.Number.{exponentOf, digitsOf, behindPoint, isZero, isTop, isScaled, isWholeWord, sizeOf, signedText, wordText, numberText}
 use Rattle.sheet_text.specs.Value.{numberAt, decimal-value}
 
 -- a / c is n

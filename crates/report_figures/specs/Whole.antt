@@ -15,9 +15,9 @@ use lib.Ieee.Exact.{HasValue}
 use borrow.Author.Tests.{le-leb, lt-leb, ltb-true, ltb-false, eq-eqb, ne-eqb, eqb-true, eqb-false}
 use Rattle.lists.specs.Bytes.{bytes}
 use Rattle.lists.specs.Test.{decide, of-both}
-use Rattle.model.specs.Printed.{decimal}
-use Rattle.model.specs.Report.{when}
-use Rattle.model.specs.Number.{exponentOf, digitsOf, behindPoint, isZero, isTop, isScaled, isWholeWord, sizeOf, signedText, wordText, numberText}
+use Rattle.model_texts.specs.Printed.{decimal}
+use Rattle.model_texts.specs.Report.{when}
+use Rattle.model_texts.specs.Number.{exponentOf, digitsOf, behindPoint, isZero, isTop, isScaled, isWholeWord, sizeOf, signedText, wordText, numberText}
 use Rattle.report_figures.specs.Value.{word-value}
 
 -- a word that is printed in decimal, with the sign s and the size n

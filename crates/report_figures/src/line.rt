@@ -13,11 +13,11 @@ ghost use Prim.Native.Nat.{_<_};
 ghost use lib.ListN.{length};
 ghost use Rattle.model.specs.Header.{stored};
 ghost use Rattle.model.specs.Word.{headerOf};
-ghost use Rattle.model.specs.Report.{joined};
+ghost use Rattle.model_texts.specs.Report.{joined};
 ghost use Rattle.shape_words.specs.Lengths.{Lengths};
 ghost use Rattle.report_lines.specs.Puts.{Puts};
-ghost use Rattle.model.specs.Number.{numberText};
-ghost use Rattle.model.specs.Figures.{blanks, filled, partText, indexText, headingText, sumLine, plainLine, figureText, figuresText};
+ghost use Rattle.model_texts.specs.Number.{numberText};
+ghost use Rattle.model_texts.specs.Figures.{blanks, filled, partText, indexText, headingText, sumLine, plainLine, figureText, figuresText};
 ghost use Rattle.report_figures.specs.Fill.{Fills};
 
 // n spaces.

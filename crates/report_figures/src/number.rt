@@ -5,7 +5,7 @@ use report_lines::put::put_number;
 use sheet_bits::word_of;
 use sheet_text::print::put_word;
 ghost use Rattle.report_lines.specs.Puts.{Puts};
-ghost use Rattle.model.specs.Number.{signedText, hexText, wordText, numberText};
+ghost use Rattle.model_texts.specs.Number.{signedText, hexText, wordText, numberText};
 
 // The sign that a word has, and a size.
 fn put_whole(word: u64, size: u64, at: usize, to: &mut [u8]) -> usize

@@ -8,7 +8,7 @@ use borrow.Author.Tests.{eqb-true, eqb-false}
 use Rattle.lists.specs.Bytes.{bytes}
 use Rattle.lists.specs.Test.{decide}
 use Rattle.model.specs.declared.Header.{Header}
-use Rattle.model.specs.Report.{joined, placeText, cutsText, endText, verdictText, limitsText}
+use Rattle.model_texts.specs.Report.{joined, placeText, cutsText, endText, verdictText, limitsText}
 
 -- a text stands in another
 pub record Within (part whole : List ℕ) : Type 0 where

@@ -12,8 +12,8 @@ use borrow.Author.Tests.{leb-true, le-leb, ne-eqb}
 use Rattle.lists.specs.Bytes.{bytes}
 use Rattle.lists.specs.Table.{table}
 use Rattle.lists.specs.Test.{decide, of-both, and-left, and-right}
-use Rattle.model.specs.Printed.{lastDigit, digits, decimal}
-use Rattle.model.specs.Report.{tell, when, joined}
+use Rattle.model_texts.specs.Printed.{lastDigit, digits, decimal}
+use Rattle.model_texts.specs.Report.{tell, when, joined}
 use Rattle.sheet_text.specs.Decimal.{decimal-most}
 
 -- the column behind a byte that stands at the column c: a newline goes back to 0

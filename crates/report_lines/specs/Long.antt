@@ -12,12 +12,12 @@ use Rattle.lists.specs.Bytes.{bytes}
 use Rattle.lists.specs.Every.{every}
 use Rattle.lists.specs.Test.{decide, and-left, and-right, or-right}
 use Rattle.model.specs.declared.Header.{Header}
-use Rattle.model.specs.declared.Uses.{Uses}
+use Rattle.model_recipes.specs.declared.Uses.{Uses}
 use Rattle.model.specs.Header.{limit, len}
-use Rattle.model.specs.Steps.{stepOf, rows, usesOf}
-use Rattle.model.specs.Printed.{decimal}
-use Rattle.model.specs.Trace.{usesIn, stepWord, has, limitAt, isCut, cutOperand, decider, furthest, isWhole}
-use Rattle.model.specs.Report.{pairText, shapeText, kindNames, kindText, fieldsText, stepText, whatText, placeKindText, cutFromText, cutToText, endsAtText, placeText, cutLine, cutText, cutsText, furtherText, endLine, endText, verdictText, limitsText}
+use Rattle.model_recipes.specs.Steps.{stepOf, rows, usesOf}
+use Rattle.model_texts.specs.Printed.{decimal}
+use Rattle.model_texts.specs.Trace.{usesIn, stepWord, has, limitAt, isCut, cutOperand, decider, furthest, isWhole}
+use Rattle.model_texts.specs.Report.{pairText, shapeText, kindNames, kindText, fieldsText, stepText, whatText, placeKindText, cutFromText, cutToText, endsAtText, placeText, cutLine, cutText, cutsText, furtherText, endLine, endText, verdictText, limitsText}
 use Rattle.shape_words.specs.Rules.{Regular, ruled-at}
 use Rattle.recipes_kinds.specs.Known.{Known, small-kind, small-variable}
 use Rattle.report_trace.specs.Ends.{Ordered}

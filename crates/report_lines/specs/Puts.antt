@@ -12,7 +12,7 @@ use borrow.Author.Tests.{leb-true, leb-false}
 use Rattle.lists.specs.Grow.{over, length-over, take-over, over-over}
 use Rattle.lists.specs.Test.{decide}
 use Rattle.sheet_text.specs.Put.{Put, put-front}
-use Rattle.model.specs.Report.{joined}
+use Rattle.model_texts.specs.Report.{joined}
 
 -- t was printed from the front on, over what stood there before; n is the place behind it
 pub record Printed (t old new : List ℕ) (n : ℕ) : Type 0 where

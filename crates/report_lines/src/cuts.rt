@@ -14,7 +14,7 @@ use report_trace::far::is_whole;
 ghost use mathlib.Core.List.{map};
 ghost use Prim.Native.Nat.{_<_};
 ghost use Rattle.model.specs.Word.{headerOf};
-ghost use Rattle.model.specs.Report.{joined, placeKindText, cutFromText, cutToText, endsAtText, cutLine, cutText, cutsText, furtherText, endLine, endText, verdictText};
+ghost use Rattle.model_texts.specs.Report.{joined, placeKindText, cutFromText, cutToText, endsAtText, cutLine, cutText, cutsText, furtherText, endLine, endText, verdictText};
 ghost use Rattle.report_lines.specs.Puts.{Puts};
 
 // A place, and whether it is an input or a step.

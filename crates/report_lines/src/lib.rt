@@ -11,7 +11,7 @@ use put::put;
 ghost use mathlib.Core.List.{map};
 ghost use Prim.Native.Nat.{_≤_};
 ghost use Rattle.model.specs.Word.{headerOf};
-ghost use Rattle.model.specs.Report.{limitsText};
+ghost use Rattle.model_texts.specs.Report.{limitsText};
 ghost use Rattle.report_lines.specs.Puts.{Puts};
 
 // All that is said of the limits of n places, of which the last is the answer.

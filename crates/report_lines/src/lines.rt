@@ -11,7 +11,7 @@ use report_trace::decide::step_word;
 ghost use mathlib.Core.List.{map};
 ghost use Prim.Native.Nat.{_<_};
 ghost use Rattle.model.specs.Word.{headerOf};
-ghost use Rattle.model.specs.Report.{joined, pairText, shapeText, kindText, fieldsText, stepText, whatText, placeText};
+ghost use Rattle.model_texts.specs.Report.{joined, pairText, shapeText, kindText, fieldsText, stepText, whatText, placeText};
 ghost use Rattle.report_lines.specs.Puts.{Puts};
 
 // The limit and the stored length of the variable v, if there is one.

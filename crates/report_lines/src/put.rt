@@ -4,8 +4,8 @@ use sheet_text::print::put_bytes;
 use sheet_text::print::put_decimal;
 ghost use mathlib.Core.Bool.{cond};
 ghost use mathlib.Core.List.{[], _++_};
-ghost use Rattle.model.specs.Printed.{decimal};
-ghost use Rattle.model.specs.Report.{when};
+ghost use Rattle.model_texts.specs.Printed.{decimal};
+ghost use Rattle.model_texts.specs.Report.{when};
 ghost use Rattle.report_lines.specs.Puts.{Puts};
 
 pub fn put(bytes: &[u8], at: usize, to: &mut [u8]) -> usize

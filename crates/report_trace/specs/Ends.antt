@@ -9,8 +9,8 @@ use borrow.Author.Tests.{ltb-true, ltb-false, eq-eqb}
 use Rattle.lists.specs.Test.{decide, and-left}
 use Rattle.lists.specs.Walk.{walk}
 use Rattle.model.specs.declared.Header.{Header}
-use Rattle.model.specs.Steps.{stepOf}
-use Rattle.model.specs.Trace.{usesIn, stepWord, has, limitAt, equals, follow, decider}
+use Rattle.model_recipes.specs.Steps.{stepOf}
+use Rattle.model_texts.specs.Trace.{usesIn, stepWord, has, limitAt, equals, follow, decider}
 use Rattle.report_trace.specs.Laws.{Operand, first, second}
 
 -- of the first n places: each operand of a step stands before it

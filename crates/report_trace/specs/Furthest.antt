@@ -10,8 +10,8 @@ use borrow.Author.Tests.{leb-true, leb-false, lt-ltb, le-ltb, ltb-true, ltb-fals
 use Rattle.lists.specs.Grow.{grow, grow-at}
 use Rattle.lists.specs.Test.{decide, and-left, and-right}
 use Rattle.model.specs.declared.Header.{Header}
-use Rattle.model.specs.Steps.{stepOf}
-use Rattle.model.specs.Trace.{usesIn, stepWord, has, limitAt, farther, furthestNext, furthests, furthest}
+use Rattle.model_recipes.specs.Steps.{stepOf}
+use Rattle.model_texts.specs.Trace.{usesIn, stepWord, has, limitAt, farther, furthestNext, furthests, furthest}
 use Rattle.report_trace.specs.Traced.{many}
 use Rattle.report_trace.specs.Laws.{Operand, first, second}
 use Rattle.report_trace.specs.Ends.{Ordered}

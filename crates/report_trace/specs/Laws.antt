@@ -9,8 +9,8 @@ use borrow.Author.Tests.{ltb-true, lt-ltb, eqb-true}
 use Rattle.lists.specs.Test.{decide, and-left, and-right}
 use Rattle.lists.specs.Walk.{walk}
 use Rattle.model.specs.declared.Header.{Header}
-use Rattle.model.specs.Steps.{stepOf}
-use Rattle.model.specs.Trace.{usesIn, stepWord, has, limitAt, cutFrom, isCut, cutOperand, equals, follow, decider}
+use Rattle.model_recipes.specs.Steps.{stepOf}
+use Rattle.model_texts.specs.Trace.{usesIn, stepWord, has, limitAt, cutFrom, isCut, cutOperand, equals, follow, decider}
 
 -- x is an operand of the step w: one that its kind uses
 pub data Operand (w x : ℕ) : Type 0 where

@@ -6,8 +6,8 @@ use lib.Dec.{ltb}
 use Rattle.lists.specs.Test.{of-both}
 use Rattle.lists.specs.Walk.{walk}
 use Rattle.model.specs.declared.Header.{Header}
-use Rattle.model.specs.Steps.{stepOf}
-use Rattle.model.specs.Trace.{usesIn, stepWord, cutFrom, cutOperand, equals, follow, decider}
+use Rattle.model_recipes.specs.Steps.{stepOf}
+use Rattle.model_texts.specs.Trace.{usesIn, stepWord, cutFrom, cutOperand, equals, follow, decider}
 
 pub a-small : (w : ℕ) → stepOf w .a < 64
 unfolding stepOf

@@ -11,10 +11,10 @@ use lib.Seq.{length-take-le}
 use Rattle.lists.specs.Grow.{grow, over, grow-none, grow-more, length-grow, length-over, take-over, over-more}
 use Rattle.lists.specs.Walk.{walk, walk-more}
 use Rattle.model.specs.declared.Header.{Header}
-use Rattle.model.specs.declared.Step.{Step}
-use Rattle.model.specs.declared.Uses.{Uses}
-use Rattle.model.specs.Steps.{stepOf}
-use Rattle.model.specs.Trace.{usesIn, stepWord, has, equals, farther, follow, decider, furthestNext, furthests, furthest, goesOn}
+use Rattle.model_recipes.specs.declared.Step.{Step}
+use Rattle.model_recipes.specs.declared.Uses.{Uses}
+use Rattle.model_recipes.specs.Steps.{stepOf}
+use Rattle.model_texts.specs.Trace.{usesIn, stepWord, has, equals, farther, follow, decider, furthestNext, furthests, furthest, goesOn}
 
 pub past : (xs : List ℕ) (p : ℕ) → length xs ≤ p → 0 ≡ getD xs p 0
 past xs p h = sym (List·getD-eq-default xs 0 {n = p} h)

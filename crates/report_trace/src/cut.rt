@@ -1,5 +1,5 @@
 // Where a step's limit is below that of an operand.
-use model::Uses;
+use model_recipes::Uses;
 use recipes_kinds::gate::head_at;
 use recipes_kinds::step::step_of;
 use recipes_kinds::step::uses_of;
@@ -8,7 +8,7 @@ ghost use mathlib.Core.Bool.{cond};
 ghost use mathlib.Core.List.{map};
 ghost use Prim.Native.Nat.{_<_};
 ghost use Rattle.model.specs.Word.{headerOf};
-ghost use Rattle.model.specs.Trace.{usesIn, has, limitAt, cutFrom, isCut, cutOperand};
+ghost use Rattle.model_texts.specs.Trace.{usesIn, has, limitAt, cutFrom, isCut, cutOperand};
 
 // x where the test passed, else y.
 pub fn pick(test: bool, x: usize, y: usize) -> usize

@@ -8,7 +8,7 @@ ghost use mathlib.Core.Path.{_≡_};
 ghost use mathlib.Core.List.{map};
 ghost use Prim.Native.Nat.{_-_, _<_};
 ghost use Rattle.model.specs.Word.{headerOf};
-ghost use Rattle.model.specs.Trace.{equals, stepWord, follow, decider};
+ghost use Rattle.model_texts.specs.Trace.{equals, stepWord, follow, decider};
 
 // How far behind the inputs a place stands, 0 for an input.
 fn behind(inputs: usize, p: usize) -> usize

@@ -10,7 +10,7 @@ ghost use mathlib.Core.List.{map};
 ghost use Prim.Native.Nat.{_<_};
 ghost use lib.ListN.{getD};
 ghost use Rattle.model.specs.Word.{headerOf};
-ghost use Rattle.model.specs.Trace.{farther, furthestNext, furthest, goesOn, isWhole};
+ghost use Rattle.model_texts.specs.Trace.{farther, furthestNext, furthest, goesOn, isWhole};
 
 // Of two places the one that goes further, the first only where it counts.
 fn farther(known: &[u64], v: usize, counts: bool, x: usize, y: usize) -> usize

@@ -13,11 +13,11 @@ use Rattle.lists.specs.Test.{decide}
 use Rattle.model.specs.declared.Refusal.{Refusal}
 use Rattle.model.specs.Word.{headerOf, wordOf}
 use Rattle.model.specs.Refusals.{zeros}
-use Rattle.model.specs.Recipe.{announcedSteps, total, largest}
-use Rattle.model.specs.Check.{orElse, checkRefusal}
-use Rattle.model.specs.Run.{runRefusal}
-use Rattle.model.specs.Printed.{doneText, refusedText}
-use Rattle.model.specs.Sheet.{wordOn, inputCount, stepCount, sheetHeaders, coefficientCount, sheetCoefficients, sheetSteps, ownRefusal, recipeRefusal, readRefusal, sheetRefusal, lastValue, sheetOutput}
+use Rattle.model_recipes.specs.Recipe.{announcedSteps, total, largest}
+use Rattle.model_recipes.specs.Check.{orElse, checkRefusal}
+use Rattle.model_recipes.specs.Run.{runRefusal}
+use Rattle.model_texts.specs.Printed.{doneText, refusedText}
+use Rattle.model_texts.specs.Sheet.{wordOn, inputCount, stepCount, sheetHeaders, coefficientCount, sheetCoefficients, sheetSteps, ownRefusal, recipeRefusal, readRefusal, sheetRefusal, lastValue, sheetOutput}
 use Rattle.recipes_kinds.specs.Known.{Known}
 use Rattle.recipes_check.specs.Asks.{or-first, or-next}
 use Rattle.sheet_reading.specs.Headers.{good-known}

@@ -13,13 +13,13 @@ use Rattle.model.specs.Places.{strides, offset, index, inside}
 use Rattle.model.specs.Announced.{single, paired, announced}
 use Rattle.model.specs.Gates.{inGate}
 use Rattle.model.specs.Shifts.{rowsFrom, rowSum, shiftDownPoly}
-use Rattle.model.specs.Steps.{stepOf, rows}
-use Rattle.model.specs.Recipe.{families, announcedStep, announcedPlaces, announcedSteps, total, largest}
-use Rattle.model.specs.Check.{orElse, rightSizes, formed, stepRefusal, inputsRefusal, stepsRefusal, checkRefusal}
-use Rattle.model.specs.Run.{inputValues, operations, stepValue, values, stepValues, gates, stepGate, nineRefusal, lentRefusal, runRefusal}
-use Rattle.model.specs.Hex.{isDigit, digitOf, digitFor, isLine, wordAt, hexLine, hexLines}
-use Rattle.model.specs.Printed.{digits, decimal, doneText, refusedText}
-use Rattle.model.specs.Sheet.{ownRefusal, recipeRefusal, inputCount, stepCount, spare, sheetHeaders, coefficientCount, sheetCoefficients, sheetSteps, headersRefusal, readRefusal, sheetRefusal, lastValue, sheetOutput}
+use Rattle.model_recipes.specs.Steps.{stepOf, rows}
+use Rattle.model_recipes.specs.Recipe.{families, announcedStep, announcedPlaces, announcedSteps, total, largest}
+use Rattle.model_recipes.specs.Check.{orElse, rightSizes, formed, stepRefusal, inputsRefusal, stepsRefusal, checkRefusal}
+use Rattle.model_recipes.specs.Run.{inputValues, operations, stepValue, values, stepValues, gates, stepGate, nineRefusal, lentRefusal, runRefusal}
+use Rattle.model_texts.specs.Hex.{isDigit, digitOf, digitFor, isLine, wordAt, hexLine, hexLines}
+use Rattle.model_texts.specs.Printed.{digits, decimal, doneText, refusedText}
+use Rattle.model_texts.specs.Sheet.{ownRefusal, recipeRefusal, inputCount, stepCount, spare, sheetHeaders, coefficientCount, sheetCoefficients, sheetSteps, headersRefusal, readRefusal, sheetRefusal, lastValue, sheetOutput}
 
 -- 0101000000000000, 2104000000000000, 4000000000000000, 4008000000000000, 3ff0000000000000, 9000000000004000: [2, 3, 1] shifted down by 1
 unfoldable pub exampleSheet : List ℕ

@@ -7,8 +7,8 @@ use lib.ListN.{length, length-map}
 use Rattle.lists.specs.Table.{length-table}
 use Rattle.model.specs.declared.Refusal.{Refusal}
 use Rattle.model.specs.Word.{headerOf}
-use Rattle.model.specs.Recipe.{inputHeads}
-use Rattle.model.specs.Sheet.{lined, wordOn, inputCount, stepCount, sheetHeaders, coefficientCount, sheetSteps, restCount, headersRefusal, readRefusal}
+use Rattle.model_recipes.specs.Recipe.{inputHeads}
+use Rattle.model_texts.specs.Sheet.{lined, wordOn, inputCount, stepCount, sheetHeaders, coefficientCount, sheetSteps, restCount, headersRefusal, readRefusal}
 use Rattle.recipes_check.specs.Asks.{or-none, ask-none}
 use Rattle.sheet_reading.specs.Headers.{headerOn, GoodHeads, heads-good, total-most}
 use Rattle.sheet_reading.specs.Reading.{Sized, sized, sizesTest, restRefusal}

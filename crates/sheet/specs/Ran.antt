@@ -10,14 +10,14 @@ use borrow.Author.Tests.{eq-eqb, ne-eqb}
 use Rattle.lists.specs.Table.{table, length-table}
 use Rattle.model.specs.declared.Header.{Header}
 use Rattle.model.specs.declared.Refusal.{Refusal}
-use Rattle.model.specs.declared.RunAnswer.the-variants.{Done, Refused}
+use Rattle.model_recipes.specs.declared.RunAnswer.the-variants.{Done, Refused}
 use Rattle.model.specs.Header.{noHeader, stored}
 use Rattle.model.specs.Word.{headerOf, wordOf}
 use Rattle.model.specs.Refusals.{noRefusal, zeroF, zeros, padded}
 use Rattle.model.specs.Poly.{Poly}
-use Rattle.model.specs.Recipe.{headAt, inputHeads, announcedPlaces, announcedSteps, total, largest}
-use Rattle.model.specs.Run.{noValue, valueAt, values, stepValues, runBy, runRefusal, runAnswer, runPool, runWords}
-use Rattle.model.specs.Sheet.{wordOn, inputCount, stepCount, coefficientCount, sheetCoefficients, sheetRefusal, lastValue}
+use Rattle.model_recipes.specs.Recipe.{headAt, inputHeads, announcedPlaces, announcedSteps, total, largest}
+use Rattle.model_recipes.specs.Run.{noValue, valueAt, values, stepValues, runBy, runRefusal, runAnswer, runPool, runWords}
+use Rattle.model_texts.specs.Sheet.{wordOn, inputCount, stepCount, coefficientCount, sheetCoefficients, sheetRefusal, lastValue}
 use Rattle.shape_words.specs.Rules.{Ruled}
 use Rattle.shape_words.specs.Words.{unpack-pack}
 use Rattle.shape.specs.Keeps.{Keeps}

@@ -13,9 +13,9 @@ use Rattle.model.specs.declared.Header.{Header}
 use Rattle.model.specs.Header.{noHeader, stored}
 use Rattle.model.specs.Word.{headerOf}
 use Rattle.model.specs.Refusals.{noRefusal}
-use Rattle.model.specs.Recipe.{announcedStep, inputHeads, announcedPlaces, announcedSteps, total, largest}
-use Rattle.model.specs.Check.{orElse, checkRefusal}
-use Rattle.model.specs.Sheet.{sheetHeaders, sheetSteps, ownRefusal, readRefusal}
+use Rattle.model_recipes.specs.Recipe.{announcedStep, inputHeads, announcedPlaces, announcedSteps, total, largest}
+use Rattle.model_recipes.specs.Check.{orElse, checkRefusal}
+use Rattle.model_texts.specs.Sheet.{sheetHeaders, sheetSteps, ownRefusal, readRefusal}
 use Rattle.shape_words.specs.Lengths.{lengths-of, count-most}
 use Rattle.recipes_kinds.specs.Known.{Known}
 use Rattle.recipes_check.specs.Asks.{or-none, ask-none}

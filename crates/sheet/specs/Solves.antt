@@ -9,8 +9,8 @@ use lib.Seq.{take-append-le, drop-append-le}
 use Rattle.model.specs.Header.{stored}
 use Rattle.model.specs.Word.{headerOf, wordOf}
 use Rattle.model.specs.Refusals.{noRefusal}
-use Rattle.model.specs.Recipe.{announcedPlaces}
-use Rattle.model.specs.Sheet.{inputCount, stepCount, sheetHeaders, sheetSteps, sheetRefusal, lastValue}
+use Rattle.model_recipes.specs.Recipe.{announcedPlaces}
+use Rattle.model_texts.specs.Sheet.{inputCount, stepCount, sheetHeaders, sheetSteps, sheetRefusal, lastValue}
 use Rattle.recipes_kinds.specs.Known.{Known}
 use Rattle.sheet.specs.declared.Solved.{Solved}
 

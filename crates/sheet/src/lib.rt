@@ -17,7 +17,7 @@ ghost use Prim.Native.Nat.{_≤_};
 ghost use lib.ListN.{length};
 ghost use Rattle.lists.specs.Grow.{over};
 ghost use Rattle.model.specs.Word.{headerOf};
-ghost use Rattle.model.specs.Sheet.{sheetOutput};
+ghost use Rattle.model_texts.specs.Sheet.{sheetOutput};
 ghost use Rattle.shape_words.specs.Rules.{Ruled};
 ghost use Rattle.sheet.specs.Solves.{solvedBy, Buffers, Solves};
 

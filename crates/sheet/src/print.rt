@@ -7,7 +7,7 @@ use sheet_text::print::put_floats;
 use sheet_text::print::put_line;
 ghost use Prim.Native.Nat.{_+_, _*_, _≤_};
 ghost use lib.ListN.{length};
-ghost use Rattle.model.specs.Printed.{doneText, refusedText};
+ghost use Rattle.model_texts.specs.Printed.{doneText, refusedText};
 ghost use Rattle.sheet_text.specs.Put.{Put};
 
 // One line of `refused`, number, place.

@@ -1,6 +1,6 @@
 // Running a recipe that was read off a sheet.
 use crate::Solved;
-use model::RunAnswer;
+use model_recipes::RunAnswer;
 use recipes::run;
 use recipes_check::largest_of;
 use recipes_check::total_of;

@@ -14,9 +14,9 @@ use Rattle.model.specs.declared.Refusal.{Refusal}
 use Rattle.model.specs.Header.{noHeader}
 use Rattle.model.specs.Word.{headerOf}
 use Rattle.model.specs.Refusals.{refusedBy, noRefusal}
-use Rattle.model.specs.Recipe.{announcedStep, inputHeads, announcedPlaces, announcedSteps, total, largest}
-use Rattle.model.specs.Check.{orElse, checkRefusal}
-use Rattle.model.specs.Sheet.{ownRefusal}
+use Rattle.model_recipes.specs.Recipe.{announcedStep, inputHeads, announcedPlaces, announcedSteps, total, largest}
+use Rattle.model_recipes.specs.Check.{orElse, checkRefusal}
+use Rattle.model_texts.specs.Sheet.{ownRefusal}
 use Rattle.shape_words.specs.Rules.{Regular, none-regular}
 use Rattle.recipes_kinds.specs.Known.{Known}
 use Rattle.recipes_check.specs.Asks.{or-first, or-next}

@@ -18,9 +18,9 @@ use Rattle.model.specs.declared.Refusal.{Refusal}
 use Rattle.model.specs.Header.{noHeader, span, stored}
 use Rattle.model.specs.Word.{headerOf, goodWord}
 use Rattle.model.specs.Refusals.{refusedAt, refusedBy, noRefusal}
-use Rattle.model.specs.Recipe.{inputHeads, total}
-use Rattle.model.specs.Check.{askAt}
-use Rattle.model.specs.Sheet.{lined, wordOn, headersRefusal}
+use Rattle.model_recipes.specs.Recipe.{inputHeads, total}
+use Rattle.model_recipes.specs.Check.{askAt}
+use Rattle.model_texts.specs.Sheet.{lined, wordOn, headersRefusal}
 use Rattle.shape_words.specs.Rules.{Good, none-regular}
 use Rattle.shape_words.specs.Words.{good-word}
 use Rattle.recipes_kinds.specs.Known.{Known, head-at}

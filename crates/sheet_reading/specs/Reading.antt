@@ -14,9 +14,9 @@ use Rattle.lists.specs.Test.{and-left, and-right}
 use Rattle.model.specs.declared.Refusal.{Refusal}
 use Rattle.model.specs.Word.{headerOf}
 use Rattle.model.specs.Refusals.{refusedBy, noRefusal}
-use Rattle.model.specs.Recipe.{inputHeads, total}
-use Rattle.model.specs.Check.{askAt, orElse, rightSizes}
-use Rattle.model.specs.Sheet.{lined, inputCount, stepCount, spare, sheetHeaders, coefficientCount, restCount, headersRefusal, readRefusal}
+use Rattle.model_recipes.specs.Recipe.{inputHeads, total}
+use Rattle.model_recipes.specs.Check.{askAt, orElse, rightSizes}
+use Rattle.model_texts.specs.Sheet.{lined, inputCount, stepCount, spare, sheetHeaders, coefficientCount, restCount, headersRefusal, readRefusal}
 use Rattle.recipes_check.specs.Asks.{or-first, or-next}
 use Rattle.sheet_reading.specs.Headers.{HeadersRead, headerOn, GoodHeads, heads-good, total-most}
 

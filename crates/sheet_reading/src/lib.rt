@@ -10,7 +10,7 @@ ghost use lib.ListN.{length};
 ghost use lib.Ieee.{ofBits, binary64};
 ghost use Rattle.lists.specs.Every.{every};
 ghost use Rattle.lists.specs.Table.{table};
-ghost use Rattle.model.specs.Sheet.{lined, wordOn, inputCount, stepCount};
+ghost use Rattle.model_texts.specs.Sheet.{lined, wordOn, inputCount, stepCount};
 ghost use Rattle.sheet_reading.specs.Headers.{HeadersRead};
 ghost use Rattle.sheet_reading.specs.Reading.{Read, sizesTest, restRefusal};
 

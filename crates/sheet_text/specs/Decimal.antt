@@ -9,7 +9,7 @@ use lib.ListN.{length}
 use borrow.Author.Tests.{lt-ltb, le-ltb}
 use Rattle.lists.specs.Grow.{length-snoc}
 use Rattle.lists.specs.Test.{decide}
-use Rattle.model.specs.Printed.{lastDigit, digits, decimal}
+use Rattle.model_texts.specs.Printed.{lastDigit, digits, decimal}
 
 -- one digit less
 pub tenth : (k n : ℕ) → n < 10 ^ suc k → n / 10 < 10 ^ k

@@ -10,7 +10,7 @@ use borrow.Author.Tests.{leb-true}
 use Rattle.lists.specs.Every.{Passing, passing-more, passing-stop, passing-end}
 use Rattle.lists.specs.Test.{decide, and-right}
 use Rattle.lists.specs.Walk.{walk, walk-more, Walked, walked-none, walked-more, walked-end}
-use Rattle.model.specs.Hex.{isDigit, digitOf, byteAt, digitAt, isLine, pushDigit, wordAt}
+use Rattle.model_texts.specs.Hex.{isDigit, digitOf, byteAt, digitAt, isLine, pushDigit, wordAt}
 
 -- the loop that looks at the digits
 module _ (t : List ℕ) {p k : ℕ} (d : Passing (digitAt t) 16 p k) where

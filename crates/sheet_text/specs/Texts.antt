@@ -8,7 +8,7 @@ use lib.Ieee.{Float, nan, toBits, binary64}
 use lib.ListN.{length, getD, take, length-append, length-map}
 use lib.Seq.{length-take-le, take-suc, take-all}
 use Rattle.lists.specs.Table.{length-table}
-use Rattle.model.specs.Hex.{hexLine, hexLines}
+use Rattle.model_texts.specs.Hex.{hexLine, hexLines}
 use Rattle.sheet_text.specs.Put.{Put, put-none, put-then}
 
 pub length-line : (w : ℕ) → length (hexLine w) ≡ 17

@@ -7,7 +7,7 @@ use native.Mathlib.Omega.{arith}
 use lib.Dec.{leb, ltb}
 use borrow.Author.Tests.{le-leb, ltb-true}
 use Rattle.lists.specs.Test.{decide}
-use Rattle.model.specs.Printed.{lastDigit, digits, decimal}
+use Rattle.model_texts.specs.Printed.{lastDigit, digits, decimal}
 use Rattle.sheet_text.specs.Decimal.{tenth}
 
 abbrev isDecimal : ℕ → Bool

@@ -2,7 +2,7 @@
 ghost use mathlib.Core.Path.{_≡_};
 ghost use Prim.Native.Nat.{_≤_, _<_};
 ghost use lib.ListN.{replicate};
-ghost use Rattle.model.specs.Hex.{isDigit, digitOf, byteAt, isLine, wordAt};
+ghost use Rattle.model_texts.specs.Hex.{isDigit, digitOf, byteAt, isLine, wordAt};
 
 // Memory for the lines of the longest sheet, and one byte that would be too many.
 pub fn sheet_memory() -> [u8; 1115218]

@@ -5,8 +5,8 @@ ghost use Prim.Native.Nat.{_+_, _*_, _≤_, _<_};
 ghost use lib.ListN.{length};
 ghost use lib.Ieee.{toBits, binary64};
 ghost use Rattle.lists.specs.Table.{table};
-ghost use Rattle.model.specs.Hex.{digitFor, hexDigit, hexLine, hexLines};
-ghost use Rattle.model.specs.Printed.{lastDigit, decimal};
+ghost use Rattle.model_texts.specs.Hex.{digitFor, hexDigit, hexLine, hexLines};
+ghost use Rattle.model_texts.specs.Printed.{lastDigit, decimal};
 ghost use Rattle.sheet_text.specs.Put.{Put};
 
 pub fn put_byte(b: u8, at: usize, to: &mut [u8]) -> usize

@@ -11,10 +11,10 @@ use Rattle.model.specs.declared.Reading.{Reading}
 use Rattle.model.specs.declared.Reading.the-variants as reading
 use Rattle.model.specs.declared.LinearReading.{LinearReading}
 use Rattle.model.specs.declared.LinearReading.the-variants as linear-reading
-use Rattle.model.specs.declared.CheckAnswer.{CheckAnswer}
-use Rattle.model.specs.declared.CheckAnswer.the-variants as check-answer
-use Rattle.model.specs.declared.RunAnswer.{RunAnswer}
-use Rattle.model.specs.declared.RunAnswer.the-variants as run-answer
+use Rattle.model_recipes.specs.declared.CheckAnswer.{CheckAnswer}
+use Rattle.model_recipes.specs.declared.CheckAnswer.the-variants as check-answer
+use Rattle.model_recipes.specs.declared.RunAnswer.{RunAnswer}
+use Rattle.model_recipes.specs.declared.RunAnswer.the-variants as run-answer
 
 -- four limits or four indices of a call, as the entry takes them
 abbrev pub fourOf : ℕ → ℕ → ℕ → ℕ → List ℕ

@@ -10,13 +10,13 @@ use lib.Ieee.{Float}
 use borrow.Author.Tests.{eqb-false, ne-eqb}
 use Rattle.lists.specs.Test.{decide}
 use Rattle.model.specs.declared.Refusal.{Refusal}
-use Rattle.model.specs.declared.CheckAnswer.{CheckAnswer}
-use Rattle.model.specs.declared.CheckAnswer.the-variants as check-answer
-use Rattle.model.specs.declared.RunAnswer.{RunAnswer}
-use Rattle.model.specs.declared.RunAnswer.the-variants as run-answer
+use Rattle.model_recipes.specs.declared.CheckAnswer.{CheckAnswer}
+use Rattle.model_recipes.specs.declared.CheckAnswer.the-variants as check-answer
+use Rattle.model_recipes.specs.declared.RunAnswer.{RunAnswer}
+use Rattle.model_recipes.specs.declared.RunAnswer.the-variants as run-answer
 use Rattle.model.specs.Refusals.{isNone}
-use Rattle.model.specs.Check.{checkRefusal, checkBy, checkAnswer}
-use Rattle.model.specs.Run.{runRefusal, runBy, runAnswer}
+use Rattle.model_recipes.specs.Check.{checkRefusal, checkBy, checkAnswer}
+use Rattle.model_recipes.specs.Run.{runRefusal, runBy, runAnswer}
 use Rattle.recipes_laws.specs.Never.{check-small, run-small}
 use Rattle.taylor.specs.Face.{wordOfRefusal, wordOfCheck, poolAfter, largestAfter, inputsAfter, wordOfRun}
 use Rattle.taylor.specs.Apart.{refusalFrom, refusal-from}

@@ -1,10 +1,10 @@
 // Answers as words, and what a reading writes.
 use model::Answer;
-use model::CheckAnswer;
 use model::LinearReading;
 use model::Reading;
 use model::Refusal;
-use model::RunAnswer;
+use model_recipes::CheckAnswer;
+use model_recipes::RunAnswer;
 ghost use mathlib.Core.Path.{_≡_};
 ghost use Prim.Native.Nat.{_<_};
 ghost use Rattle.taylor.specs.Face.{wordOfRefusal, wordOfAnswer, wordOfReading, valueAfter, variableOf, wordOfLinear, constantAfter, factorAfter, wordOfCheck, poolAfter, largestAfter, inputsAfter, wordOfRun};

@@ -25,8 +25,8 @@ ghost use Rattle.model.specs.Series.{expAnswer, expOut, logAnswer, logOut, seri
 ghost use Rattle.model.specs.Power.{powerAnswer, powerOut, powerScratch};
 ghost use Rattle.model.specs.Shifts.{derivativeAnswer, derivativeOut, expansionAnswer, expansionOut, shiftDownAnswer, shiftDownOut};
 ghost use Rattle.model.specs.Substitute.{substituteAnswer, substituteOut, substituteScratch};
-ghost use Rattle.model.specs.Check.{checkAnswer};
-ghost use Rattle.model.specs.Run.{runAnswer, runPool, runWords, runScratch};
+ghost use Rattle.model_recipes.specs.Check.{checkAnswer};
+ghost use Rattle.model_recipes.specs.Run.{runAnswer, runPool, runWords, runScratch};
 ghost use Rattle.taylor.specs.Face.{fourOf, wordOfAnswer, wordOfReading, valueAfter, wordOfLinear, constantAfter, factorAfter, wordOfCheck, poolAfter, largestAfter, inputsAfter, wordOfRun};
 
 // +0.0, with no variables: refusal 5.

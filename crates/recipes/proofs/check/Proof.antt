@@ -1,7 +1,7 @@
 use mathlib.Core.Path.{_≡_, ap, _∙_}
 use native.Mathlib.Omega.{arith}
 use lib.ListN.{length, length-take}
-use Rattle.model.specs.Recipe.{total, largest}
+use Rattle.model_recipes.specs.Recipe.{total, largest}
 use Rattle.recipes_check.specs.Answered.{Passed, passed, answer-no, answer-yes}
 use borrow.Author.Needs.{needs}
 use Rattle.recipes.proofs.check.Statement.{statement}

@@ -1,6 +1,6 @@
 use native.Mathlib.Omega.{arith}
 use borrow.Author.Tests.{not-true, not-false}
-use Rattle.model.specs.Check.{rightSizes}
+use Rattle.model_recipes.specs.Check.{rightSizes}
 use Rattle.recipes_check.specs.Judged.{Sizes, sizes, judged-sizes, judged-inputs, ready, judged-steps}
 use borrow.Author.Needs.{needs}
 use Rattle.recipes_check.proofs.judge.Statement.{statement}

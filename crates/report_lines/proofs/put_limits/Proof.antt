@@ -1,7 +1,7 @@
 use native.Mathlib.Omega.{arith}
 use Rattle.lists.specs.Bytes.{bytes}
 use Rattle.report_lines.specs.Puts.{puts-then}
-use Rattle.model.specs.Report.{limitsText}
+use Rattle.model_texts.specs.Report.{limitsText}
 use borrow.Author.Needs.{needs}
 use Rattle.report_lines.proofs.put_limits.Statement.{statement}
 use Rattle.report_lines.proofs.put_limits.Tie as tie

@@ -2,7 +2,7 @@ use native.Mathlib.Omega.{arith}
 use mathlib.Core.Path.{_≡_, refl, sym, ap, _∙_}
 use lib.Seq.{length-take-le}
 use Rattle.model.specs.declared.Refusal.{Refusal}
-use Rattle.model.specs.Sheet.{readRefusal}
+use Rattle.model_texts.specs.Sheet.{readRefusal}
 use Rattle.sheet.specs.Opened.{opened}
 use Rattle.sheet.specs.Ended.{read-refused}
 use Rattle.sheet.specs.Solves.{solution-front}

@@ -4,7 +4,7 @@ use mathlib.Core.Path.{sym, _∙_}
 use native.Mathlib.Omega.{arith}
 use borrow.Author.Tests.{not-true, not-false}
 use Rattle.lists.specs.Every.{Passing, passing-none, passing-more, passing-stop, passing-end}
-use Rattle.model.specs.Sheet.{lined}
+use Rattle.model_texts.specs.Sheet.{lined}
 use Rattle.sheet_reading.proofs.all_lined.Statement.{statement}
 use Rattle.sheet_reading.proofs.all_lined.Tie as tie
 

@@ -2,7 +2,7 @@ use Prim.Native.Nat.{_/_, _^_}
 use mathlib.Core.Path.{ap}
 use lib.Bits.{and-mask}
 use Prim.Native.Nat.{ℕ, _%_}
-use Rattle.model.specs.Sheet.{inputCount}
+use Rattle.model_texts.specs.Sheet.{inputCount}
 use borrow.Author.Needs.{needs}
 use Rattle.sheet_reading.proofs.input_count.Statement.{statement}
 use Rattle.sheet_reading.proofs.input_count.Tie as tie

@@ -1,6 +1,6 @@
 use native.Mathlib.Omega.{arith}
-use Rattle.model.specs.Check.{rightSizes}
-use Rattle.model.specs.Sheet.{spare}
+use Rattle.model_recipes.specs.Check.{rightSizes}
+use Rattle.model_texts.specs.Sheet.{spare}
 use Rattle.sheet_reading.specs.Reading.{count-small, step-small}
 use borrow.Author.Needs.{needs}
 use Rattle.sheet_reading.proofs.is_sized.Statement.{statement}

@@ -3,7 +3,7 @@ use mathlib.Core.Path.{_≡_, refl, sym, ap, _∙_}
 use Prim.Native.Nat.{ℕ, _+_, _*_, _≤_}
 use lib.ListN.{length, take, drop, length-take, length-drop, length-append}
 use lib.Seq.{length-take-le}
-use Rattle.model.specs.Recipe.{announcedSteps, total, largest}
+use Rattle.model_recipes.specs.Recipe.{announcedSteps, total, largest}
 use Rattle.recipes_check.specs.Answered.{Passed, passed}
 use mathlib.Core.List.{_++_}
 use Rattle.model.specs.Refusals.{zeros}

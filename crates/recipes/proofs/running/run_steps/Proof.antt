@@ -4,7 +4,7 @@ use Prim.Native.Nat.{ℕ, _+_, _-_}
 use lib.ListN.{length, getD, take, length-set}
 use borrow.Author.Needs.{needs}
 use Rattle.model.specs.Header.{stored}
-use Rattle.model.specs.Recipe.{announcedStep, announcedPlaces}
+use Rattle.model_recipes.specs.Recipe.{announcedStep, announcedPlaces}
 use Rattle.recipes.specs.Running.{Running, fit, room-ruled, room-is, step-in, step-lent, running-more, end-words, end-pool}
 use Rattle.recipes.proofs.running.run_steps.Statement.{statement}
 use Rattle.recipes.proofs.running.run_steps.Tie as tie

@@ -1,7 +1,7 @@
 use lib.ListN.{length}
 use mathlib.Core.Path.{refl, ap, _∙_}
 use borrow.Author.Tests.{not-true, not-false}
-use Rattle.model.specs.declared.Step.{Step}
+use Rattle.model_recipes.specs.declared.Step.{Step}
 use Rattle.recipes_kinds.specs.Known.{step-regular, small-variable}
 use Rattle.recipes_kinds.specs.Gated.{gate-7, gate-3, gate-4, gate-5, gate-none}
 use borrow.Author.Needs.{needs}

@@ -5,7 +5,7 @@ use lib.ListN.{List·getD-eq-default}
 use borrow.Author.Tests.{eqb-true, eqb-false}
 use Rattle.lists.specs.Test.{decide}
 use Rattle.model.specs.declared.Family.the-variants.{Constant}
-use Rattle.model.specs.Recipe.{families, familyOf}
+use Rattle.model_recipes.specs.Recipe.{families, familyOf}
 use Rattle.recipes_kinds.specs.Arms.{past-kinds}
 use borrow.Author.Needs.{needs}
 use Rattle.recipes_kinds.proofs.step.family_of.Statement.{statement}

@@ -1,5 +1,5 @@
 use mathlib.Core.Path.{ap}
-use Rattle.model.specs.declared.Step.{Step}
+use Rattle.model_recipes.specs.declared.Step.{Step}
 use Rattle.recipes_kinds.specs.Known.{small-kind}
 use Rattle.recipes_kinds.specs.Gated.{formed-is}
 use borrow.Author.Needs.{needs}

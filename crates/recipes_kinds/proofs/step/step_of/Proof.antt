@@ -1,7 +1,7 @@
 use Prim.Native.Nat.{_/_, _^_}
 use native.Mathlib.Omega.{arith}
 use lib.Bits.{and-mask}
-use Rattle.model.specs.Steps.{stepOf}
+use Rattle.model_recipes.specs.Steps.{stepOf}
 use Rattle.recipes_kinds.proofs.step.step_of.Statement.{statement}
 use Rattle.recipes_kinds.proofs.step.step_of.Tie as tie
 

@@ -1,5 +1,5 @@
 use mathlib.Core.Path.{refl}
-use Rattle.model.specs.Steps.{rows}
+use Rattle.model_recipes.specs.Steps.{rows}
 use borrow.Author.Needs.{needs}
 use Rattle.recipes_kinds.proofs.step.uses_of.Statement.{statement}
 use Rattle.recipes_kinds.proofs.step.uses_of.Tie as tie

@@ -1,4 +1,4 @@
-use Rattle.model.specs.Sentence.{meaning}
+use Rattle.model_texts.specs.Sentence.{meaning}
 use borrow.Author.Needs.{needs}
 use Rattle.report.proofs.refusal.put_meaning.Statement.{statement}
 use Rattle.report.proofs.refusal.put_meaning.Tie as tie

@@ -1,6 +1,6 @@
 use Rattle.lists.specs.Bytes.{bytes}
 use Rattle.report_lines.specs.Puts.{puts-none}
-use Rattle.model.specs.Sentence.{placeMeanings}
+use Rattle.model_texts.specs.Sentence.{placeMeanings}
 use Rattle.report.specs.Tells.{no-place-meaning}
 use borrow.Author.Needs.{needs}
 use Rattle.report.proofs.refusal.put_place_meaning.Statement.{statement}

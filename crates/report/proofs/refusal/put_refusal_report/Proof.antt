@@ -1,5 +1,5 @@
 use Rattle.report_lines.specs.Puts.{puts-then}
-use Rattle.model.specs.Sentence.{refusalReport}
+use Rattle.model_texts.specs.Sentence.{refusalReport}
 use borrow.Author.Needs.{needs}
 use Rattle.report.proofs.refusal.put_refusal_report.Statement.{statement}
 use Rattle.report.proofs.refusal.put_refusal_report.Tie as tie

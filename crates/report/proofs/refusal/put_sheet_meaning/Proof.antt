@@ -1,6 +1,6 @@
 use Rattle.lists.specs.Bytes.{bytes}
 use Rattle.report_lines.specs.Puts.{puts-none}
-use Rattle.model.specs.Sentence.{sheetMeanings}
+use Rattle.model_texts.specs.Sentence.{sheetMeanings}
 use Rattle.report.specs.Tells.{no-sheet-meaning}
 use borrow.Author.Needs.{needs}
 use Rattle.report.proofs.refusal.put_sheet_meaning.Statement.{statement}

@@ -4,7 +4,7 @@ use native.Mathlib.Omega.{arith}
 use borrow.Author.Needs.{needs}
 use Rattle.lists.specs.Table.{table}
 use Rattle.report_lines.specs.Puts.{puts-none}
-use Rattle.model.specs.Figures.{blanks}
+use Rattle.model_texts.specs.Figures.{blanks}
 use Rattle.report_figures.specs.Fill.{puts-blank}
 use Rattle.report_figures.specs.Lines.{Putting, putting-end}
 use Rattle.report_figures.proofs.line.put_blanks.Statement.{statement}

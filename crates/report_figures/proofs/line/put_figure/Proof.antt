@@ -1,5 +1,5 @@
 use borrow.Author.Tests.{eq-eqb, ne-eqb}
-use Rattle.model.specs.Figures.{figureText}
+use Rattle.model_texts.specs.Figures.{figureText}
 use borrow.Author.Needs.{needs}
 use Rattle.report_figures.proofs.line.put_figure.Statement.{statement}
 use Rattle.report_figures.proofs.line.put_figure.Tie as tie

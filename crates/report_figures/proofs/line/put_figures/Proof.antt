@@ -1,7 +1,7 @@
 use mathlib.Core.Path.{sym, ap, _∙_}
 use Rattle.model.specs.Header.{stored}
-use Rattle.model.specs.Report.{joined}
-use Rattle.model.specs.Figures.{figureText, figuresText}
+use Rattle.model_texts.specs.Report.{joined}
+use Rattle.model_texts.specs.Figures.{figureText, figuresText}
 use Rattle.model.specs.declared.Header.{Header}
 use Rattle.report_lines.specs.Puts.{puts-then}
 use Rattle.report_figures.specs.Fill.{puts-is}

@@ -1,6 +1,6 @@
 use borrow.Author.Tests.{eq-eqb, ne-eqb}
 use Rattle.lists.specs.Bytes.{bytes}
-use Rattle.model.specs.Figures.{headingText}
+use Rattle.model_texts.specs.Figures.{headingText}
 use borrow.Author.Needs.{needs}
 use Rattle.report_figures.proofs.line.put_heading.Statement.{statement}
 use Rattle.report_figures.proofs.line.put_heading.Tie as tie

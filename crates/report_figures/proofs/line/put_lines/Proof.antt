@@ -3,9 +3,9 @@ use mathlib.Core.Path.{refl, _∙_}
 use native.Mathlib.Omega.{arith}
 use borrow.Author.Needs.{needs}
 use lib.ListN.{length}
-use Rattle.model.specs.Report.{joined}
+use Rattle.model_texts.specs.Report.{joined}
 use Rattle.report_lines.specs.Puts.{puts-none, puts-joined}
-use Rattle.model.specs.Figures.{figureText}
+use Rattle.model_texts.specs.Figures.{figureText}
 use Rattle.report_figures.specs.Lines.{Putting, putting-end}
 use Rattle.report_figures.proofs.line.put_lines.Statement.{statement}
 use Rattle.report_figures.proofs.line.put_lines.Tie as tie

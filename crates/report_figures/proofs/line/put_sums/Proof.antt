@@ -4,8 +4,8 @@ use Rattle.model.specs.Readings.{oneF, sumTo}
 use Rattle.model.specs.Tail.{tailOf}
 use Rattle.report_lines.specs.Puts.{puts-then}
 use Rattle.lists.specs.Bytes.{bytes}
-use Rattle.model.specs.Number.{numberText}
-use Rattle.model.specs.Figures.{filled, sumLine}
+use Rattle.model_texts.specs.Number.{numberText}
+use Rattle.model_texts.specs.Figures.{filled, sumLine}
 use Rattle.report_figures.specs.Fill.{puts-is}
 use borrow.Author.Needs.{needs}
 use Rattle.report_figures.proofs.line.put_sums.Statement.{statement}

@@ -1,6 +1,6 @@
 use mathlib.Core.Path.{sym, ap}
 use Rattle.report_figures.specs.Fill.{puts-is}
-use Rattle.model.specs.Number.{wordText, numberText}
+use Rattle.model_texts.specs.Number.{wordText, numberText}
 use borrow.Author.Needs.{needs}
 use Rattle.report_figures.proofs.number.put_float.Statement.{statement}
 use Rattle.report_figures.proofs.number.put_float.Tie as tie

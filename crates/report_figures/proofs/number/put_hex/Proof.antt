@@ -4,7 +4,7 @@ use lib.Seq.{length-take-le}
 use Rattle.sheet_text.specs.Put.{put-len}
 use Rattle.report_lines.specs.Puts.{puts-then}
 use Rattle.lists.specs.Bytes.{bytes}
-use Rattle.model.specs.Number.{hexText}
+use Rattle.model_texts.specs.Number.{hexText}
 use Rattle.report_figures.specs.Fill.{puts-is, own-text}
 use borrow.Author.Needs.{needs}
 use Rattle.report_figures.proofs.number.put_hex.Statement.{statement}

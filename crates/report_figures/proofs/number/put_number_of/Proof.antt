@@ -1,7 +1,7 @@
 use native.Mathlib.Omega.{arith}
 use borrow.Author.Tests.{eq-eqb, ne-eqb, not-true}
 use Rattle.report_figures.specs.Fill.{puts-is}
-use Rattle.model.specs.Number.{behindPoint}
+use Rattle.model_texts.specs.Number.{behindPoint}
 use Rattle.report_figures.specs.Lines.{text-zero, text-top, text-scaled, text-other, scaled-outside, exponent-most, behind-small, one-pos, scaled-yes, scaled-no}
 use borrow.Author.Needs.{needs}
 use Rattle.report_figures.proofs.number.put_number_of.Statement.{statement}

@@ -1,6 +1,6 @@
 use Rattle.report_lines.specs.Puts.{puts-then}
 use Rattle.lists.specs.Bytes.{bytes}
-use Rattle.model.specs.Number.{signedText}
+use Rattle.model_texts.specs.Number.{signedText}
 use borrow.Author.Needs.{needs}
 use Rattle.report_figures.proofs.number.put_whole.Statement.{statement}
 use Rattle.report_figures.proofs.number.put_whole.Tie as tie

@@ -1,5 +1,5 @@
 use Rattle.report_lines.specs.Puts.{puts-none}
-use Rattle.model.specs.Report.{cutText}
+use Rattle.model_texts.specs.Report.{cutText}
 use borrow.Author.Needs.{needs}
 use Rattle.report_lines.proofs.cuts.put_cut.Statement.{statement}
 use Rattle.report_lines.proofs.cuts.put_cut.Tie as tie

@@ -1,6 +1,6 @@
 use native.Mathlib.Omega.{arith}
 use Rattle.report_lines.specs.Puts.{puts-then}
-use Rattle.model.specs.Report.{cutLine}
+use Rattle.model_texts.specs.Report.{cutLine}
 use borrow.Author.Needs.{needs}
 use Rattle.report_lines.proofs.cuts.put_cut_line.Statement.{statement}
 use Rattle.report_lines.proofs.cuts.put_cut_line.Tie as tie

@@ -4,7 +4,7 @@ use Rattle.model.specs.Word.{headerOf}
 use mathlib.Core.List.{map}
 use native.Mathlib.Omega.{arith}
 use Rattle.report_lines.specs.Puts.{Putting, putting-none, putting-more, putting-end}
-use Rattle.model.specs.Report.{cutsText}
+use Rattle.model_texts.specs.Report.{cutsText}
 use Rattle.report_lines.proofs.cuts.put_cuts.Statement.{statement}
 use Rattle.report_lines.proofs.cuts.put_cuts.Tie as tie
 use Rattle.report_lines.proofs.cuts.put_cuts.Reads as reads

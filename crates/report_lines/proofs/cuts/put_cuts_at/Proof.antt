@@ -4,7 +4,7 @@ use Rattle.model.specs.Word.{headerOf}
 use mathlib.Core.List.{map}
 use native.Mathlib.Omega.{arith}
 use Rattle.report_lines.specs.Puts.{Putting, putting-none, putting-more, putting-end}
-use Rattle.model.specs.Report.{cutText, cutsText}
+use Rattle.model_texts.specs.Report.{cutText, cutsText}
 use Rattle.report_lines.proofs.cuts.put_cuts_at.Statement.{statement}
 use Rattle.report_lines.proofs.cuts.put_cuts_at.Tie as tie
 use Rattle.report_lines.proofs.cuts.put_cuts_at.Reads as reads

@@ -1,5 +1,5 @@
 use Rattle.report_lines.specs.Puts.{puts-none}
-use Rattle.model.specs.Report.{endText}
+use Rattle.model_texts.specs.Report.{endText}
 use borrow.Author.Needs.{needs}
 use Rattle.report_lines.proofs.cuts.put_end.Statement.{statement}
 use Rattle.report_lines.proofs.cuts.put_end.Tie as tie

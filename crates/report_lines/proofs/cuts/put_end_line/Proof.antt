@@ -1,7 +1,7 @@
 use native.Mathlib.Omega.{arith}
 use Rattle.lists.specs.Bytes.{bytes}
 use Rattle.report_lines.specs.Puts.{puts-then}
-use Rattle.model.specs.Report.{endLine}
+use Rattle.model_texts.specs.Report.{endLine}
 use borrow.Author.Needs.{needs}
 use Rattle.report_lines.proofs.cuts.put_end_line.Statement.{statement}
 use Rattle.report_lines.proofs.cuts.put_end_line.Tie as tie

@@ -1,7 +1,7 @@
 use Rattle.lists.specs.Bytes.{bytes}
 use borrow.Author.Tests.{lt-ltb, le-ltb}
 use Rattle.report_lines.specs.Puts.{puts-none, puts-then}
-use Rattle.model.specs.Report.{furtherText}
+use Rattle.model_texts.specs.Report.{furtherText}
 use borrow.Author.Needs.{needs}
 use Rattle.report_lines.proofs.cuts.put_further.Statement.{statement}
 use Rattle.report_lines.proofs.cuts.put_further.Tie as tie

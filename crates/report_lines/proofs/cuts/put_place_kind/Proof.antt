@@ -1,6 +1,6 @@
 use Rattle.lists.specs.Bytes.{bytes}
 use Rattle.report_lines.specs.Puts.{puts-then}
-use Rattle.model.specs.Report.{placeKindText}
+use Rattle.model_texts.specs.Report.{placeKindText}
 use borrow.Author.Needs.{needs}
 use Rattle.report_lines.proofs.cuts.put_place_kind.Statement.{statement}
 use Rattle.report_lines.proofs.cuts.put_place_kind.Tie as tie

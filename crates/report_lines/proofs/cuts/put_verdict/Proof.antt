@@ -1,5 +1,5 @@
 use Rattle.lists.specs.Bytes.{bytes}
-use Rattle.model.specs.Report.{verdictText}
+use Rattle.model_texts.specs.Report.{verdictText}
 use borrow.Author.Needs.{needs}
 use Rattle.report_lines.proofs.cuts.put_verdict.Statement.{statement}
 use Rattle.report_lines.proofs.cuts.put_verdict.Tie as tie

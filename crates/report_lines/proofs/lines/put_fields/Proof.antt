@@ -1,6 +1,6 @@
 use Rattle.lists.specs.Bytes.{bytes}
 use Rattle.report_lines.specs.Puts.{puts-then}
-use Rattle.model.specs.Report.{fieldsText}
+use Rattle.model_texts.specs.Report.{fieldsText}
 use borrow.Author.Needs.{needs}
 use Rattle.report_lines.proofs.lines.put_fields.Statement.{statement}
 use Rattle.report_lines.proofs.lines.put_fields.Tie as tie

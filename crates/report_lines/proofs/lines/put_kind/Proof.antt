@@ -2,7 +2,7 @@ use native.Mathlib.Omega.{arith}
 use lib.ListN.{List·getD-eq-default}
 use Rattle.report_lines.specs.Puts.{puts-none}
 use Rattle.lists.specs.Bytes.{bytes}
-use Rattle.model.specs.Report.{kindText, kindNames}
+use Rattle.model_texts.specs.Report.{kindText, kindNames}
 use Rattle.recipes_kinds.specs.Arms.{past-kinds}
 use borrow.Author.Needs.{needs}
 use Rattle.report_lines.proofs.lines.put_kind.Statement.{statement}

@@ -1,7 +1,7 @@
 use Rattle.lists.specs.Bytes.{bytes}
 use borrow.Author.Tests.{lt-ltb, le-ltb}
 use Rattle.report_lines.specs.Puts.{puts-none, puts-then}
-use Rattle.model.specs.Report.{pairText}
+use Rattle.model_texts.specs.Report.{pairText}
 use borrow.Author.Needs.{needs}
 use Rattle.report_lines.proofs.lines.put_pair.Statement.{statement}
 use Rattle.report_lines.proofs.lines.put_pair.Tie as tie

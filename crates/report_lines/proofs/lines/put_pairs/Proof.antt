@@ -2,7 +2,7 @@ use borrow.Author.Needs.{needs}
 use Prim.Native.Nat.{_-_}
 use native.Mathlib.Omega.{arith}
 use Rattle.report_lines.specs.Puts.{Putting, putting-none, putting-more, putting-end}
-use Rattle.model.specs.Report.{pairText}
+use Rattle.model_texts.specs.Report.{pairText}
 use Rattle.report_lines.proofs.lines.put_pairs.Statement.{statement}
 use Rattle.report_lines.proofs.lines.put_pairs.Tie as tie
 use Rattle.report_lines.proofs.lines.put_pairs.Reads as reads

@@ -4,7 +4,7 @@ use mathlib.Core.List.{map}
 use native.Mathlib.Omega.{arith}
 use Rattle.report_lines.specs.Puts.{Putting, putting-none, putting-more, putting-end}
 use Rattle.model.specs.Word.{headerOf}
-use Rattle.model.specs.Report.{placeText}
+use Rattle.model_texts.specs.Report.{placeText}
 use Rattle.report_lines.proofs.lines.put_places.Statement.{statement}
 use Rattle.report_lines.proofs.lines.put_places.Tie as tie
 use Rattle.report_lines.proofs.lines.put_places.Reads as reads

@@ -1,5 +1,5 @@
 use Rattle.report_lines.specs.Puts.{puts-then}
-use Rattle.model.specs.Report.{stepText}
+use Rattle.model_texts.specs.Report.{stepText}
 use borrow.Author.Needs.{needs}
 use Rattle.report_lines.proofs.lines.put_step.Statement.{statement}
 use Rattle.report_lines.proofs.lines.put_step.Tie as tie

@@ -1,6 +1,6 @@
 use Rattle.lists.specs.Bytes.{bytes}
 use borrow.Author.Tests.{lt-ltb, le-ltb}
-use Rattle.model.specs.Report.{whatText}
+use Rattle.model_texts.specs.Report.{whatText}
 use borrow.Author.Needs.{needs}
 use Rattle.report_lines.proofs.lines.put_what.Statement.{statement}
 use Rattle.report_lines.proofs.lines.put_what.Tie as tie

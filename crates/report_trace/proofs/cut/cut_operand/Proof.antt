@@ -1,4 +1,4 @@
-use Rattle.model.specs.Trace.{cutOperand}
+use Rattle.model_texts.specs.Trace.{cutOperand}
 use borrow.Author.Needs.{needs}
 use Rattle.report_trace.proofs.cut.cut_operand.Statement.{statement}
 use Rattle.report_trace.proofs.cut.cut_operand.Tie as tie

@@ -1,4 +1,4 @@
-use Rattle.model.specs.Trace.{isCut}
+use Rattle.model_texts.specs.Trace.{isCut}
 use borrow.Author.Needs.{needs}
 use Rattle.report_trace.proofs.cut.is_cut.Statement.{statement}
 use Rattle.report_trace.proofs.cut.is_cut.Tie as tie

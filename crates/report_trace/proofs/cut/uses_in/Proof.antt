@@ -1,4 +1,4 @@
-use Rattle.model.specs.declared.Step.{Step}
+use Rattle.model_recipes.specs.declared.Step.{Step}
 use mathlib.Core.Path.{ap}
 use Rattle.recipes_kinds.specs.Known.{small-kind}
 use borrow.Author.Needs.{needs}

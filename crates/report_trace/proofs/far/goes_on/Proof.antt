@@ -1,4 +1,4 @@
-use Rattle.model.specs.Trace.{goesOn}
+use Rattle.model_texts.specs.Trace.{goesOn}
 use borrow.Author.Needs.{needs}
 use Rattle.report_trace.proofs.far.goes_on.Statement.{statement}
 use Rattle.report_trace.proofs.far.goes_on.Tie as tie

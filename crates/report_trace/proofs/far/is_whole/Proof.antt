@@ -5,7 +5,7 @@ use mathlib.Core.Path.{sym}
 use borrow.Author.Tests.{not-true, not-false}
 use Rattle.lists.specs.Every.{Passing, passing-none, passing-more, passing-stop, passing-end}
 use Rattle.model.specs.Word.{headerOf}
-use Rattle.model.specs.Trace.{goesOn, isWhole}
+use Rattle.model_texts.specs.Trace.{goesOn, isWhole}
 use Rattle.report_trace.specs.Traced.{from-zero}
 use Rattle.report_trace.proofs.far.is_whole.Statement.{statement}
 use Rattle.report_trace.proofs.far.is_whole.Tie as tie

@@ -1,7 +1,7 @@
 use native.Mathlib.Omega.{arith}
 use mathlib.Core.List.{_++_, append-assoc}
-use Rattle.model.specs.Hex.{hexLine}
-use Rattle.model.specs.Printed.{doneWord, newline, decimal, doneText}
+use Rattle.model_texts.specs.Hex.{hexLine}
+use Rattle.model_texts.specs.Printed.{doneWord, newline, decimal, doneText}
 use Rattle.sheet_text.specs.Put.{Put, put-len, put-then}
 use Rattle.sheet_text.specs.Texts.{length-line}
 use Rattle.sheet_text.specs.Decimal.{decimal-most}

@@ -1,6 +1,6 @@
 use native.Mathlib.Omega.{arith}
 use mathlib.Core.List.{append-assoc}
-use Rattle.model.specs.Printed.{refusedText}
+use Rattle.model_texts.specs.Printed.{refusedText}
 use Rattle.sheet_text.specs.Put.{put-len, put-then}
 use Rattle.sheet_text.specs.Decimal.{decimal-most}
 use borrow.Author.Needs.{needs}

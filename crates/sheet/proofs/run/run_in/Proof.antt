@@ -1,7 +1,7 @@
 use native.Mathlib.Omega.{arith}
 use mathlib.Core.Path.{_≡_, refl, sym, ap, _∙_}
 use Rattle.model.specs.declared.Refusal.{Refusal}
-use Rattle.model.specs.Sheet.{sheetCoefficients}
+use Rattle.model_texts.specs.Sheet.{sheetCoefficients}
 use Rattle.sheet.specs.Ran.{in-few, in-some, floats-read, ran-refused, ran-ruled, ran-done}
 use borrow.Author.Needs.{needs}
 use Rattle.sheet.proofs.run.run_in.Statement.{statement}

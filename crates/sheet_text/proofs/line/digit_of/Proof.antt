@@ -2,7 +2,7 @@ use native.Mathlib.Omega.{arith}
 use borrow.Author.Tests.{leb-true}
 use lib.Dec.{leb}
 use Rattle.lists.specs.Test.{and-left}
-use Rattle.model.specs.Hex.{digitOf}
+use Rattle.model_texts.specs.Hex.{digitOf}
 use Rattle.sheet_text.proofs.line.digit_of.Statement.{statement}
 use Rattle.sheet_text.proofs.line.digit_of.Tie as tie
 

@@ -1,5 +1,5 @@
 use mathlib.Core.Path.{refl}
-use Rattle.model.specs.Hex.{isDigit}
+use Rattle.model_texts.specs.Hex.{isDigit}
 use Rattle.sheet_text.proofs.line.is_digit.Statement.{statement}
 use Rattle.sheet_text.proofs.line.is_digit.Tie as tie
 

@@ -3,7 +3,7 @@ use Prim.Native.Nat.{_-_}
 use borrow.Author.Tests.{not-true, not-false}
 use Rattle.sheet_text.specs.Lines.{digits-more, digits-stop, digits-end}
 use Rattle.lists.specs.Every.{Passing, passing-none}
-use Rattle.model.specs.Hex.{digitAt}
+use Rattle.model_texts.specs.Hex.{digitAt}
 use Rattle.sheet_text.proofs.line.is_line.Statement.{statement}
 use Rattle.sheet_text.proofs.line.is_line.Tie as tie
 

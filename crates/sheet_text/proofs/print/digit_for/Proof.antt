@@ -1,5 +1,5 @@
 use borrow.Author.Tests.{lt-ltb, le-ltb}
-use Rattle.model.specs.Hex.{digitFor}
+use Rattle.model_texts.specs.Hex.{digitFor}
 use borrow.Author.Needs.{needs}
 use Rattle.sheet_text.proofs.print.digit_for.Statement.{statement}
 use Rattle.sheet_text.proofs.print.digit_for.Tie as tie

@@ -1,6 +1,6 @@
 use native.Mathlib.Omega.{arith}
 use Rattle.lists.specs.Table.{length-table}
-use Rattle.model.specs.Hex.{hexDigit, hexLine}
+use Rattle.model_texts.specs.Hex.{hexDigit, hexLine}
 use Rattle.sheet_text.specs.Put.{put-len, put-then}
 use borrow.Author.Needs.{needs}
 use Rattle.sheet_text.proofs.print.put_line.Statement.{statement}

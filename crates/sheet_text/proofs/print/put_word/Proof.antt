@@ -2,7 +2,7 @@ use Rattle.sheet_text.specs.Put.{put-len, PutTable, table-none, table-mo
 use borrow.Author.Needs.{needs}
 use Prim.Native.Nat.{_-_}
 use native.Mathlib.Omega.{arith}
-use Rattle.model.specs.Hex.{hexDigit}
+use Rattle.model_texts.specs.Hex.{hexDigit}
 use Rattle.sheet_text.proofs.print.put_word.Statement.{statement}
 use Rattle.sheet_text.proofs.print.put_word.Tie as tie
 

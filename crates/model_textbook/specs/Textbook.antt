@@ -8,9 +8,9 @@ use lib.Dec.{eqb}
 use lib.ListN.{set}
 use lib.IntN.{ℤ, pos, natAbs, _+ℤ_, _-ℤ_, _*ℤ_}
 use Rattle.lists.specs.Four.{at, four}
 use Rattle.model.specs.Places.{place, inside}
-use Rattle.model.specs.Sum.{sumZ}
-use Rattle.model.specs.Box.{boxN, boxZ, upTo, indexMinus, degree}
+use Rattle.model_textbook.specs.Sum.{sumZ}
+use Rattle.model_textbook.specs.Box.{boxN, boxZ, upTo, indexMinus, degree}
 
 abbrev pub Series : Type 0
 Series = List ℕ → ℤ

@@ -4,8 +4,8 @@ use Prim.Native.Nat.{ℕ, _/_, _%_, _^_}
 use mathlib.Core.List.{List, [], _∷_}
 use mathlib.Core.Bool.{Bool, true, false}
 use lib.ListN.{getD}
-use Rattle.model.specs.declared.Step.{Step}
-use Rattle.model.specs.declared.Uses.{Uses}
+use Rattle.model_recipes.specs.declared.Step.{Step}
+use Rattle.model_recipes.specs.declared.Uses.{Uses}
 
 -- what the fields of a word say, well formed or not
 unfoldable pub stepOf : ℕ → Step

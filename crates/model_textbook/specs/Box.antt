@@ -3,7 +3,7 @@
 use Prim.Native.Nat.{ℕ, suc, _+_, _-_}
 use mathlib.Core.List.{List, [], _∷_}
 use lib.IntN.{ℤ}
-use Rattle.model.specs.Sum.{Adding, sum, addN, addZ}
+use Rattle.model_textbook.specs.Sum.{Adding, sum, addN, addZ}
 
 -- f j over every j with j v < n v in each variable v
 unfoldable pub box : {A : Type 0} → Adding A → List ℕ → (List ℕ → A) → A

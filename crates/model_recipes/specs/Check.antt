@@ -5,16 +5,16 @@ use mathlib.Core.List.{List, [], _∷_, _++_}
 use mathlib.Core.Bool.{Bool, true, false, _&&_, _||_, cond}
 use lib.Dec.{ltb, leb, eqb}
 use lib.ListN.{length}
 use Rattle.model.specs.declared.Header.{Header}
 use Rattle.model.specs.declared.Refusal.{Refusal}
-use Rattle.model.specs.declared.Step.{Step}
-use Rattle.model.specs.declared.CheckAnswer.{CheckAnswer}
-use Rattle.model.specs.declared.CheckAnswer.the-variants.{Accepted, Refused}
+use Rattle.model_recipes.specs.declared.Step.{Step}
+use Rattle.model_recipes.specs.declared.CheckAnswer.{CheckAnswer}
+use Rattle.model_recipes.specs.declared.CheckAnswer.the-variants.{Accepted, Refused}
 use Rattle.model.specs.Header.{limit, stored}
 use Rattle.model.specs.Word.{goodWord}
 use Rattle.model.specs.Refusals.{refusedAt, noRefusal, isNone}
-use Rattle.model.specs.Steps.{stepOf, spareOf, usesOf}
-use Rattle.model.specs.Recipe.{headAt, announcedStep, inputHeads, announcedSteps, total, largest}
+use Rattle.model_recipes.specs.Steps.{stepOf, spareOf, usesOf}
+use Rattle.model_recipes.specs.Recipe.{headAt, announcedStep, inputHeads, announcedSteps, total, largest}
 
 -- what follows where the test holds, else a refusal at the place p
 abbrev pub askAt : Bool → ℕ → ℕ → Refusal → Refusal

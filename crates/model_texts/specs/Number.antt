@@ -6,9 +6,9 @@ use lib.Dec.{leb, eqb}
 use lib.Ieee.{Float, toBits, binary64}
 use Rattle.lists.specs.Bytes.{bytes}
 use Rattle.lists.specs.Table.{table}
-use Rattle.model.specs.Hex.{hexDigit}
-use Rattle.model.specs.Printed.{decimal}
-use Rattle.model.specs.Report.{when}
+use Rattle.model_texts.specs.Hex.{hexDigit}
+use Rattle.model_texts.specs.Printed.{decimal}
+use Rattle.model_texts.specs.Report.{when}
 
 -- w the word of a float
 module _ (w : ℕ) where

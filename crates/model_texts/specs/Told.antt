@@ -3,13 +3,13 @@
 use Prim.Native.Nat.{ℕ, _+_}
 use mathlib.Core.Bool.{cond}
 use mathlib.Core.List.{List, _++_}
 use Rattle.model.specs.Word.{headerOf, wordOf}
 use Rattle.model.specs.Refusals.{isNone}
-use Rattle.model.specs.Recipe.{announcedPlaces}
-use Rattle.model.specs.Report.{limitsText}
-use Rattle.model.specs.Sentence.{refusalReport}
-use Rattle.model.specs.Sheet.{inputCount, stepCount, sheetHeaders, sheetSteps, sheetRefusal, lastValue}
-use Rattle.model.specs.Figures.{figuresText}
+use Rattle.model_recipes.specs.Recipe.{announcedPlaces}
+use Rattle.model_texts.specs.Report.{limitsText}
+use Rattle.model_texts.specs.Sentence.{refusalReport}
+use Rattle.model_texts.specs.Sheet.{inputCount, stepCount, sheetHeaders, sheetSteps, sheetRefusal, lastValue}
+use Rattle.model_texts.specs.Figures.{figuresText}
 
 -- t: the bytes of the sheet
 unfoldable pub limitsFirst : List ℕ → List ℕ

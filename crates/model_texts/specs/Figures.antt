@@ -8,14 +8,14 @@ use lib.ListN.{length, getD}
 use Rattle.lists.specs.Bytes.{bytes}
 use Rattle.lists.specs.Four.{at}
 use Rattle.lists.specs.Table.{table}
 use Rattle.model.specs.declared.Header.{Header}
 use Rattle.model.specs.Header.{len, stored}
 use Rattle.model.specs.Places.{index}
-use Rattle.model.specs.Printed.{decimal}
+use Rattle.model_texts.specs.Printed.{decimal}
 use Rattle.model.specs.Readings.{sumTo}
-use Rattle.model.specs.Report.{when, joined}
+use Rattle.model_texts.specs.Report.{when, joined}
 use Rattle.model.specs.Tail.{tailOf}
-use Rattle.model.specs.Number.{numberText}
+use Rattle.model_texts.specs.Number.{numberText}
 
 -- n spaces
 abbrev pub blanks : ℕ → List ℕ

@@ -8,28 +8,28 @@ use lib.Dec.{leb}
 use lib.ListN.{length, drop, getD}
 use lib.Ieee.{Float}
 use Rattle.lists.specs.Chain.{chain}
 use Rattle.model.specs.declared.Header.{Header}
 use Rattle.model.specs.declared.Refusal.{Refusal}
-use Rattle.model.specs.declared.Step.{Step}
-use Rattle.model.specs.declared.RunAnswer.{RunAnswer}
-use Rattle.model.specs.declared.RunAnswer.the-variants.{Done, Refused}
+use Rattle.model_recipes.specs.declared.Step.{Step}
+use Rattle.model_recipes.specs.declared.RunAnswer.{RunAnswer}
+use Rattle.model_recipes.specs.declared.RunAnswer.the-variants.{Done, Refused}
 use Rattle.model.specs.declared.Family.the-variants.{Same, Sum, Product, Quotient, Power, Shift, Substitution}
 use Rattle.model.specs.Header.{noHeader, ones, stored}
 use Rattle.model.specs.Word.{headerOf, wordOf}
 use Rattle.model.specs.Refusals.{ask, noRefusal, isNone, zeroF, leaves, padded, cleared}
 use Rattle.model.specs.Gates.{oneGate, workGate, inGate, pairGate, withGate}
 use Rattle.model.specs.Poly.{Poly, held}
 use Rattle.model.specs.Constructed.{constant, wholeF}
 use Rattle.model.specs.Negate.{negated}
 use Rattle.model.specs.Add.{combined}
 use Rattle.model.specs.Product.{productPoly}
 use Rattle.model.specs.Quotient.{quotientPoly}
 use Rattle.model.specs.Power.{powerPoly}
 use Rattle.model.specs.Shifts.{derivativePoly, expansionPoly, shiftDownPoly}
 use Rattle.model.specs.Substitute.{substitutePoly}
-use Rattle.model.specs.Steps.{stepOf}
-use Rattle.model.specs.Recipe.{announcedStep, inputHeads, announcedSteps, total, largest}
-use Rattle.model.specs.Check.{askAt, orElse, checkRefusal}
+use Rattle.model_recipes.specs.Steps.{stepOf}
+use Rattle.model_recipes.specs.Recipe.{announcedStep, inputHeads, announcedSteps, total, largest}
+use Rattle.model_recipes.specs.Check.{askAt, orElse, checkRefusal}
 
 -- the inputs, whose coefficients lie end to end
 unfoldable pub inputValues : List ℕ → List Float → List Poly

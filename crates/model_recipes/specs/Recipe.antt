@@ -4,14 +4,14 @@ use Prim.Native.Nat.{ℕ, _+_, max}
 use mathlib.Core.List.{List, [], _∷_, map}
 use lib.ListN.{length, drop, getD}
 use Rattle.lists.specs.Chain.{chain}
 use Rattle.model.specs.declared.Header.{Header}
-use Rattle.model.specs.declared.Step.{Step}
+use Rattle.model_recipes.specs.declared.Step.{Step}
 use Rattle.model.specs.declared.Family.{Family}
 use Rattle.model.specs.declared.Family.the-variants.{Constant, Same, Sum, Product, Quotient, Power, Shift, Substitution}
 use Rattle.model.specs.Header.{noHeader, stored}
 use Rattle.model.specs.Word.{headerOf}
 use Rattle.model.specs.Announced.{announced}
-use Rattle.model.specs.Steps.{stepOf}
+use Rattle.model_recipes.specs.Steps.{stepOf}
 
 -- what each kind announces by, row by row
 unfoldable pub families : Step → List Family

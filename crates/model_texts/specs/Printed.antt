@@ -5,8 +5,8 @@ use mathlib.Core.List.{List, [], _∷_, _++_, map}
 use mathlib.Core.Bool.{cond}
 use lib.Dec.{ltb}
 use lib.Ieee.{Float, toBits, binary64}
 use Rattle.model.specs.declared.Refusal.{Refusal}
-use Rattle.model.specs.Hex.{hexLine, hexLines}
+use Rattle.model_texts.specs.Hex.{hexLine, hexLines}
 
 -- "done "
 abbrev pub doneWord : List ℕ

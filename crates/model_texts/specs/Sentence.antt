@@ -6,9 +6,9 @@ use mathlib.Core.List.{List, [], _∷_, _++_}
 use lib.Dec.{ltb}
 use lib.ListN.{getD}
 use Rattle.lists.specs.Bytes.{bytes}
 use Rattle.model.specs.declared.Refusal.{Refusal}
-use Rattle.model.specs.Printed.{refusedText}
-use Rattle.model.specs.Report.{tell, when}
+use Rattle.model_texts.specs.Printed.{refusedText}
+use Rattle.model_texts.specs.Report.{tell, when}
 
 -- by number, of a place; a sheet is never refused by 0, 2, 6 or 9 (document 01)
 unfoldable pub placeMeanings : List String

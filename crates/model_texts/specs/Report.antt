@@ -7,12 +7,12 @@ use mathlib.Core.List.{List, [], _∷_, _++_}
 use lib.Dec.{ltb}
 use lib.ListN.{length, getD}
 use Rattle.lists.specs.Bytes.{bytes}
 use Rattle.model.specs.declared.Header.{Header}
 use Rattle.model.specs.Header.{limit, len}
-use Rattle.model.specs.Steps.{stepOf}
-use Rattle.model.specs.Recipe.{headAt}
-use Rattle.model.specs.Printed.{decimal}
-use Rattle.model.specs.Trace.{usesIn, stepWord, has, limitAt, isCut, cutOperand, decider, furthest, isWhole}
+use Rattle.model_recipes.specs.Steps.{stepOf}
+use Rattle.model_recipes.specs.Recipe.{headAt}
+use Rattle.model_texts.specs.Printed.{decimal}
+use Rattle.model_texts.specs.Trace.{usesIn, stepWord, has, limitAt, isCut, cutOperand, decider, furthest, isWhole}
 
 -- a phrase and a number; a text only where a test passes
 abbrev pub tell : String → ℕ → List ℕ

@@ -8,12 +8,12 @@ use lib.ListN.{length, getD}
 use Rattle.lists.specs.Every.{every}
 use Rattle.lists.specs.Grow.{grow}
 use Rattle.lists.specs.Walk.{walk}
 use Rattle.model.specs.declared.Header.{Header}
-use Rattle.model.specs.declared.Step.{Step}
-use Rattle.model.specs.declared.Uses.{Uses}
+use Rattle.model_recipes.specs.declared.Step.{Step}
+use Rattle.model_recipes.specs.declared.Uses.{Uses}
 use Rattle.model.specs.Header.{limit}
-use Rattle.model.specs.Steps.{stepOf, usesOf}
-use Rattle.model.specs.Recipe.{headAt}
+use Rattle.model_recipes.specs.Steps.{stepOf, usesOf}
+use Rattle.model_recipes.specs.Recipe.{headAt}
 
 abbrev pub usesIn : ℕ → Uses
 usesIn w = usesOf (stepOf w .kind)

@@ -6,12 +6,12 @@ use mathlib.Core.Bool.{true, false, cond}
 use mathlib.Core.Path.{_≡_}
 use lib.Dec.{eqb}
 use lib.ListN.{length, take, getD}
 use Rattle.model.specs.declared.Header.{Header}
 use Rattle.model.specs.declared.Refusal.{Refusal}
 use Rattle.model.specs.Header.{limit, stored}
 use Rattle.model.specs.Word.{goodWord}
-use Rattle.model.specs.Steps.{stepOf, spareOf, usesOf}
-use Rattle.model.specs.Recipe.{headAt, announcedStep, announcedPlaces}
+use Rattle.model_recipes.specs.Steps.{stepOf, spareOf, usesOf}
+use Rattle.model_recipes.specs.Recipe.{headAt, announcedStep, announcedPlaces}
 
 -- 7: 0 to 16 inputs, 1 or more steps, together at most 64 places; hs the inputs' header words, ss the step words
 pub data WrongSizes (hs ss : List ℕ) : Type 0 where

@@ -10,15 +10,15 @@ use lib.ListN.{length, getD}
 use lib.Ieee.{Float, ofBits, binary64}
 use Rattle.lists.specs.Every.{every}
 use Rattle.lists.specs.Table.{table}
 use Rattle.model.specs.declared.Refusal.{Refusal}
 use Rattle.model.specs.Word.{goodWord, wordOf}
 use Rattle.model.specs.Refusals.{noRefusal, isNone, zeros}
 use Rattle.model.specs.Poly.{Poly}
-use Rattle.model.specs.Recipe.{inputHeads, announcedPlaces, announcedSteps, total, largest}
-use Rattle.model.specs.Check.{askAt, orElse, rightSizes, checkRefusal}
-use Rattle.model.specs.Run.{stepValues, noValue, runRefusal}
-use Rattle.model.specs.Hex.{isLine, wordAt}
-use Rattle.model.specs.Printed.{doneText, refusedText}
+use Rattle.model_recipes.specs.Recipe.{inputHeads, announcedPlaces, announcedSteps, total, largest}
+use Rattle.model_recipes.specs.Check.{askAt, orElse, rightSizes, checkRefusal}
+use Rattle.model_recipes.specs.Run.{stepValues, noValue, runRefusal}
+use Rattle.model_texts.specs.Hex.{isLine, wordAt}
+use Rattle.model_texts.specs.Printed.{doneText, refusedText}
 
 -- the program's own limits
 unfoldable pub ownRefusal : List ℕ → List ℕ → Refusal

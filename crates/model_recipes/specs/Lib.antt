@@ -1,0 +1,5 @@
+pub mod Steps
+pub mod Recipe
+pub mod Check
+pub mod Reasons
+pub mod Run

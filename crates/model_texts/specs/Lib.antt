@@ -1,0 +1,9 @@
+pub mod Hex
+pub mod Printed
+pub mod Sheet
+pub mod Trace
+pub mod Report
+pub mod Sentence
+pub mod Number
+pub mod Figures
+pub mod Told
