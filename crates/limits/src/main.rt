@@ -1,6 +1,6 @@
 // The program `limits`: reads a sheet on standard input and prints, in plain text, every limit before any figure.
-// No contract can say what is read or printed. `report::answer` says what is printed for a text, as much of it as is read here decides (told-front), and it is
-// printed whole (told-whole).
+// No contract can say what is read or printed. `report::answer` says what is printed for a text, as much of it as is read
+// here decides (told-front), and it is printed whole (told-whole).
 use libc::STDIN_FILENO;
 use libc::STDOUT_FILENO;
 use sheet_text::line::sheet_memory;
@@ -8,10 +8,10 @@ ghost use mathlib.Core.Path.{_≡_};
 ghost use lib.ListN.{replicate};
 
 // Memory for the answer, longer than any.
-fn answer_memory() -> [u8; 65536]
-    ensures { λ r. ⌜ r ≡ replicate 65536 0 ⌝ }
+fn answer_memory() -> [u8; 131072]
+    ensures { λ r. ⌜ r ≡ replicate 131072 0 ⌝ }
 {
-    [0u8; 65536]
+    [0u8; 131072]
 }
 
 fn main() {

@@ -2,6 +2,8 @@ pub mod Hex
 pub mod Printed
 pub mod Sheet
 pub mod Trace
+pub mod Full
+pub mod Whole
 pub mod Report
 pub mod Sentence
 pub mod Number

@@ -42,7 +42,7 @@ pub fn announce(word: u64, known: &[u64]) -> Header
 }
 
 // Whether a step is one of the three shifts.
-fn is_shift(s: Step) -> bool
+pub fn is_shift(s: Step) -> bool
     ensures { λ r. ⌜ r ≡ lowers s ⌝ }
 {
     (7 <= s.kind) & (s.kind <= 9)

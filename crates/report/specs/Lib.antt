@@ -1,4 +1,5 @@
 pub mod Tells
 pub mod Front
 pub mod Traces
+pub mod Shifted
 pub mod Long

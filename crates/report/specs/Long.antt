@@ -1,4 +1,4 @@
--- Whatever the sheet, what `limits` prints keeps to 80 columns and fits the 65,536 bytes that its program has.
+-- Whatever the sheet, what `limits` prints keeps to 80 columns and fits the 131,072 bytes that its program has.
 use Prim.Native.Nat.{ℕ, zero, suc, _+_, _-_, _*_, _≤_, _<_}
 use Prim.Native.String.{String}
 use mathlib.Core.Bool.{Bool, true, _&&_}
@@ -152,21 +152,21 @@ module _ (t : List ℕ) (z : sheetRefusal t .number ≡ 0) where
       rw (announced-at hs ss last last-in) (step-largest hs ss last last-in) in
       rw (unpack-pack (lastValue t .head) (keep .regular)) (omega (arith, count-under (keep .under), l, small-steps))
 
-  first-lines : Lines 25000 (limitsFirst t)
+  first-lines : Lines 57000 (limitsFirst t)
   unfolding limitsFirst
   first-lines =
       limits-lines (announcedPlaces hs ss) ss (inputCount t) (places-known hs ss (accepts-it .inputs)) (inputCount t + stepCount t)
       (omega (arith, accepts-it .sizes .some, steps-many t)) (few t z) (sheet-ordered t z)
       (λ p a l e. let n = sheet-short t z p a l (record { from = omega (arith, e); to = omega (arith, e) }) in omega arith)
 
-  done-kept : Kept 44000 (toldText t)
+  done-kept : Kept 76000 (toldText t)
   done-kept =
       let f = figures-lines (headerOf (wordOf (lastValue t .head))) (lastValue t .coeffs) (word-lengths (wordOf (lastValue t .head))) last-few in
       rw (told-done t z) (kept-behind first-lines (record { most = f .most; keeps = f .keeps }))
 
 -- ---- the laws
 
-told-kept : (t : List ℕ) → Kept 44000 (toldText t)
+told-kept : (t : List ℕ) → Kept 76000 (toldText t)
 told-kept t =
     decide (isNone (sheetRefusal t))
     (λ a. done-kept t (eqb-true _ _ a))
@@ -178,11 +178,11 @@ module _ (t : List ℕ) where
   pub told-columns : inColumns 0 (toldText t) ≡ true
   told-columns = told-kept t .keeps
 
-  pub told-fits : length (toldText t) ≤ 65536
+  pub told-fits : length (toldText t) ≤ 131072
   told-fits = omega (arith, told-kept t .most)
 
   -- so that all of it is printed
-  pub told-whole : {old new : List ℕ} {n : ℕ} → Printed (toldText t) old new n → 65536 ≤ length old → take n new ≡ toldText t
+  pub told-whole : {old new : List ℕ} {n : ℕ} → Printed (toldText t) old new n → 131072 ≤ length old → take n new ≡ toldText t
   told-whole {old} {new} {n} p l =
       let e : n ≡ length (toldText t) = omega (arith, p .behind, told-fits) in
       let f : take (length old) (toldText t) ≡ toldText t = take-all (length old) (toldText t) (omega (arith, told-fits)) in

@@ -7,16 +7,19 @@ use lib.Ieee.{Float}
 use lib.ListN.{length, getD, take, drop}
 use borrow.Author.Tests.{eq-eqb, ne-eqb}
 use Rattle.lists.specs.Bytes.{bytes}
+use Rattle.model.specs.declared.Header.{Header}
 use Rattle.model.specs.declared.Refusal.{Refusal}
 use Rattle.model.specs.Word.{headerOf, wordOf}
 use Rattle.model_recipes.specs.Recipe.{announcedPlaces}
-use Rattle.model_texts.specs.Report.{placeText, limitsText}
+use Rattle.model_texts.specs.Full.{fulls}
+use Rattle.model_texts.specs.Report.{placeText, cutsText, endText, verdictText, limitsText}
 use Rattle.model_texts.specs.Sentence.{placeMeanings, sheetMeanings, refusalReport}
 use Rattle.model_texts.specs.Sheet.{inputCount, stepCount, sheetHeaders, sheetSteps, sheetRefusal, lastValue}
 use Rattle.sheet.specs.declared.Solved.{Solved}
 use Rattle.sheet.specs.Solves.{Solution}
 use Rattle.model_texts.specs.Figures.{figuresText}
-use Rattle.report_lines.specs.Before.{Within, place-told, within-before}
+use Rattle.sheet.specs.Opened.{headers-many, steps-many}
+use Rattle.report_lines.specs.Before.{Within, place-told, cuts-told, end-told, verdict-told}
 use Rattle.model_texts.specs.Told.{limitsFirst, toldText}
 
 module _ (t : List ℕ) where
@@ -28,20 +31,44 @@ module _ (t : List ℕ) where
   unfolding toldText
   told-done e = rw (eq-eqb (sheetRefusal t .number) 0 e)
 
-  -- the line of every place stands before the figures
-  pub record Told (p : ℕ) : Type 0 where
-    pub place : Within (placeText (announcedPlaces (sheetHeaders t) (sheetSteps t)) (sheetSteps t) (inputCount t) p) (limitsFirst t)
+  abbrev known : List Header
+  known = announcedPlaces (sheetHeaders t) (sheetSteps t)
+
+  abbrev places : ℕ
+  places = inputCount t + stepCount t
+
+  abbrev full : List ℕ
+  full = fulls known (sheetSteps t) (inputCount t) places
+
+  -- the line of the place p, what limits cut off it, what decides the limit of the variable v of the answer, and the
+  -- verdict stand before the figures
+  pub record Told (p v : ℕ) : Type 0 where
+    pub place : Within (placeText known (sheetSteps t) (inputCount t) p) (limitsFirst t)
+    pub cuts : Within (cutsText known (sheetSteps t) (inputCount t) full p) (limitsFirst t)
+    pub ends : Within (endText known (sheetSteps t) (inputCount t) (places - 1) v) (limitsFirst t)
+    pub verdict : Within (verdictText known (sheetSteps t) (inputCount t) full (places - 1)) (limitsFirst t)
     pub figures : List ℕ
     pub is : toldText t ≡ limitsFirst t ++ figures
 
-  pub limits-first : sheetRefusal t .number ≡ 0 → (p : ℕ) → p < inputCount t + stepCount t → Told p
+  pub limits-first : sheetRefusal t .number ≡ 0 → (p v : ℕ) → p < places → v < 4 → Told p v
   unfolding limitsFirst
-  limits-first e p l =
+  limits-first e p v l k =
       record {
-        place = place-told (announcedPlaces (sheetHeaders t) (sheetSteps t)) (sheetSteps t) (inputCount t) (inputCount t + stepCount t) p l;
+        place = place-told known (sheetSteps t) (inputCount t) places p l;
+        cuts = cuts-told known (sheetSteps t) (inputCount t) places p l;
+        ends = end-told known (sheetSteps t) (inputCount t) places v k;
+        verdict = verdict-told known (sheetSteps t) (inputCount t) places;
         figures = figuresText (headerOf (wordOf (lastValue t .head))) (lastValue t .coeffs);
         is = told-done e;
       }
+
+-- what stands before the figures knows no coefficient: sheets with equal headers and steps print the same up to them
+pub words-decide : (t u : List ℕ) → sheetHeaders t ≡ sheetHeaders u → sheetSteps t ≡ sheetSteps u → limitsFirst t ≡ limitsFirst u
+unfolding limitsFirst
+words-decide t u h s =
+    let i : inputCount t ≡ inputCount u = sym (headers-many t) ∙ (ap length h ∙ headers-many u) in
+    let j : stepCount t ≡ stepCount u = sym (steps-many t) ∙ (ap length s ∙ steps-many u) in
+    rw (h, s, i, j) refl
 
 pub told-solved : {t headers steps known : List ℕ} {pool : List Float} {s : Solved} → Solution t headers steps known pool s → sheetRefusal t .number ≡ 0
     → toldText t

@@ -1,5 +1,5 @@
--- Of a sheet that is not refused: every operand stands before its step. So the place that is named for a limit is where the limit comes from, and the place that
--- is named as going further goes furthest of all that the answer is made from.
+-- Of a sheet that is not refused: every operand stands before its step. So the place that is named for a limit is where
+-- the limit comes from, and the place that is named as going further goes furthest of all that the answer is made from.
 use Prim.Native.Nat.{ℕ, _+_, _-_, _≤_, _<_}
 use mathlib.Core.List.{List}
 use mathlib.Core.Path.{_≡_}
@@ -48,14 +48,20 @@ module _ (hs ss : List ℕ) (z : checkRefusal hs ss .number ≡ 0) where
       }
 
   -- n of a shift is below a limit
+  pub shift-below : (i : ℕ) → i < length ss → Shifts (getD ss i 0)
+      → stepOf (getD ss i 0) .n < limit (headAt (announcedPlaces hs (take i ss)) (stepOf (getD ss i 0) .a)) (stepOf (getD ss i 0) .variable)
+  shift-below i l s =
+      let w : ℕ = getD ss i 0 in
+      let most = limit (headAt (announcedPlaces hs (take i ss)) (stepOf w .a)) (stepOf w .variable) in
+      decide (ltb (stepOf w .n) most)
+      (λ t. ltb-true (stepOf w .n) most t)
+      (λ t. absurd (no-reason i 4 l (large-n (λ x. no-reason i 7 l (wrong-word x)) s (ltb-false _ _ t))))
+
   pub shift-short : (i : ℕ) → i < length ss → Shifts (getD ss i 0) → stepOf (getD ss i 0) .n < 64
   shift-short i l s =
       let w : ℕ = getD ss i 0 in
-      let most = limit (headAt (announcedPlaces hs (take i ss)) (stepOf w .a)) (stepOf w .variable) in
-      let few : most ≤ 64 = ruled-at (places-known hs (take i ss) (accepts hs ss z .inputs) .at (stepOf w .a) .rules) (stepOf w .variable) (small-variable w) .most in
-      decide (ltb (stepOf w .n) most)
-      (λ t. omega (arith, ltb-true (stepOf w .n) most t))
-      (λ t. absurd (no-reason i 4 l (large-n (λ x. no-reason i 7 l (wrong-word x)) s (ltb-false _ _ t))))
+      let known = places-known hs (take i ss) (accepts hs ss z .inputs) .at (stepOf w .a) .rules in
+      omega (arith, shift-below i l s, ruled-at known (stepOf w .variable) (small-variable w) .most)
 
 module _ (t : List ℕ) (z : sheetRefusal t .number ≡ 0) where
   pub check-none : checkRefusal (sheetHeaders t) (sheetSteps t) .number ≡ 0

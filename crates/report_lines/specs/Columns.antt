@@ -2,7 +2,7 @@
 use Prim.Native.Nat.{ℕ, zero, suc, _+_, _-_, _*_, _/_, _^_, _≤_, _<_}
 use Prim.Native.String.{String}
 use mathlib.Core.Bool.{Bool, true, false, _&&_, not, cond}
-use mathlib.Core.List.{List, [], _∷_, _++_}
+use mathlib.Core.List.{List, [], _∷_, _++_, append-assoc}
 use mathlib.Core.Path.{_≡_, refl, _∙_}
 use native.Mathlib.Omega.{arith}
 use native.Mathlib.Nat.{suc-mul}
@@ -183,10 +183,19 @@ rest-then {j} {k} {n} {s} {t} p r =
       ends = λ c. column-append c s t ∙ r .ends (columnAfter c s);
     }
 
--- a semicolon, a newline, and another line
-pub rest-broken : {k n : ℕ} {t : List ℕ} → k ≤ 80 → Rest k n t → Rest 1 (n + 2) (59 ∷ 10 ∷ t)
+-- a byte, a newline, and another line
+pub rest-broken : {k n b : ℕ} {t : List ℕ} → eqb b 10 ≡ false → k ≤ 80 → Rest k n t → Rest 1 (n + 2) (b ∷ 10 ∷ t)
 unfolding inColumns columnAfter
-rest-broken l r = record { most = omega (arith, r .most); keeps = λ c h. rw (le-leb (suc c) 80 (omega arith)) (r .keeps 0 (omega arith)); ends = λ c. r .ends 0 }
+rest-broken {b = b} e l r =
+    record {
+      most = omega (arith, r .most);
+      keeps = λ c h. rw e (rw (le-leb (suc c) 80 (omega arith)) (r .keeps 0 (omega arith)));
+      ends = λ c. r .ends 0;
+    }
+
+-- texts put together otherwise
+pub rest-shift : {k n : ℕ} (x y z : List ℕ) → Rest k n (x ++ (y ++ z)) → Rest k n ((x ++ y) ++ z)
+rest-shift x y z r = rw (append-assoc x y z) r
 
 -- ---- lines
 

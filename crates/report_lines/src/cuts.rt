@@ -1,51 +1,95 @@
-// A line for each limit that is below an operand's; what decides each limit of the answer; whether the answer is whole.
+// A line for each input that fills its limit, each limit that is below an operand's, and each full length that passes its limit.
 use crate::put::put;
-use crate::put::put_either;
 use crate::put::tell;
-use crate::put::tell_if;
+use crate::why::put_break;
+use crate::why::put_limit_has;
+use crate::why::put_variable;
+use crate::why::source_of;
+use recipes_kinds::gate::head_at;
 use report_trace::cut::cut_operand;
 use report_trace::cut::has;
 use report_trace::cut::is_cut;
 use report_trace::cut::limit_at;
-use report_trace::decide::decider;
+use report_trace::decide::follow;
 use report_trace::decide::step_word;
-use report_trace::far::furthest;
-use report_trace::far::is_whole;
+use report_trace::full::MANY;
+use report_trace::full::full_at;
+use report_trace::whole::passes;
 ghost use mathlib.Core.List.{map};
-ghost use Prim.Native.Nat.{_<_};
+ghost use Prim.Native.Nat.{_<_, _≤_};
 ghost use Rattle.model.specs.Word.{headerOf};
-ghost use Rattle.model_texts.specs.Report.{joined, placeKindText, cutFromText, cutToText, endsAtText, cutLine, cutText, cutsText, furtherText, endLine, endText, verdictText};
+ghost use Rattle.model_texts.specs.Report.{joined, fallsText, fillsText, needText, needsFront, fillsLine, fallsLine, needsLine, cutText, cutsText};
 ghost use Rattle.report_lines.specs.Puts.{Puts};
 
-// A place, and whether it is an input or a step.
-fn put_place_kind(inputs: usize, p: usize, at: usize, to: &mut [u8]) -> usize
-    ensures { λ r. ⌜ Puts (placeKindText inputs p) at (now (to .entry)) (now (to .exit)) r ⌝ }
+// The limit falls from that of one operand to that of another.
+fn put_falls(
+    limit: usize,
+    operand: usize,
+    lower: usize,
+    other: usize,
+    at: usize,
+    to: &mut [u8],
+) -> usize
+    ensures { λ r. ⌜ Puts (fallsText limit operand lower other) at (now (to .entry)) (now (to .exit)) r ⌝ }
 {
-    let next = tell(b"place ", p, at, to);
-    put_either(p < inputs, b" (input)", b" (step)", next, to)
+    let a = tell(b": limit falls from ", limit, at, to);
+    let b = tell(b" (place ", operand, a, to);
+    let c = tell(b") to ", lower, b, to);
+    let d = tell(b" (place ", other, c, to);
+    put(b")\n", d, to)
 }
 
-// The place p is cut in the variable v from the limit of an operand.
-fn put_cut_from(p: usize, v: usize, limit: usize, operand: usize, at: usize, to: &mut [u8]) -> usize
-    ensures { λ r. ⌜ Puts (cutFromText p v limit operand) at (now (to .entry)) (now (to .exit)) r ⌝ }
+fn put_filled(limit: usize, at: usize, to: &mut [u8]) -> usize
+    ensures { λ r. ⌜ Puts (fillsText limit) at (now (to .entry)) (now (to .exit)) r ⌝ }
 {
-    let a = tell(b"place ", p, at, to);
-    let b = tell(b" variable ", v, a, to);
-    let c = tell(b": cut from ", limit, b, to);
-    tell(b" (place ", operand, c, to)
+    let next = tell(b": fills its limit of ", limit, at, to);
+    put(b" and may have been cut before\n", next, to)
 }
 
-// To a limit, by a place.
-fn put_cut_to(limit: usize, inputs: usize, decider: usize, at: usize, to: &mut [u8]) -> usize
-    ensures { λ r. ⌜ Puts (cutToText limit inputs decider) at (now (to .entry)) (now (to .exit)) r ⌝ }
+// How long a place would be.
+fn put_need(full: usize, at: usize, to: &mut [u8]) -> usize
+    ensures { λ r. ⌜ Puts (needText full) at (now (to .entry)) (now (to .exit)) r ⌝ }
 {
-    let a = tell(b") to ", limit, at, to);
-    let b = put(b" by ", a, to);
-    let c = put_place_kind(inputs, decider, b, to);
-    put(b"\n", c, to)
+    if full == 0 {
+        return put(b": may go on without end", at, to);
+    }
+    if full == MANY {
+        return put(b": needs more than 4000000000", at, to);
+    }
+    tell(b": needs ", full, at, to)
 }
 
-fn put_cut_line(
+// The variable, and how long it would be.
+fn put_needs_front(
+    p: usize,
+    v: usize,
+    full: usize,
+    lowered: bool,
+    at: usize,
+    to: &mut [u8],
+) -> usize
+    ensures { λ r. ⌜ Puts (needsFront p v full lowered) at (now (to .entry)) (now (to .exit)) r ⌝ }
+{
+    let a = put_variable(p, v, at, to);
+    let b = put_need(full, a, to);
+    put_break((full == 0) | (full == MANY) | lowered, b, to)
+}
+
+// Where an input fills its limit.
+fn put_fills(known: &[u64], p: usize, v: usize, at: usize, to: &mut [u8]) -> usize
+    requires { ⌜ v < 4 ⌝ }
+    ensures { λ r. ⌜ Puts (fillsLine (map headerOf (now (known .entry))) p v) at (now (to .entry)) (now (to .exit)) r ⌝ }
+{
+    let limit = limit_at(known, v, p);
+    if has(known, v, p) & (head_at(known, p).lengths[v] == limit) {
+        let next = put_variable(p, v, at, to);
+        return put_filled(limit, next, to);
+    }
+    at
+}
+
+// Where a limit is below that of an operand.
+fn put_fall(
     known: &[u64],
     steps: &[u64],
     inputs: usize,
@@ -55,189 +99,103 @@ fn put_cut_line(
     to: &mut [u8],
 ) -> usize
     requires { ⌜ v < 4 ⌝ }
-    ensures { λ r. ⌜ Puts (cutLine (map headerOf (now (known .entry))) (now (steps .entry)) inputs p v) at (now (to .entry)) (now (to .exit)) r ⌝ }
+    ensures { λ r. ⌜ Puts (fallsLine (map headerOf (now (known .entry))) (now (steps .entry)) inputs p v) at (now (to .entry)) (now (to .exit)) r ⌝ }
 {
-    let operand = cut_operand(known, v, step_word(steps, inputs, p), p);
-    let from = limit_at(known, v, operand);
-    let limit = limit_at(known, v, p);
-    let by = decider(known, v, steps, inputs, p);
-    let next = put_cut_from(p, v, from, operand, at, to);
-    put_cut_to(limit, inputs, by, next, to)
+    let word = step_word(steps, inputs, p);
+    if is_cut(known, v, word, p) {
+        let operand = cut_operand(known, v, word, p);
+        let limit = limit_at(known, v, operand);
+        let lower = limit_at(known, v, p);
+        let other = follow(known, v, steps, inputs, p);
+        let next = put_variable(p, v, at, to);
+        return put_falls(limit, operand, lower, other, next, to);
+    }
+    at
+}
+
+// Where a full length passes its limit.
+fn put_needs(
+    known: &[u64],
+    steps: &[u64],
+    inputs: usize,
+    full: &[usize],
+    p: usize,
+    v: usize,
+    at: usize,
+    to: &mut [u8],
+) -> usize
+    requires { ⌜ (p < 64) × (v < 4) ⌝ }
+    ensures { λ r. ⌜ Puts (needsLine (map headerOf (now (known .entry))) (now (steps .entry)) inputs (now (full .entry)) p v) at (now (to .entry)) (now (to .exit)) r ⌝ }
+{
+    if passes(known, full, p, v) {
+        let lowered = limit_at(known, v, p) < source_of(known, steps, inputs, p, v);
+        let a = put_needs_front(p, v, full_at(full, p, v), lowered, at, to);
+        let b = put(b"its limit is ", a, to);
+        return put_limit_has(known, steps, inputs, p, v, b, to);
+    }
+    at
 }
 
 fn put_cut(
     known: &[u64],
     steps: &[u64],
     inputs: usize,
+    full: &[usize],
     p: usize,
     v: usize,
     at: usize,
     to: &mut [u8],
 ) -> usize
-    requires { ⌜ v < 4 ⌝ }
-    ensures { λ r. ⌜ Puts (cutText (map headerOf (now (known .entry))) (now (steps .entry)) inputs p v) at (now (to .entry)) (now (to .exit)) r ⌝ }
+    requires { ⌜ (p < 64) × (v < 4) ⌝ }
+    ensures { λ r. ⌜ Puts (cutText (map headerOf (now (known .entry))) (now (steps .entry)) inputs (now (full .entry)) p v) at (now (to .entry)) (now (to .exit)) r ⌝ }
 {
-    if !(p < inputs) & is_cut(known, v, step_word(steps, inputs, p), p) {
-        return put_cut_line(known, steps, inputs, p, v, at, to);
+    if p < inputs {
+        return put_fills(known, p, v, at, to);
     }
-    at
+    let next = put_fall(known, steps, inputs, p, v, at, to);
+    put_needs(known, steps, inputs, full, p, v, next, to)
 }
 
-// The cuts of a place, variable by variable.
+// Of a place, variable by variable.
 fn put_cuts_at(
     known: &[u64],
     steps: &[u64],
     inputs: usize,
+    full: &[usize],
     p: usize,
     at: usize,
     to: &mut [u8],
 ) -> usize
-    ensures { λ r. ⌜ Puts (cutsText (map headerOf (now (known .entry))) (now (steps .entry)) inputs p) at (now (to .entry)) (now (to .exit)) r ⌝ }
+    requires { ⌜ p < 64 ⌝ }
+    ensures { λ r. ⌜ Puts (cutsText (map headerOf (now (known .entry))) (now (steps .entry)) inputs (now (full .entry)) p) at (now (to .entry)) (now (to .exit)) r ⌝ }
 {
     let mut next = at;
     let mut v = 0usize;
     while v < 4 {
-        next = put_cut(known, steps, inputs, p, v, next, to);
+        next = put_cut(known, steps, inputs, full, p, v, next, to);
         v += 1;
     }
     next
 }
 
-// The cuts of n places.
+// Of n places.
 pub fn put_cuts(
     known: &[u64],
     steps: &[u64],
     inputs: usize,
+    full: &[usize],
     n: usize,
     at: usize,
     to: &mut [u8],
 ) -> usize
-    ensures { λ r. ⌜ Puts (joined (cutsText (map headerOf (now (known .entry))) (now (steps .entry)) inputs) n) at (now (to .entry)) (now (to .exit)) r ⌝ }
+    requires { ⌜ n ≤ 64 ⌝ }
+    ensures { λ r. ⌜ Puts (joined (cutsText (map headerOf (now (known .entry))) (now (steps .entry)) inputs (now (full .entry))) n) at (now (to .entry)) (now (to .exit)) r ⌝ }
 {
     let mut next = at;
     let mut p = 0usize;
     while p < n {
-        next = put_cuts_at(known, steps, inputs, p, next, to);
+        next = put_cuts_at(known, steps, inputs, full, p, next, to);
         p += 1;
     }
     next
-}
-
-// Which place went further than the place p, if one did.
-fn put_further(
-    known: &[u64],
-    steps: &[u64],
-    inputs: usize,
-    p: usize,
-    v: usize,
-    at: usize,
-    to: &mut [u8],
-) -> usize
-    requires { ⌜ (v < 4) × (p < 64) ⌝ }
-    ensures { λ r. ⌜ Puts (furtherText (map headerOf (now (known .entry))) (now (steps .entry)) inputs p v) at (now (to .entry)) (now (to .exit)) r ⌝ }
-{
-    let far = furthest(known, v, steps, inputs, p);
-    let limit = limit_at(known, v, far);
-    if limit_at(known, v, p) < limit {
-        let next = tell(b";\n  place ", far, at, to);
-        return tell(b" went to ", limit, next, to);
-    }
-    at
-}
-
-// The variable v of the answer ends at a limit, by a place.
-fn put_ends_at(
-    v: usize,
-    limit: usize,
-    inputs: usize,
-    decider: usize,
-    at: usize,
-    to: &mut [u8],
-) -> usize
-    ensures { λ r. ⌜ Puts (endsAtText v limit inputs decider) at (now (to .entry)) (now (to .exit)) r ⌝ }
-{
-    let a = tell(b"variable ", v, at, to);
-    let b = tell(b" of the answer ends at ", limit, a, to);
-    let c = put(b", as ", b, to);
-    let d = put_place_kind(inputs, decider, c, to);
-    put(b" does", d, to)
-}
-
-fn put_end_line(
-    known: &[u64],
-    steps: &[u64],
-    inputs: usize,
-    p: usize,
-    v: usize,
-    at: usize,
-    to: &mut [u8],
-) -> usize
-    requires { ⌜ (v < 4) × (p < 64) ⌝ }
-    ensures { λ r. ⌜ Puts (endLine (map headerOf (now (known .entry))) (now (steps .entry)) inputs p v) at (now (to .entry)) (now (to .exit)) r ⌝ }
-{
-    let limit = limit_at(known, v, p);
-    let by = decider(known, v, steps, inputs, p);
-    let a = put_ends_at(v, limit, inputs, by, at, to);
-    let b = put_further(known, steps, inputs, p, v, a, to);
-    put(b"\n", b, to)
-}
-
-fn put_end(
-    known: &[u64],
-    steps: &[u64],
-    inputs: usize,
-    p: usize,
-    v: usize,
-    at: usize,
-    to: &mut [u8],
-) -> usize
-    requires { ⌜ (v < 4) × (p < 64) ⌝ }
-    ensures { λ r. ⌜ Puts (endText (map headerOf (now (known .entry))) (now (steps .entry)) inputs p v) at (now (to .entry)) (now (to .exit)) r ⌝ }
-{
-    if has(known, v, p) {
-        return put_end_line(known, steps, inputs, p, v, at, to);
-    }
-    at
-}
-
-// What decides each limit of the answer, at the place p.
-pub fn put_ends(
-    known: &[u64],
-    steps: &[u64],
-    inputs: usize,
-    p: usize,
-    at: usize,
-    to: &mut [u8],
-) -> usize
-    requires { ⌜ p < 64 ⌝ }
-    ensures { λ r. ⌜ Puts (joined (endText (map headerOf (now (known .entry))) (now (steps .entry)) inputs p) 4) at (now (to .entry)) (now (to .exit)) r ⌝ }
-{
-    let mut next = at;
-    let mut v = 0usize;
-    while v < 4 {
-        next = put_end(known, steps, inputs, p, v, next, to);
-        v += 1;
-    }
-    next
-}
-
-// Whether the answer, at the place p, is whole.
-pub fn put_verdict(
-    known: &[u64],
-    steps: &[u64],
-    inputs: usize,
-    p: usize,
-    at: usize,
-    to: &mut [u8],
-) -> usize
-    requires { ⌜ p < 64 ⌝ }
-    ensures { λ r. ⌜ Puts (verdictText (map headerOf (now (known .entry))) (now (steps .entry)) inputs p) at (now (to .entry)) (now (to .exit)) r ⌝ }
-{
-    put_either(
-        is_whole(known, steps, inputs, p),
-        b"*** WHOLE: no limit cut the answer. ***\n",
-        b"*** CUT: the answer ends before a place that it was made from. ***\n",
-        at,
-        to,
-    )
 }

@@ -1,16 +1,15 @@
--- What the report says of limits is so: a cut is found exactly where a limit is below an operand's, and the place that decides a limit has that limit.
-use Prim.Native.Nat.{ℕ, zero, suc, _≤_, _<_}
-use mathlib.Core.Bool.{Bool, true, false, _&&_, _||_, cond}
+-- What the report says of a limit that falls is so: it is told exactly where a limit is below an operand's, and not by a shift.
+use Prim.Native.Nat.{ℕ, _<_}
+use mathlib.Core.Bool.{Bool, true, false, _&&_, _||_, not, cond}
 use mathlib.Core.List.{List}
 use mathlib.Core.Path.{_≡_, refl, sym, ap, _∙_}
 use native.Mathlib.Omega.{arith}
-use lib.Dec.{ltb, eqb}
-use borrow.Author.Tests.{ltb-true, lt-ltb, eqb-true}
+use lib.Dec.{ltb}
+use borrow.Author.Tests.{ltb-true, lt-ltb}
 use Rattle.lists.specs.Test.{decide, and-left, and-right}
-use Rattle.lists.specs.Walk.{walk}
 use Rattle.model.specs.declared.Header.{Header}
 use Rattle.model_recipes.specs.Steps.{stepOf}
-use Rattle.model_texts.specs.Trace.{usesIn, stepWord, has, limitAt, cutFrom, isCut, cutOperand, equals, follow, decider}
+use Rattle.model_texts.specs.Trace.{usesIn, shiftsIn, has, limitAt, cutFrom, isCut, cutOperand}
 
 -- x is an operand of the step w: one that its kind uses
 pub data Operand (w x : ℕ) : Type 0 where
@@ -37,46 +36,34 @@ module _ (known : List Header) (v : ℕ) where
   or-true true b e f = let y : _≡_ {A = ℕ} 0 1 = ap (λ (z : Bool). cond z 0 1) f in absurd (omega (arith, y))
   or-true false b e f = e
 
-  -- a cut is reported where the limit is below that of the operand that is named
-  pub cut-is : (w p : ℕ) → isCut known v w p ≡ true → Operand w (cutOperand known v w p) × Below p (cutOperand known v w p)
+  -- a fall is reported where the limit is below that of the operand that is named, and never of a shift
+  pub cut-is : (w p : ℕ) → isCut known v w p ≡ true
+      → (shiftsIn v w ≡ false) × (Operand w (cutOperand known v w p) × Below p (cutOperand known v w p))
   unfolding isCut cutOperand
   cut-is w p e =
       let x : Bool = cutFrom known v p (usesIn w .a) (stepOf w .a) in
       let y : Bool = cutFrom known v p (usesIn w .b) (stepOf w .b) in
-      let h = and-left (has known v p) (x || y) e in
-      let o = and-right (has known v p) (x || y) e in
-      decide x
-      (λ t. let b = below-from p (usesIn w .a) (stepOf w .a) h t in rw t (first (b .0) refl, b .1))
-      (λ t. let b = below-from p (usesIn w .b) (stepOf w .b) h (or-true x y o t) in rw t (second (b .0) refl, b .1))
+      let i = and-left (has known v p && not (shiftsIn v w)) (x || y) e in
+      let h = and-left (has known v p) (not (shiftsIn v w)) i in
+      let o = and-right (has known v p && not (shiftsIn v w)) (x || y) e in (
+        not-true (shiftsIn v w) (and-right (has known v p) (not (shiftsIn v w)) i),
+        decide x
+            (λ t. let b = below-from p (usesIn w .a) (stepOf w .a) h t in rw t (first (b .0) refl, b .1))
+            (λ t. let b = below-from p (usesIn w .b) (stepOf w .b) h (or-true x y o t) in rw t (second (b .0) refl, b .1)),
+      )
+    where
+      not-true : (b : Bool) → not b ≡ true → b ≡ false
+      not-true true e = sym e
+      not-true false e = refl
 
   -- and wherever it is below that of any
-  pub is-cut : (w p x : ℕ) → Operand w x → Below p x → isCut known v w p ≡ true
+  pub is-cut : (w p x : ℕ) → shiftsIn v w ≡ false → Operand w x → Below p x → isCut known v w p ≡ true
   unfolding isCut
-  is-cut w p x (first u e) b =
-      let c : cutFrom known v p (usesIn w .a) (stepOf w .a) ≡ true = from-below p (usesIn w .a) (stepOf w .a) u (rw e at b) in rw (b .here, c)
-  is-cut w p x (second u e) b =
-      let c : cutFrom known v p (usesIn w .b) (stepOf w .b) ≡ true = from-below p (usesIn w .b) (stepOf w .b) u (rw e at b) in
-      decide (cutFrom known v p (usesIn w .a) (stepOf w .a)) (λ t. rw (b .here, t)) (λ t. rw (b .here, t, c))
-
-  module _ (ss : List ℕ) (inputs : ℕ) where
-    follow-limit : (p : ℕ) → limitAt known v (follow known v ss inputs p) ≡ limitAt known v p
-    unfolding follow
-    follow-limit p =
-        let w = stepWord ss inputs p in
-        let a : Bool = equals known v p (usesIn w .a) (stepOf w .a) in
-        let b : Bool = equals known v p (usesIn w .b) (stepOf w .b) in
-        decide (ltb p inputs) (λ i. rw i)
-        (λ i.
-        decide a
-        (λ t. rw (i, t) (eqb-true _ _ (and-right (usesIn w .a && has known v (stepOf w .a)) (eqb (limitAt known v (stepOf w .a)) (limitAt known v p)) t)))
-        (λ t. decide b (λ r. rw (i, t, r) (eqb-true _ _ (and-right (usesIn w .b && has known v (stepOf w .b)) (eqb (limitAt known v (stepOf w .b)) (limitAt known v p)) r))) (λ r. rw (i, t, r))))
-
-    walk-limit : (n k p : ℕ) → limitAt known v (walk (λ j. follow known v ss inputs) n k p) ≡ limitAt known v p
-    unfolding walk
-    walk-limit zero k p = refl
-    walk-limit (suc n) k p = walk-limit n (suc k) (follow known v ss inputs p) ∙ follow-limit p
-
-    -- the place named has the limit of the place that it is named for
-    pub decider-limit : (p : ℕ) → limitAt known v (decider known v ss inputs p) ≡ limitAt known v p
-    unfolding decider
-    decider-limit p = walk-limit 64 0 p
+  is-cut w p x n (first u e) b =
+      let c : cutFrom known v p (usesIn w .a) (stepOf w .a) ≡ true =
+      from-below p (usesIn w .a) (stepOf w .a) u (rw e at b) in
+      rw (b .here, n, c)
+  is-cut w p x n (second u e) b =
+      let c : cutFrom known v p (usesIn w .b) (stepOf w .b) ≡ true =
+      from-below p (usesIn w .b) (stepOf w .b) u (rw e at b) in
+      decide (cutFrom known v p (usesIn w .a) (stepOf w .a)) (λ t. rw (b .here, n, t)) (λ t. rw (b .here, n, t, c))

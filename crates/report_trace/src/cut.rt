@@ -1,6 +1,7 @@
-// Where a step's limit is below that of an operand.
+// Where a step's limit is below that of an operand, and not by a shift.
 use model_recipes::Uses;
 use recipes_kinds::gate::head_at;
+use recipes_kinds::gate::is_shift;
 use recipes_kinds::step::step_of;
 use recipes_kinds::step::uses_of;
 ghost use mathlib.Core.Path.{_≡_};
@@ -8,7 +9,7 @@ ghost use mathlib.Core.Bool.{cond};
 ghost use mathlib.Core.List.{map};
 ghost use Prim.Native.Nat.{_<_};
 ghost use Rattle.model.specs.Word.{headerOf};
-ghost use Rattle.model_texts.specs.Trace.{usesIn, has, limitAt, cutFrom, isCut, cutOperand};
+ghost use Rattle.model_texts.specs.Trace.{usesIn, has, limitAt, cutFrom, shiftsIn, isCut, cutOperand};
 
 // x where the test passed, else y.
 pub fn pick(test: bool, x: usize, y: usize) -> usize
@@ -46,14 +47,23 @@ fn is_cut_from(known: &[u64], v: usize, p: usize, used: bool, x: usize) -> bool
     used & has(known, v, x) & (limit_at(known, v, p) < limit_at(known, v, x))
 }
 
-// Whether the limit of the place p, whose step word is given, is below that of an operand.
+// Whether a step is a shift in the variable v: its limit is its operand's, less n.
+pub fn is_shift_in(word: u64, v: usize) -> bool
+    ensures { λ r. ⌜ r ≡ shiftsIn v word ⌝ }
+{
+    let s = step_of(word);
+    is_shift(s) & (s.variable == v)
+}
+
+// Whether the limit of the place p, whose step word is given, is below that of an operand, and not by a shift.
 pub fn is_cut(known: &[u64], v: usize, word: u64, p: usize) -> bool
     requires { ⌜ v < 4 ⌝ }
     ensures { λ r. ⌜ r ≡ isCut (map headerOf (now (known .entry))) v word p ⌝ }
 {
     let s = step_of(word);
     let u = uses_in(word);
-    has(known, v, p) & (is_cut_from(known, v, p, u.a, s.a) | is_cut_from(known, v, p, u.b, s.b))
+    let stays = has(known, v, p) & !is_shift_in(word, v);
+    stays & (is_cut_from(known, v, p, u.a, s.a) | is_cut_from(known, v, p, u.b, s.b))
 }
 
 // The operand that it is cut from.

@@ -1,5 +1,6 @@
-// The place that decides a limit: back through operands with the same limit.
+// The place that decides a limit: back through operands with the same limit, and through shifts.
 use crate::cut::has;
+use crate::cut::is_shift_in;
 use crate::cut::limit_at;
 use crate::cut::pick;
 use crate::cut::uses_in;
@@ -8,7 +9,7 @@ ghost use mathlib.Core.Path.{_≡_};
 ghost use mathlib.Core.List.{map};
 ghost use Prim.Native.Nat.{_-_, _<_};
 ghost use Rattle.model.specs.Word.{headerOf};
-ghost use Rattle.model_texts.specs.Trace.{equals, stepWord, follow, decider};
+ghost use Rattle.model_texts.specs.Trace.{equals, stepWord, follow, decider, lowering, seek, lowerer};
 
 // How far behind the inputs a place stands, 0 for an input.
 fn behind(inputs: usize, p: usize) -> usize
@@ -33,8 +34,8 @@ fn is_equal(known: &[u64], v: usize, p: usize, used: bool, x: usize) -> bool
     used & has(known, v, x) & (limit_at(known, v, x) == limit_at(known, v, p))
 }
 
-// One step back from the place p to an operand with the same limit, if there is one.
-fn follow(known: &[u64], v: usize, steps: &[u64], inputs: usize, p: usize) -> usize
+// One step back from the place p: to what a shift lowered, or to an operand with the same limit, if there is one.
+pub fn follow(known: &[u64], v: usize, steps: &[u64], inputs: usize, p: usize) -> usize
     requires { ⌜ v < 4 ⌝ }
     ensures { λ r. ⌜ r ≡ follow (map headerOf (now (known .entry))) v (now (steps .entry)) inputs p ⌝ }
 {
@@ -42,7 +43,8 @@ fn follow(known: &[u64], v: usize, steps: &[u64], inputs: usize, p: usize) -> us
     let s = step_of(word);
     let u = uses_in(word);
     let last = pick(is_equal(known, v, p, u.b, s.b), s.b, p);
-    let first = pick(is_equal(known, v, p, u.a, s.a), s.a, last);
+    let to_first = is_shift_in(word, v) | is_equal(known, v, p, u.a, s.a);
+    let first = pick(to_first, s.a, last);
     pick(p < inputs, p, first)
 }
 
@@ -55,6 +57,40 @@ pub fn decider(known: &[u64], v: usize, steps: &[u64], inputs: usize, p: usize) 
     let mut k = 0usize;
     while k < 64 {
         place = follow(known, v, steps, inputs, place);
+        k += 1;
+    }
+    place
+}
+
+// Whether the place p is a shift that lowers the limit of the variable v.
+fn is_lowering(v: usize, steps: &[u64], inputs: usize, p: usize) -> bool
+    ensures { λ r. ⌜ r ≡ lowering v (now (steps .entry)) inputs p ⌝ }
+{
+    let word = step_word(steps, inputs, p);
+    !(p < inputs) & (is_shift_in(word, v) & (0 < step_of(word).n))
+}
+
+// One step back, but not past a shift that lowers the limit.
+fn seek(known: &[u64], v: usize, steps: &[u64], inputs: usize, p: usize) -> usize
+    requires { ⌜ v < 4 ⌝ }
+    ensures { λ r. ⌜ r ≡ seek (map headerOf (now (known .entry))) v (now (steps .entry)) inputs p ⌝ }
+{
+    pick(
+        is_lowering(v, steps, inputs, p),
+        p,
+        follow(known, v, steps, inputs, p),
+    )
+}
+
+// The nearest shift that lowers the limit on the way back from the place p, where there is one.
+pub fn lowerer(known: &[u64], v: usize, steps: &[u64], inputs: usize, p: usize) -> usize
+    requires { ⌜ v < 4 ⌝ }
+    ensures { λ r. ⌜ r ≡ lowerer (map headerOf (now (known .entry))) v (now (steps .entry)) inputs p ⌝ }
+{
+    let mut place = p;
+    let mut k = 0usize;
+    while k < 64 {
+        place = seek(known, v, steps, inputs, place);
         k += 1;
     }
     place

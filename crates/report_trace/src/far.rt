@@ -1,4 +1,4 @@
-// The place that goes furthest of all that a place is made from, and whether a place is whole.
+// The place that goes furthest of all that a place is made from.
 use crate::cut::has;
 use crate::cut::limit_at;
 use crate::cut::pick;
@@ -10,7 +10,7 @@ ghost use mathlib.Core.List.{map};
 ghost use Prim.Native.Nat.{_<_};
 ghost use lib.ListN.{getD};
 ghost use Rattle.model.specs.Word.{headerOf};
-ghost use Rattle.model_texts.specs.Trace.{farther, furthestNext, furthest, goesOn, isWhole};
+ghost use Rattle.model_texts.specs.Trace.{farther, furthestNext, furthest};
 
 // Of two places the one that goes further, the first only where it counts.
 fn farther(known: &[u64], v: usize, counts: bool, x: usize, y: usize) -> usize
@@ -24,11 +24,11 @@ fn farther(known: &[u64], v: usize, counts: bool, x: usize, y: usize) -> usize
     )
 }
 
-// What was found for the place p; 0 past those found.
-fn found_at(found: &[usize], p: usize) -> usize
-    ensures { λ r. ⌜ r ≡ getD (now (found .entry)) p 0 ⌝ }
+// What was found for the place p; `none` past those found.
+pub fn found_at(found: &[usize], p: usize, none: usize) -> usize
+    ensures { λ r. ⌜ r ≡ getD (now (found .entry)) p none ⌝ }
 {
-    if p < found.len() { found[p] } else { 0 }
+    if p < found.len() { found[p] } else { none }
 }
 
 // The place that goes furthest of all that the next place is made from; `found`: those of the places before it.
@@ -45,14 +45,14 @@ fn furthest_next(known: &[u64], v: usize, steps: &[u64], inputs: usize, found: &
         known,
         v,
         here & u.b & has(known, v, s.b),
-        found_at(found, s.b),
+        found_at(found, s.b, 0),
         p,
     );
     let first = farther(
         known,
         v,
         here & u.a & has(known, v, s.a),
-        found_at(found, s.a),
+        found_at(found, s.a, 0),
         last,
     );
     pick(p < inputs, p, first)
@@ -70,28 +70,4 @@ pub fn furthest(known: &[u64], v: usize, steps: &[u64], inputs: usize, p: usize)
         k += 1;
     }
     furthest_next(known, v, steps, inputs, &found[..p])
-}
-
-// Whether the place p goes as far in the variable v as all that it is made from.
-fn goes_on(known: &[u64], v: usize, steps: &[u64], inputs: usize, p: usize) -> bool
-    requires { ⌜ v < 4 ⌝ ∗ ⌜ p < 64 ⌝ }
-    ensures { λ r. ⌜ r ≡ goesOn (map headerOf (now (known .entry))) v (now (steps .entry)) inputs p ⌝ }
-{
-    let far = furthest(known, v, steps, inputs, p);
-    !(has(known, v, p) & (limit_at(known, v, p) < limit_at(known, v, far)))
-}
-
-// Whether the place p is whole: no limit cut it.
-pub fn is_whole(known: &[u64], steps: &[u64], inputs: usize, p: usize) -> bool
-    requires { ⌜ p < 64 ⌝ }
-    ensures { λ r. ⌜ r ≡ isWhole (map headerOf (now (known .entry))) (now (steps .entry)) inputs p ⌝ }
-{
-    let mut v = 0;
-    while v < 4 {
-        if !goes_on(known, v, steps, inputs, p) {
-            return false;
-        }
-        v += 1;
-    }
-    true
 }

@@ -1,35 +1,45 @@
-use native.Mathlib.Omega.{arith}
-use Rattle.lists.specs.Bytes.{bytes}
-use Rattle.report_lines.specs.Puts.{puts-then}
 use Rattle.model_texts.specs.Report.{limitsText}
+use native.Mathlib.Omega.{arith}
+use mathlib.Core.Path.{sym}
+use lib.Seq.{length-take-le}
 use borrow.Author.Needs.{needs}
 use Rattle.report_lines.proofs.put_limits.Statement.{statement}
 use Rattle.report_lines.proofs.put_limits.Tie as tie
 use Rattle.report_lines.proofs.put_limits.Reads as reads
 use Rattle.report_lines.proofs.put_limits.Lts as lts
-use Rattle.report_lines.proofs.cuts.put_cuts.Reads as put-cuts-reads
-use Rattle.report_lines.proofs.cuts.put_ends.Reads as put-ends-reads
-use Rattle.report_lines.proofs.cuts.put_verdict.Reads as put-verdict-reads
-use Rattle.report_lines.proofs.lines.put_places.Reads as put-places-reads
-use Rattle.report_lines.proofs.put.put.Reads as put-reads
+use Rattle.report_lines.proofs.put_limits_with.Reads as put-limits-with-reads
+use Rattle.report_trace.proofs.full.fulls.Reads as fulls-reads
+
+fulls-requires : tie.Need-fulls-requires
+fulls-requires c κs = search needs
+
+mul-end : tie.Need-mul-end
+mul-end c = search needs
+
+array-share-prefix-full : tie.Need-array-share-prefix-full
+array-share-prefix-full c = search needs
+
+slice-aggregate-put-limits-with : tie.Need-slice-aggregate-put-limits-with
+slice-aggregate-put-limits-with c = sym (length-take-le _ _ (omega arith))
+
+put-limits-with-requires : tie.Need-put-limits-with-requires
+put-limits-with-requires c κs = search needs
+
+same-length : tie.Need-same-length
+same-length c = search needs
 
 returns : tie.Need-returns
-unfolding limitsText bytes
-returns c = puts-then (c .before .before .before .before .before .before .before .before .before .before .before .before .before .before .before .before .before .before .before .before .before .before .before .put .ensures) (puts-then (c .before .before .before .before .before .before .before .before .before .before .before .before .before .before .before .before .before .before .put2 .ensures) (puts-then (c .before .before .before .before .before .before .before .before .before .before .before .before .before .before .put-places .ensures) (puts-then (c .before .before .before .before .before .before .before .before .before .before .put-cuts .ensures) (puts-then (c .before .before .before .before .before .before .put-ends .ensures) (c .before .before .put-verdict .ensures)))))
+unfolding limitsText
+returns c = rw (← c .before .before .before .before .before .fulls .ensures) (c .before .before .put-limits-with .ensures)
 
 pub put-limits-spec : {M : Type 1} → statement M
 put-limits-spec =
     tie.close
     (tie.spec
-    (λ c. search needs)
-    (λ c κs. search needs)
-    (λ c. search needs)
-    (λ c κs. search needs)
-    (λ c κs. search needs)
-    (λ c κs. search needs)
-    (λ c. search needs)
-    (λ c κs. search needs)
-    (λ c. search needs)
-    (λ c κs. search needs)
-    (λ c. omega arith)
+    fulls-requires
+    mul-end
+    array-share-prefix-full
+    slice-aggregate-put-limits-with
+    put-limits-with-requires
+    same-length
     returns)

@@ -1,8 +1,8 @@
-use borrow.Author.Needs.{needs}
 use Prim.Native.Nat.{_-_}
 use Rattle.model.specs.Word.{headerOf}
 use mathlib.Core.List.{map}
 use native.Mathlib.Omega.{arith}
+use borrow.Author.Needs.{needs}
 use Rattle.report_lines.specs.Puts.{Putting, putting-none, putting-more, putting-end}
 use Rattle.model_texts.specs.Report.{cutText, cutsText}
 use Rattle.report_lines.proofs.cuts.put_cuts_at.Statement.{statement}
@@ -12,13 +12,22 @@ use Rattle.report_lines.proofs.cuts.put_cuts_at.Lts as lts
 use Rattle.report_lines.proofs.cuts.put_cut.Reads as put-cut-reads
 
 abbrev Inv-loop : tie.InvT-loop
-Inv-loop known steps inputs p at to₀ next₀ v₀ to next v = Putting (cutText (map headerOf known) steps inputs p) 4 at to₀ to next v
+Inv-loop known steps inputs full p at to₀ next₀ v₀ to next v = Putting (cutText (map headerOf known) steps inputs full p) 4 at to₀ to next v
 
 abbrev μ-loop : tie.MeasureT-loop
-μ-loop known steps inputs p at to₀ next₀ v₀ to next v = 4 - v
+μ-loop known steps inputs full p at to₀ next₀ v₀ to next v = 4 - v
 
 loop-holds : tie.Need-loop-holds Inv-loop μ-loop
 loop-holds c = putting-none _ _ _ _
+
+put-cut-requires : tie.Need-put-cut-requires Inv-loop μ-loop
+put-cut-requires c κs = search needs
+
+add-v : tie.Need-add-v Inv-loop μ-loop
+add-v c = search needs
+
+loop-less : tie.Need-loop-less Inv-loop μ-loop
+loop-less c = search needs
 
 loop-again : tie.Need-loop-again Inv-loop μ-loop
 loop-again c = putting-more (c .before .before .before .before .before .loop .inv) (c .before .before .before .before .loop-test .taken) (omega arith) (c .before .before .put-cut .ensures)
@@ -37,9 +46,9 @@ put-cuts-at-spec =
     Inv-loop
     μ-loop
     loop-holds
-    (λ c κs. search needs)
-    (λ c. search needs)
-    (λ c. search needs)
+    put-cut-requires
+    add-v
+    loop-less
     loop-again
     same-length
     returns)

@@ -19,7 +19,7 @@ returns : tie.Need-returns
 returns c = rw (c .before .before .behind .ensures)
 
 returns-2 : tie.Need-returns-2
-returns-2 c = rw (← c .before .behind .ensures) (past (c .before .before .before .args .steps .now) (c .before .behind .result) (c .if1 .left))
+returns-2 c = rw (← c .before .behind .ensures) (past (c .before .before .before .args .steps .now) (c .before .behind .result) 0 (c .if1 .left))
 
 pub step-word-spec : {M : Type 1} → statement M
 step-word-spec =

@@ -1,3 +1,4 @@
+use Rattle.report_trace.specs.Traced.{inside-any}
 use Rattle.report_trace.specs.Traced.{past}
 use borrow.Author.Needs.{needs}
 use Rattle.report_trace.proofs.far.found_at.Statement.{statement}
@@ -12,10 +13,10 @@ shared-slice-read-result : tie.Need-shared-slice-read-result
 shared-slice-read-result c = search needs
 
 returns : tie.Need-returns
-returns c = search needs
+returns c = inside-any (c .before .before .args .found .now) (c .before .before .args .p) 0 (c .before .before .args .none) (c .before .if1 .taken)
 
 returns-2 : tie.Need-returns-2
-returns-2 c = past (c .before .args .found .now) (c .before .args .p) (c .if1 .left)
+returns-2 c = past (c .before .args .found .now) (c .before .args .p) (c .before .args .none) (c .if1 .left)
 
 pub found-at-spec : {M : Type 1} → statement M
 found-at-spec = tie.close (tie.spec mul-result shared-slice-read-result returns returns-2)
