@@ -1,5 +1,7 @@
--- Document 01, 'Announced limits and lengths': the header that each family of operations announces from its operands' headers alone.
--- Total, and a header that keeps the rules (its count aside) whatever v, n and e are: what a gate refuses is announced to nobody.
+-- REFERENCE 3.3. Document 01, 'Announced limits and lengths': the header that each family of operations announces from
+-- its operands' headers alone.
+-- Total, and a header that keeps the rules (its count aside) whatever v, n and e are: what a gate refuses is announced
+-- to nobody.
 use Prim.Native.Nat.{ℕ, _+_, _-_, _*_, min, max}
 use mathlib.Core.List.{List, [], _∷_}
 use mathlib.Core.Bool.{Bool, cond}

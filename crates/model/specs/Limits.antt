@@ -1,4 +1,5 @@
--- Document 01, port order 1: the smaller limits, cutting, and the lengths of a sum and of a product.
+-- REFERENCE 3.1 to 3.3. Document 01, port order 1: the smaller limits, cutting, and the lengths of a sum and of a
+-- product.
 use Prim.Native.Nat.{ℕ, _+_, _-_, min, max}
 use mathlib.Core.List.{List, [], _∷_}
 use mathlib.Core.Bool.{Bool, cond}

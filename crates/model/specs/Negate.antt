@@ -1,4 +1,5 @@
--- Document 01, port order 3: negate. Each place by itself; limits and lengths unchanged; refusals 1, 2, 5.
+-- REFERENCE 4.5. Document 01, port order 3: negate. Each place by itself; limits and lengths unchanged; refusals 1, 2,
+-- 5.
 use Prim.Native.Nat.{ℕ}
 use mathlib.Core.List.{List}
 use lib.ListN.{length, getD}

@@ -1,4 +1,5 @@
--- Polynomials as values: a header and the list of its stored coefficients (document 01, 'What a polynomial is here').
+-- REFERENCE 1.2, 3.2. Polynomials as values: a header and the list of its stored coefficients (document 01, 'What a
+-- polynomial is here').
 -- A block is what an operation computes with once its limits are settled: lengths and stored places.
 use Prim.Native.Nat.{ℕ}
 use mathlib.Core.List.{List}

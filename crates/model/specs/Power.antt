@@ -1,4 +1,5 @@
--- Document 01, port order 7: `pow` by squaring, without the last squaring, which reaches no answer. 0 gives one with no variables, 1 a copy.
+-- REFERENCE 4.11. Document 01, port order 7: `pow` by squaring, without the last squaring, which reaches no answer. 0
+-- gives one with no variables, 1 a copy.
 -- The exponent is any u32. Refusals 1, 2, 5, 6.
 use Prim.Native.Nat.{ℕ, zero, suc, _/_, _%_}
 use mathlib.Core.List.{List, [], _∷_}

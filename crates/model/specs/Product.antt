@@ -1,6 +1,7 @@
--- Document 01, port order 4: product. Shortcuts in order: either is zero, tested before the cut; then, after it, left one, right one; left constant,
--- right constant (c times x); left linear, right linear; general. A linear factor gives m times the other shifted up by one and, unless c is zero,
--- adds the other times c, which is the product again. Refusals 1, 2, 5, 6.
+-- REFERENCE 4.7. Document 01, port order 4: product. Shortcuts in order: either is zero, tested before the cut; then,
+-- after it, left one, right one; left constant, right constant (c times x); left linear, right linear; general. A
+-- linear factor gives m times the other shifted up by one and, unless c is zero, adds the other times c, which is the
+-- product again. Refusals 1, 2, 5, 6.
 use Prim.Native.Nat.{ℕ, zero, suc, _+_, _-_, min}
 use mathlib.Core.List.{List, [], _∷_}
 use mathlib.Core.Bool.{Bool, true, false, _&&_, _||_, cond}

@@ -1,6 +1,8 @@
--- Document 01, port order 5: quotient. Divisor one, divisor constant (each place divided), else the recurrence of the source's `div`: rows negated,
--- then x added, then divided by the divisor's row 0. Refusals 1, 2, 5, 6.
--- One place of the result is `div` seen from that place: a number that goes through the variables, and at each is lessened by what the rows before give.
+-- REFERENCE 4.8. Document 01, port order 5: quotient. Divisor one, divisor constant (each place divided), else the
+-- recurrence of the source's `div`: rows negated, then x added, then divided by the divisor's row 0. Refusals 1, 2, 5,
+-- 6.
+-- One place of the result is `div` seen from that place: a number that goes through the variables, and at each is
+-- lessened by what the rows before give.
 -- ly and r are the lengths of the divisor and of the result, k the index of the place; n variables are left, from v on.
 -- q has the places of the result before this one that agree with k in the variables before v.
 use Prim.Native.Nat.{ℕ, zero, suc, _+_, _-_, _*_}

@@ -1,4 +1,5 @@
--- Document 01, port order 2, readings: numbers read off a polynomial, and its parts in one variable.
+-- REFERENCE 4.3, 4.4. Document 01, port order 2, readings: numbers read off a polynomial, and its parts in one
+-- variable.
 use Prim.Native.Nat.{ℕ, _+_, min}
 use mathlib.Core.List.{List, [], _∷_}
 use mathlib.Core.Bool.{cond}

@@ -1,5 +1,6 @@
--- Document 01, 'Refusal numbers': the lowest number wins in one operation; a refusal changes no buffer; done, the announced places hold the answer,
--- then +0.0, the scratch's first 8 times the announced count are +0.0, and the rest is untouched.
+-- REFERENCE 5.1, 5.4. Document 01, 'Refusal numbers': the lowest number wins in one operation; a refusal changes no
+-- buffer; done, the announced places hold the answer, then +0.0, the scratch's first 8 times the announced count are
+-- +0.0, and the rest is untouched.
 use Prim.Native.Nat.{ℕ, _-_, _*_}
 use mathlib.Core.List.{List, [], _∷_, _++_}
 use mathlib.Core.Bool.{Bool, true, false, _&&_, cond}

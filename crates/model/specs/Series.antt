@@ -1,9 +1,13 @@
--- Document 01, port order 6: exp and log, the recurrences as the source writes them, over the variables, row by row. The head, the value at the
--- constant term, is handed in. Lengths are 1 where the operand's is 1, else the limit. Refusals 1, 2, 5, 6.
--- Line numbers are those of src/multivariate_taylor.rs of source document 000; lines 406 to 430 (`exp` and `log` of the type) are `seriesShape`, `expOf` and `logOf`.
--- The source tests for one long variable before it recurses, and over all axes left; here a leading variable of length 1 has a row 0 alone, so the test comes to
--- the long variable itself. Of a row's axes the operand's and the result's are long together.
--- lx and r are the lengths of the operand and of the result; n variables are left, from v on; xs is the operand's block of those variables.
+-- REFERENCE 4.9, 4.10. Document 01, port order 6: exp and log, the recurrences as the source writes them, over the
+-- variables, row by row. The head, the value at the constant term, is handed in. Lengths are 1 where the operand's is
+-- 1, else the limit. Refusals 1, 2, 5, 6.
+-- Line numbers are those of src/multivariate_taylor.rs of source document 000; lines 406 to 430 (`exp` and `log` of the
+-- type) are `seriesShape`, `expOf` and `logOf`.
+-- The source tests for one long variable before it recurses, and over all axes left; here a leading variable of length
+-- 1 has a row 0 alone, so the test comes to the long variable itself. Of a row's axes the operand's and the result's
+-- are long together.
+-- lx and r are the lengths of the operand and of the result; n variables are left, from v on; xs is the operand's block
+-- of those variables.
 use Prim.Native.Nat.{ℕ, zero, suc, _+_, _-_, _*_, min, max}
 use mathlib.Core.List.{List, [], _∷_}
 use mathlib.Core.Bool.{Bool, false, cond}

@@ -1,5 +1,7 @@
--- Document 01, 'Recipes' and 'Refusal numbers': the reasons to refuse a recipe, each with its place and its number; what a reason is, and not how it is found.
--- Sizes are at no place in particular: 64. A recipe has at most 64 places. 3, 4 and 5 are reasons of a step whose word is right.
+-- REFERENCE 6.4. Document 01, 'Recipes' and 'Refusal numbers': the reasons to refuse a recipe, each with its place and
+-- its number; what a reason is, and not how it is found.
+-- Sizes are at no place in particular: 64. A recipe has at most 64 places. 3, 4 and 5 are reasons of a step whose word
+-- is right.
 use Prim.Native.Nat.{ℕ, suc, _+_, _≤_, _<_}
 use mathlib.Core.List.{List}
 use mathlib.Core.Bool.{true, false, cond}

@@ -1,6 +1,8 @@
--- Document 01, 'Recipes' and 'Refusal numbers': the run of a recipe. Each step's value is its operation's, of its operands' values (demand 2); steps work on
--- true headers. The run makes the check, then tests 2, 5, 6. When done, step values lie end to end in the pool at announced counts, true headers go to the
--- buffer of words, one per step, the scratch's first 8 times the largest count are +0.0, and the rest is untouched. A refusal changes no buffer.
+-- REFERENCE 6.5. Document 01, 'Recipes' and 'Refusal numbers': the run of a recipe. Each step's value is its
+-- operation's, of its operands' values (demand 2); steps work on true headers. The run makes the check, then tests 2,
+-- 5, 6. When done, step values lie end to end in the pool at announced counts, true headers go to the buffer of words,
+-- one per step, the scratch's first 8 times the largest count are +0.0, and the rest is untouched. A refusal changes no
+-- buffer.
 use Prim.Native.Nat.{ℕ, _*_}
 use mathlib.Core.List.{List, [], _∷_, _++_, map}
 use mathlib.Core.Bool.{true, false, _&&_, cond}

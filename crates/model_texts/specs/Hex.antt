@@ -1,5 +1,5 @@
--- Document 01, the program `recipe`: lines of 16 lower-case hex digits, each ended by a newline. t is the bytes of a text; a byte past its end counts as 0,
--- which is neither digit nor newline.
+-- REFERENCE 7.1. Document 01, the program `recipe`: lines of 16 lower-case hex digits, each ended by a newline. t is
+-- the bytes of a text; a byte past its end counts as 0, which is neither digit nor newline.
 use Prim.Native.Nat.{ℕ, _+_, _-_, _*_, _/_, _%_, _^_}
 use mathlib.Core.List.{List, [], _∷_, _++_}
 use mathlib.Core.Bool.{Bool, _&&_, _||_, cond}

@@ -1,5 +1,6 @@
--- Document 01, the program `recipe`: what it prints. `done` and the step count, then the last header, then its coefficients; or one line of `refused`, number,
--- place, single spaces between. NaN prints as 7ff8000000000000.
+-- REFERENCE 7.4. Document 01, the program `recipe`: what it prints. `done` and the step count, then the last header,
+-- then its coefficients; or one line of `refused`, number, place, single spaces between. NaN prints as
+-- 7ff8000000000000.
 use Prim.Native.Nat.{ℕ, zero, suc, _+_, _/_, _%_}
 use mathlib.Core.List.{List, [], _∷_, _++_, map}
 use mathlib.Core.Bool.{cond}

@@ -1,7 +1,9 @@
--- Document 01, the program `recipe`: a sheet is lines of one word each. Word one is inputs (8 bits), steps (8), zeros; then input headers, input coefficients,
--- steps. Reading in order, it is refused at the first of: a malformed or missing line (8), word one's sizes or zeros (7), an input header (1, at its place),
--- a byte after the last line (8); 7 and 8 are at no place in particular (64). Then comes the check, then the program's own limits: 256 coefficients an input
--- or step, 2,048 for all inputs, 2,048 a pool (else 5, 64). Then the run, on buffers exactly as long as the check says.
+-- REFERENCE 7.1 to 7.4. Document 01, the program `recipe`: a sheet is lines of one word each. Word one is inputs (8
+-- bits), steps (8), zeros; then input headers, input coefficients, steps. Reading in order, it is refused at the first
+-- of: a malformed or missing line (8), word one's sizes or zeros (7), an input header (1, at its place), a byte after
+-- the last line (8); 7 and 8 are at no place in particular (64). Then comes the check, then the program's own limits:
+-- 256 coefficients an input or step, 2,048 for all inputs, 2,048 a pool (else 5, 64). Then the run, on buffers exactly
+-- as long as the check says.
 use Prim.Native.Nat.{ℕ, zero, suc, _+_, _-_, _*_, _/_, _%_, _^_}
 use mathlib.Core.List.{List}
 use mathlib.Core.Bool.{Bool, _&&_, cond}
