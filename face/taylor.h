@@ -1,21 +1,24 @@
 /* taylor.h: truncated power series in up to four variables, on buffers that the caller lends.
  *
- * A polynomial is a header word and its coefficients, last variable fastest. The header word has, most significant bit first, the number of
- * variables (3 bits), then four times limit less one (6) and length less one (6), then 13 zero bits; fields of missing variables are zero.
+ * A polynomial is a header word and its coefficients, last variable fastest. The header word has, most significant bit
+ * first, the number of variables (3 bits), then four times limit less one (6) and length less one (6), then 13 zero
+ * bits; fields of missing variables are zero.
  *
  * Every function answers one word.
- *   - A function that makes a polynomial answers its header word, whose low five bits are zero, or a refusal, whose low five bits are not:
- *     number + 256 * place. Done, the announced places of `out` hold the coefficients, then +0.0, and 8 times as many of `scratch` hold +0.0;
- *     the rest is untouched. Refused, no buffer changes.
- *   - A function that reads a float answers 0 and writes it through its last pointer, or answers a refusal and writes nothing.
+ *   - A function that makes a polynomial answers its header word, whose low five bits are zero, or a refusal, whose low
+ *     five bits are not: number + 256 * place. Done, the announced places of `out` hold the coefficients, then +0.0,
+ *     and 8 times as many of `scratch` hold +0.0; the rest is untouched. Refused, no buffer changes.
+ *   - A function that reads a float answers 0 and writes it through its last pointer, or answers a refusal and writes
+ *     nothing.
  *   - taylor_extract_linear answers 0 for no and 1 + variable for yes, or a refusal + 2^32.
  *
- * Refusals: 1 header word or limit breaks the rules; 2 fewer coefficients than the header says; 3 variable, or a missing variable's index;
- * 4 k, order or index not below the limit; 5 more than 4,096 places, or `out` too short; 6 `scratch` shorter than 8 times the announced
- * count. The lowest wins. The place of these refusals is 64, for none in particular.
+ * Refusals: 1 header word or limit breaks the rules; 2 fewer coefficients than the header says; 3 variable, or a
+ * missing variable's index; 4 k, order or index not below the limit; 5 more than 4,096 places, or `out` too short;
+ * 6 `scratch` shorter than 8 times the announced count. The lowest wins. The place of these refusals is 64, for none in
+ * particular.
  *
- * A buffer is a pointer and a count of doubles. The pointer is aligned and not null, also where the count is 0. `out`, `scratch` and what a
- * float is written to overlap nothing else that is passed. */
+ * A buffer is a pointer and a count of doubles. The pointer is aligned and not null, also where the count is 0. `out`,
+ * `scratch` and what a float is written to overlap nothing else that is passed. */
 #ifndef TAYLOR_H
 #define TAYLOR_H
 
@@ -98,23 +101,25 @@ uint64_t taylor_log(uint64_t head, const double *a, size_t a_len, double value, 
 uint64_t taylor_pow(uint64_t head, const double *a, size_t a_len, uint32_t e, double *out, size_t out_len, double *scratch,
                     size_t scratch_len);
 
-/* the n-th derivative in v; the same without its factor n!; the coefficients of v moved down by n, the sum of those that would leave added
-   at 0: refusals 1, 2, 3, 4, 5 */
+/* the n-th derivative in v; the same without its factor n!; the coefficients of v moved down by n, the sum of those
+   that would leave added at 0: refusals 1, 2, 3, 4, 5 */
 uint64_t taylor_derivative(uint64_t head, const double *a, size_t a_len, uint64_t v, uint64_t n, double *out, size_t out_len);
 uint64_t taylor_taylor_expansion_of_coeff(uint64_t head, const double *a, size_t a_len, uint64_t v, uint64_t n, double *out, size_t out_len);
 uint64_t taylor_shift_down(uint64_t head, const double *a, size_t a_len, uint64_t v, uint64_t n, double *out, size_t out_len);
 
-/* a with b for its variable v, cut to the smaller limits; a itself where it has no such variable: refusals 1, 2, 5, 6 */
+/* a with b for its variable v, cut to the smaller limits; a itself where it has no such variable: refusals 1, 2, 5,
+   6 */
 uint64_t taylor_subst_var(uint64_t ah, const double *a, size_t a_len, uint64_t bh, const double *b, size_t b_len, uint64_t v, double *out,
                           size_t out_len, double *scratch, size_t scratch_len);
 
-/* whether a recipe can be run, from header and step words alone: 0, and through the pointers the pool total, the largest announced step count and
-   the input coefficient total; or refusals 1, 3, 4, 5, 7, and nothing is written */
+/* whether a recipe can be run, from header and step words alone: 0, and through the pointers the pool total, the
+   largest announced step count and the input coefficient total; or refusals 1, 3, 4, 5, 7, and nothing is written */
 uint64_t taylor_check(const uint64_t *headers, size_t headers_len, const uint64_t *steps, size_t steps_len, uint64_t *pool, uint64_t *largest,
                       uint64_t *inputs);
 
-/* the steps of a recipe, on the inputs' coefficients end to end: 0, each step's value in the pool at its announced count, its header word in words;
-   the scratch has 8 times the largest announced count: refusals 1 to 7, and nothing is written */
+/* the steps of a recipe, on the inputs' coefficients end to end: 0, each step's value in the pool at its announced
+   count, its header word in words; the scratch has 8 times the largest announced count: refusals 1 to 7, and nothing is
+   written */
 uint64_t taylor_run(const uint64_t *headers, size_t headers_len, const double *coefficients, size_t coefficients_len, const uint64_t *steps,
                     size_t steps_len, double *pool, size_t pool_len, uint64_t *words, size_t words_len, double *scratch, size_t scratch_len);
 

@@ -1,5 +1,6 @@
-//! Declarations of libtaylor.a, and safe functions over them. A polynomial is a header word and a slice of coefficients; results are written to
-//! slices that the caller lends. taylor.h says what each function does and by which numbers it refuses.
+//! Declarations of libtaylor.a, and safe functions over them. A polynomial is a header word and a slice of
+//! coefficients; results are written to slices that the caller lends. taylor.h says what each function does and by
+//! which numbers it refuses.
 
 /// Why a call was refused: the number, and the place it is about, 64 for none in particular. No buffer was changed.
 #[derive(Clone, Copy, Debug, PartialEq, Eq)]
@@ -90,8 +91,8 @@ type Pair = unsafe extern "C" fn(u64, *const f64, usize, u64, *const f64, usize,
 type Shift = unsafe extern "C" fn(u64, *const f64, usize, u64, u64, *mut f64, usize) -> u64;
 type Series = unsafe extern "C" fn(u64, *const f64, usize, f64, *mut f64, usize, *mut f64, usize) -> u64;
 
-// In each call below the pointers and counts are those of slices that are borrowed for the call, and the `&mut` ones overlap nothing; the
-// library is proved to stay within the counts for all words and numbers.
+// In each call below the pointers and counts are those of slices that are borrowed for the call, and the `&mut` ones
+// overlap nothing; the library is proved to stay within the counts for all words and numbers.
 
 /// A function of two polynomials.
 fn pair(call: Pair, (ah, a): (u64, &[f64]), (bh, b): (u64, &[f64]), out: &mut [f64], scratch: &mut [f64]) -> Result<u64, Refusal> {

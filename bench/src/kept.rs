@@ -1,6 +1,6 @@
-//! Plain Rust held to the promise that the library keeps: header words and lent buffers, refused by the same numbers, the answer followed by
-//! +0.0, 8 times the announced count of the scratch at +0.0. No unsafe code, no proof; the arithmetic is plain.rs's. What is inlined was tried, and the
-//! faster way kept.
+//! Plain Rust held to the promise that the library keeps: header words and lent buffers, refused by the same numbers,
+//! the answer followed by +0.0, 8 times the announced count of the scratch at +0.0. No unsafe code, no proof; the
+//! arithmetic is plain.rs's. What is inlined was tried, and the faster way kept.
 use crate::plain::{count, extract_linear, general, Block, Linear};
 
 /// Number of variables, limits and stored lengths.
@@ -101,7 +101,8 @@ fn smaller(a: &Header, b: &Header, v: usize) -> usize {
     }
 }
 
-/// The product to the front of `out`; its lengths. The choice of the way repeats plain.rs's: sharing it was tried, and made plain slower by half.
+/// The product to the front of `out`; its lengths. The choice of the way repeats plain.rs's: sharing it was tried, and
+/// made plain slower by half.
 #[inline(always)]
 fn product(x: Block, y: Block, limits: &[usize; 4], out: &mut [f64]) -> [usize; 4] {
     match (x.coeffs, y.coeffs) {

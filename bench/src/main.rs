@@ -1,5 +1,5 @@
-//! The same inputs through four programs: the proved library, plain Rust, plain Rust held to the library's promise, and the Rust module over
-//! its stand-ins.
+//! The same inputs through four programs: the proved library, plain Rust, plain Rust held to the library's promise, and
+//! the Rust module over its stand-ins.
 //!
 //!     bench                          compares results by bits, then times: a row a case
 //!     bench cases                    the names of the cases
@@ -14,7 +14,8 @@ use ours::{Aligned, Ours};
 use plain::Poly;
 use std::hint::black_box;
 
-/// What one case is made of: a polynomial with `lengths` as its limits and lengths, and a right factor, or what is put for its first variable.
+/// What one case is made of: a polynomial with `lengths` as its limits and lengths, and a right factor, or what is put
+/// for its first variable.
 struct Case {
     operation: &'static Operation,
     factor: &'static str,
@@ -166,8 +167,8 @@ impl Case {
         self.lengths.iter().product()
     }
 
-    /// The left operand is full, or has 16 rows of its first variable; the right one is full, linear in the first variable, or a constant,
-    /// under the same limits. A power has none.
+    /// The left operand is full, or has 16 rows of its first variable; the right one is full, linear in the first
+    /// variable, or a constant, under the same limits. A power has none.
     fn operands(&self) -> (Poly, Poly) {
         let mut numbers = Numbers(7);
         let (vars, limits) = (self.lengths.len(), padded(self.lengths));
@@ -226,8 +227,9 @@ fn batch(mut call: impl FnMut()) -> u64 {
     (2e-3 / timed(3, &mut call).max(1e-8)).ceil() as u64
 }
 
-/// One row: every program a batch, round after round; medians, and medians of the rounds' own ratios. The last number is what it takes
-/// in plain Rust to clear a scratch, which the library's contract asks of it and which the others have not to do.
+/// One row: every program a batch, round after round; medians, and medians of the rounds' own ratios. The last number
+/// is what it takes in plain Rust to clear a scratch, which the library's contract asks of it and which the others have
+/// not to do.
 fn row(case: &Case) -> String {
     let mut peers: Vec<Option<Peer>> = PEERS.iter().map(|p| Peer::new(p, case)).collect();
     let mut first = None;

@@ -1,4 +1,5 @@
-//! The Rust module, unchanged, over its stand-ins. Its operators take their operands by value, so a call clones them first.
+//! The Rust module, unchanged, over its stand-ins. Its operators take their operands by value, so a call clones them
+//! first.
 use crate::plain::Poly;
 use genfer::multivariate_taylor::TaylorPoly;
 use genfer::number::F64;

@@ -5,7 +5,8 @@ use crate::plain::Poly;
 #[allow(dead_code)]
 mod taylor;
 
-/// A buffer that starts on a 64-byte bound. It is never freed, so that a call reads it with no arithmetic of the benchmark's own.
+/// A buffer that starts on a 64-byte bound. It is never freed, so that a call reads it with no arithmetic of the
+/// benchmark's own.
 pub struct Aligned(&'static mut [f64]);
 
 impl Aligned {

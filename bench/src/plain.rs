@@ -1,7 +1,8 @@
 //! The same operations in plain Rust on flat vectors: slices, no unsafe, the result in a vector that is used again.
 //! The order of every sum and every shortcut are the source's, so the bits are the same.
 
-/// Number of variables, limits, stored lengths (1 and 1 for a missing variable) and coefficients, last variable fastest.
+/// Number of variables, limits, stored lengths (1 and 1 for a missing variable) and coefficients, last variable
+/// fastest.
 #[derive(Clone, Default)]
 pub struct Poly {
     pub vars: usize,
@@ -268,7 +269,8 @@ pub fn pow(a: &Poly, mut e: u32, out: &mut Poly) {
     }
 }
 
-/// b for the variable v of a, by Horner's rule from the highest power. Neither of the source's shortcuts fits the cases measured.
+/// b for the variable v of a, by Horner's rule from the highest power. Neither of the source's shortcuts fits the cases
+/// measured.
 pub fn subst_var(a: &Poly, v: usize, b: &Poly, out: &mut Poly) {
     let (vars, limits) = smaller(a, b);
     *out = Poly { vars, limits, lengths: [1; 4], coeffs: vec![0.0] };

@@ -1,4 +1,5 @@
-//! A run of a recipe beside its operations: 40 steps on values of 16 by 16, and the same 40 operations called one by one through their entries.
+//! A run of a recipe beside its operations: 40 steps on values of 16 by 16, and the same 40 operations called one by
+//! one through their entries.
 #[path = "../../face/taylor.rs"]
 #[allow(dead_code)]
 mod taylor;

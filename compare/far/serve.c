@@ -1,9 +1,10 @@
-/* The archive is for x86-64. Where the machine is another, this x86-64 program calls it under an emulator: it reads calls from standard
- * input, makes them, and writes answers and lent buffers to standard output. It needs no C library; src/far.rs is the other end.
+/* The archive is for x86-64. Where the machine is another, this x86-64 program calls it under an emulator: it reads
+ * calls from standard input, makes them, and writes answers and lent buffers to standard output. It needs no C library;
+ * src/far.rs is the other end.
  *
- * A call, in words of 64 bits: the operation's number (that of a stored sample), HEAD and SIZES below, then the coefficients of a and b
- * and what out and scratch hold. The answer: the function's word, then what out and scratch hold. The word is all ones where anything else
- * in memory was changed. */
+ * A call, in words of 64 bits: the operation's number (that of a stored sample), HEAD and SIZES below, then the
+ * coefficients of a and b and what out and scratch hold. The answer: the function's word, then what out and scratch
+ * hold. The word is all ones where anything else in memory was changed. */
 #include "../../face/taylor.h"
 
 enum { NUMBERS = 7, HEAD = 3 + NUMBERS, SIZES = 4, GUARD = 4, MOST = 1 << 17 };
@@ -98,7 +99,8 @@ static int same(size_t from, size_t to) {
     return 1;
 }
 
-/* Reads the four buffers into memory, with guards around each; `at` is where each begins, then where the last guard ends. */
+/* Reads the four buffers into memory, with guards around each; `at` is where each begins, then where the last guard
+ * ends. */
 static void load(size_t at[SIZES + 1]) {
     size_t end = 0;
     for (int i = 0; i < SIZES; i++) {

@@ -30,7 +30,8 @@ impl Case {
         [self.ah, self.bh].into_iter().chain(self.numbers.iter().copied()).chain(floats)
     }
 
-    /// The operation's name, then hex words: lent places of out and scratch, how many numbers and coefficients of a and b, all of these.
+    /// The operation's name, then hex words: lent places of out and scratch, how many numbers and coefficients of a and
+    /// b, all of these.
     pub fn text(&self) -> String {
         let sizes = [self.out, self.scratch, self.numbers.len(), self.a.len(), self.b.len()];
         format!("{}{}{}", self.op.name, hex(sizes.map(|n| n as u64)), hex(self.rest()))

@@ -1,4 +1,5 @@
-//! The readings by their pointers: the wrappers of face/taylor.rs do not show what a refused call leaves in a float's cell.
+//! The readings by their pointers: the wrappers of face/taylor.rs do not show what a refused call leaves in a float's
+//! cell.
 
 use expected::case::Case;
 

@@ -1,5 +1,5 @@
-//! The calls in which the results differ on purpose (docs/DIFFERENCES.md), at the smallest input of each: what the source does there, and
-//! what is expected here instead. The source's own debug assertions are on.
+//! The calls in which the results differ on purpose (docs/DIFFERENCES.md), at the smallest input of each: what the
+//! source does there, and what is expected here instead. The source's own debug assertions are on.
 
 use crate::case::Case;
 use crate::operations::named;

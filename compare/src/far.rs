@@ -1,5 +1,5 @@
-//! The library's functions on a machine that its archive is not for: each call goes to far/serve.c, which makes it under an emulator.
-//! The environment says where both are: COMPARE_EMULATOR, COMPARE_SERVE.
+//! The library's functions on a machine that its archive is not for: each call goes to far/serve.c, which makes it
+//! under an emulator. The environment says where both are: COMPARE_EMULATOR, COMPARE_SERVE.
 
 use expected::case::Case;
 use expected::operations::numbered;

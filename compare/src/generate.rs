@@ -197,8 +197,8 @@ fn number_combinations(op: &Operation) -> Vec<Vec<u64>> {
     })
 }
 
-/// Every short case of an operation: all short headers of its operands with all short numbers, each with exact buffers and then,
-/// where there are not too many, twice more with other coefficients and buffers.
+/// Every short case of an operation: all short headers of its operands with all short numbers, each with exact buffers
+/// and then, where there are not too many, twice more with other coefficients and buffers.
 pub fn short(op: &'static Operation, seed: u64, mut visit: impl FnMut(Case)) {
     let all = shapes::short();
     let firsts = if op.operands > 0 { all.as_slice() } else { &all[..1] };

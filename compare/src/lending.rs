@@ -1,4 +1,5 @@
-//! A recipe with the lengths of the buffers lent to its run: its text, and what has to come out, by the check and the source alone.
+//! A recipe with the lengths of the buffers lent to its run: its text, and what has to come out, by the check and the
+//! source alone.
 
 use crate::case::SENTINEL;
 use crate::recipes::{check, values, Recipe, Refused};

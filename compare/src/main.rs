@@ -1,9 +1,11 @@
 //! Compares the library with the Rust that it is a rewrite of.
 //!
 //!     compare SEED COUNT [OPERATION]    every short case and COUNT random ones of each operation, or of one
-//!     replay FILE                       the cases of a file, a line each: those that a difference printed, or a stored sample's
+//!     replay FILE                       the cases of a file, a line each: those that a difference printed, or a stored
+//!                                       sample's
 //!
-//! The last line says how many cases were compared and how many differ. The exit status is 1 where one differs or none was compared.
+//! The last line says how many cases were compared and how many differ. The exit status is 1 where one differs or none
+//! was compared.
 
 mod cells;
 mod check;

@@ -1,4 +1,5 @@
-//! What a call that is not refused answers: the source's own operation on a `TaylorPoly` made from header and coefficients.
+//! What a call that is not refused answers: the source's own operation on a `TaylorPoly` made from header and
+//! coefficients.
 
 use crate::case::Case;
 use crate::words::Header;
@@ -95,8 +96,9 @@ pub fn shift_down(case: &Case) -> Given {
     Given::Poly(a(case).shift_down(Var(number(case, 0)), number(case, 1)))
 }
 
-/// Of a zero, and of a line in v through 0, the source keeps the first operand's axes, and of a zero its lengths too, whatever the smaller limits
-/// are (docs/DIFFERENCES.md). These calls are made with the first operand cut to them and with all axes.
+/// Of a zero, and of a line in v through 0, the source keeps the first operand's axes, and of a zero its lengths too,
+/// whatever the smaller limits are (docs/DIFFERENCES.md). These calls are made with the first operand cut to them and
+/// with all axes.
 pub fn subst_var(case: &Case) -> Given {
     let (v, by) = (Var(number(case, 0)), b(case));
     let header = Header::read(case.ah).expect("a good header");
@@ -158,7 +160,8 @@ fn constant_under(x: F64, limits: Vec<usize>) -> Poly {
     TaylorPoly::new(array, limits)
 }
 
-/// With limits the source stores no axes, which its own invariant forbids: what is left of it is the constant (docs/DIFFERENCES.md).
+/// With limits the source stores no axes, which its own invariant forbids: what is left of it is the constant
+/// (docs/DIFFERENCES.md).
 pub fn from_u32_with(case: &Case) -> Given {
     let (c, limits) = (case.numbers[0] as u32, limits(&case.numbers[1..]));
     if limits.is_empty() {

@@ -1,5 +1,5 @@
-//! The library's answer to a case, and what it leaves in the buffers lent. `run` says by `--cfg face="NAME"` which functions the archive
-//! has; the others are left out.
+//! The library's answer to a case, and what it leaves in the buffers lent. `run` says by `--cfg face="NAME"` which
+//! functions the archive has; the others are left out.
 
 use crate::cells;
 use crate::taylor::{self, Refusal};

@@ -1,6 +1,8 @@
-//! The program `recipe` on sheets: what it prints, byte by byte, and how it takes input and output that are not as it would like.
+//! The program `recipe` on sheets: what it prints, byte by byte, and how it takes input and output that are not as it
+//! would like.
 //!
-//!     programs SEED COUNT WORD ..    COUNT sheets from a seed, then the large and the awkward ones; the words start the program
+//!     programs SEED COUNT WORD ..    COUNT sheets from a seed, then the large and the awkward ones; the words start
+//!                                    the program
 //!
 //! The last line says how many inputs were given and how many answers differ. The exit status is 1 where one does.
 
@@ -45,8 +47,8 @@ impl Program {
         Command::new(&self.words[0]).args(&self.words[1..]).stdin(Stdio::piped()).stdout(output).spawn()
     }
 
-    /// What it prints for an input that is written in pieces of so many bytes, with a pause behind each. A program that is wrong may print
-    /// before the end of its input: it is read meanwhile.
+    /// What it prints for an input that is written in pieces of so many bytes, with a pause behind each. A program that
+    /// is wrong may print before the end of its input: it is read meanwhile.
     fn printed(&self, input: &[u8], piece: usize, pause: Duration) -> Result<Vec<u8>> {
         let mut child = self.start(Stdio::piped())?;
         let (stdin, mut stdout) = (child.stdin.take().expect("its input"), child.stdout.take().expect("its output"));

@@ -1,4 +1,5 @@
-//! What the check of a recipe answers, from document 01's 'Recipes' and 'Refusal numbers'; and what its steps give, by the source.
+//! What the check of a recipe answers, from document 01's 'Recipes' and 'Refusal numbers'; and what its steps give, by
+//! the source.
 
 use crate::case::Case;
 use crate::operations::named;

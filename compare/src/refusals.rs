@@ -1,5 +1,6 @@
-//! Which calls are refused, by which number, and what the others announce: document 01's 'Announced limits and lengths' and 'Refusal
-//! numbers', on plain numbers. The source asserts, panics or goes on where these refuse, so nothing here is from it.
+//! Which calls are refused, by which number, and what the others announce: document 01's 'Announced limits and lengths'
+//! and 'Refusal numbers', on plain numbers. The source asserts, panics or goes on where these refuse, so nothing here
+//! is from it.
 
 use crate::case::Case;
 use crate::words::{Header, COUNT, LIMIT, VARIABLES};
@@ -57,7 +58,8 @@ fn worked(case: &Case, announced: Header) -> Gate {
     Ok(announced)
 }
 
-/// The smaller limits (a variable that one lacks takes the other's), and lengths by `length` from the limit and the two cut lengths.
+/// The smaller limits (a variable that one lacks takes the other's), and lengths by `length` from the limit and the two
+/// cut lengths.
 fn joined(a: &Header, b: &Header, length: fn(usize, usize, usize) -> usize) -> Header {
     let vars = a.vars.max(b.vars);
     let limits: Vec<usize> = (0..vars)

@@ -1,6 +1,7 @@
 //! A stored sample: small cases and what has to come out, from the refusals and the source alone. Without the library.
 //!
-//!     sample SEED COUNT CASES ANSWERS [OPERATION ..]    COUNT cases an operation and their answers, a line each, to two files
+//!     sample SEED COUNT CASES ANSWERS [OPERATION ..]    COUNT cases an operation and their answers, a line each, to
+//!                                                       two files
 
 use expected::case::{Case, SENTINEL};
 use expected::generate::{self, Size};

@@ -83,7 +83,8 @@ const BIG: [&[usize]; 16] = [
     &[2, 3, 11, 62],
 ];
 
-/// Two headers of whose lengths some shape near 4,096 places is made up: each length of it is the larger, or one less than the sum.
+/// Two headers of whose lengths some shape near 4,096 places is made up: each length of it is the larger, or one less
+/// than the sum.
 pub fn big(rng: &mut Rng) -> (Header, Header) {
     let whole = rng.pick(&BIG);
     for _ in 0..50 {

@@ -26,7 +26,8 @@ fn with_line(k: usize, text: &str) -> Vec<u8> {
     (lines.join("\n") + "\n").into_bytes()
 }
 
-/// 8: each line with a digit less, one more, in capitals, other bytes, a carriage return, an empty line; ends cut and added to.
+/// 8: each line with a digit less, one more, in capitals, other bytes, a carriage return, an empty line; ends cut and
+/// added to.
 fn texts() -> Vec<Vec<u8>> {
     let mut all = vec![vec![], b"\n".to_vec(), b"0".to_vec(), b"0101000000000000".to_vec(), EXAMPLE.as_bytes().to_vec()];
     for (k, word) in EXAMPLE.lines().enumerate() {
@@ -45,7 +46,8 @@ fn texts() -> Vec<Vec<u8>> {
     all
 }
 
-/// 7 of word one: sizes around their edges, every spare bit; also with nothing behind it, and with text that is no line.
+/// 7 of word one: sizes around their edges, every spare bit; also with nothing behind it, and with text that is no
+/// line.
 fn sizes() -> Vec<Vec<u8>> {
     let mut all: Vec<Vec<u8>> = recipe_edges::sizes().iter().map(sheet).collect();
     let recipe = holding(&[line(3, 3)], &[2.0, 3.0, 1.0], &[step(9, 0, 0, 0, 1)]);
@@ -87,8 +89,8 @@ fn padded_line(n: usize) -> Recipe {
     holding(&heads, &coefficients, &[step(4, 0, 1, 0, 0)])
 }
 
-/// 5 64: 256 an input and a step, and 258 (no lengths multiply to 257); 2,048 for all inputs and for a pool, and one more. Counts are
-/// announced ones.
+/// 5 64: 256 an input and a step, and 258 (no lengths multiply to 257); 2,048 for all inputs and for a pool, and one
+/// more. Counts are announced ones.
 fn limits() -> Vec<Vec<u8>> {
     let wide = word(&[16, 16]);
     let negated = |steps: u64| (0..steps).map(|place| step(1, place, 0, 0, 0)).collect::<Vec<u64>>();
@@ -150,8 +152,8 @@ pub fn full() -> Vec<u8> {
     sheet(&counting(&[word(&[16, 16]); 8], &steps))
 }
 
-/// 16 inputs of 4,096 coefficients and 48 steps, the longest sheet: refused for its size alone, or for its last step; spoilt near its end;
-/// and input longer than any sheet.
+/// 16 inputs of 4,096 coefficients and 48 steps, the longest sheet: refused for its size alone, or for its last step;
+/// spoilt near its end; and input longer than any sheet.
 pub fn large() -> Vec<(&'static str, Vec<u8>)> {
     let longest = |last: u64| {
         let steps = [vec![constant(1); 47], vec![last]].concat();

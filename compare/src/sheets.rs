@@ -1,4 +1,5 @@
-//! A sheet of the program `recipe`: what it has to print for any bytes, and sheets from a seed (document 01, 'Examples to hold').
+//! A sheet of the program `recipe`: what it has to print for any bytes, and sheets from a seed (document 01, 'Examples
+//! to hold').
 
 use crate::recipes::{check, right_sizes, values, Recipe, Refused, Step};
 use crate::refusals::PLACE;

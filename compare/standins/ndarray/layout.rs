@@ -64,7 +64,8 @@ impl Layout {
         self
     }
 
-    /// The same elements seen in a larger shape: axes are joined from the last on, one of length 1 or a missing one is repeated.
+    /// The same elements seen in a larger shape: axes are joined from the last on, one of length 1 or a missing one is
+    /// repeated.
     pub fn broadcast(&self, shape: &[usize]) -> Self {
         assert!(self.axes <= shape.len(), "more axes than the shape has");
         let mut wide = Layout { first: self.first, ..Layout::block(shape) };

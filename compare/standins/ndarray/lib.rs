@@ -1,6 +1,7 @@
-//! A stand-in for the parts of crate ndarray that the source uses, written from its public description. It moves data: what it computes
-//! on elements is what the source's text asks for at that place (a closure, `+=`, `-=`, `-`), one element after the other, and `sum_axis`,
-//! whose order the text leaves open: here upwards from zero, as document 01 decides.
+//! A stand-in for the parts of crate ndarray that the source uses, written from its public description. It moves data:
+//! what it computes on elements is what the source's text asks for at that place (a closure, `+=`, `-=`, `-`), one
+//! element after the other, and `sum_axis`, whose order the text leaves open: here upwards from zero, as document 01
+//! decides.
 
 mod elementwise;
 mod layout;

@@ -2,8 +2,8 @@
 
 use std::marker::PhantomData;
 
-/// Memory that a layout's places count from. A store's layout is made by the constructors and reshapings of this crate alone, so that
-/// every place of it lies in the memory, and no two views that may be written have a place in common.
+/// Memory that a layout's places count from. A store's layout is made by the constructors and reshapings of this crate
+/// alone, so that every place of it lies in the memory, and no two views that may be written have a place in common.
 pub trait Data {
     type Elem;
     fn start(&self) -> *const Self::Elem;
