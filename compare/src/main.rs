@@ -19,7 +19,7 @@ mod taylor;
 
 use check::Tally;
 use expected::case::Case;
-use expected::operations::OPERATIONS;
+use expected::operations::{known, OPERATIONS};
 use std::process::ExitCode;
 
 fn main() -> ExitCode {
@@ -52,6 +52,7 @@ fn number(text: &str) -> Result<u64, String> {
 
 fn compare(seed: &str, count: &str, name: Option<&str>) -> Result<bool, String> {
     let (seed, count) = (number(seed)?, number(count)?);
+    known(name.as_slice())?;
     let mut tallies = vec![];
     for op in OPERATIONS.iter().filter(|op| name.is_none_or(|name| name == op.name)) {
         if ours::has(op.name) {

@@ -136,3 +136,14 @@ pub fn named(name: &str) -> Option<&'static Operation> {
 pub fn numbered(code: u8) -> Option<&'static Operation> {
     OPERATIONS.iter().find(|op| op.code == code)
 }
+
+/// Names the first that is no operation.
+pub fn known(names: &[impl AsRef<str>]) -> Result<(), String> {
+    match names.iter().map(AsRef::as_ref).find(|name| named(name).is_none()) {
+        None => Ok(()),
+        Some(name) => {
+            let all: Vec<&str> = OPERATIONS.iter().map(|op| op.name).collect();
+            Err(format!("there is no operation '{name}'; there are: {}", all.join(", ")))
+        }
+    }
+}

@@ -5,7 +5,7 @@
 
 use expected::case::{Case, SENTINEL};
 use expected::generate::{self, Size};
-use expected::operations::{Gives, OPERATIONS};
+use expected::operations::{known, Gives, OPERATIONS};
 use expected::outcome::{expected, Answer, Outcome};
 use expected::rng::Rng;
 use expected::words::bits;
@@ -31,6 +31,7 @@ fn main() -> ExitCode {
 }
 
 fn write(seed: u64, count: u64, cases: &str, answers: &str, names: &[String]) -> Result<(), String> {
+    known(names)?;
     let (mut questions, mut replies) = (String::new(), String::new());
     let asked = |name: &str| names.is_empty() || names.iter().any(|n| n == name);
     for op in OPERATIONS.iter().filter(|op| asked(op.name)) {
