@@ -3,8 +3,9 @@
 
     tests/limits.py SEED COUNT PROGRAM.. -- RECIPE..
 
-runs COUNT random sheets through both programs (each a command of one or more words). The limits, cuts and the verdict are worked out here; the coefficients
-of the answer are taken from what `recipe` prints, and so is every refusal. Prints how many sheets there were and the first difference, if any."""
+runs COUNT random sheets through both programs (each a command of one or more words). The limits, cuts and the verdict
+are worked out here; the coefficients of the answer are taken from what `recipe` prints, and so is every refusal. Prints
+how many sheets there were and the first difference, if any. tests/limits starts it with the built programs."""
 import random, struct, subprocess, sys
 
 NAMES = ["constant", "negate", "add", "subtract", "multiply", "divide", "power", "derivative", "taylor_expansion_of_coeff", "shift_down", "subst_var"]
@@ -117,7 +118,8 @@ def limits_text(inputs, steps, known):
         if p >= inputs:
             kind, a, b, v, number = fields(step(p))
             used = USES[kind]
-            what = NAMES[kind] + "".join([" %d" % a] * ("a" in used) + [" %d" % b] * ("b" in used) + [" v%d" % v] * ("v" in used) + [" n%d" % number] * ("n" in used))
+            words = [(" %d" % a, "a"), (" %d" % b, "b"), (" v%d" % v, "v"), (" n%d" % number, "n")]
+            what = NAMES[kind] + "".join(word for word, field in words if field in used)
         out.append("place %d: %s; vars %d%s%s\n" % (p, what, len(l), ":" if l else "", "".join(" %d/%d" % x for x in zip(l, n))))
     for p in range(inputs, len(known)):
         for v in range(len(known[p][0])):
@@ -189,7 +191,8 @@ def sheet(rng):
         for l in lengths:
             stored *= l
         for _ in range(stored):
-            coefficients.append(rng.choice([float(rng.randint(-9, 9)), -0.0, 0.5, rng.random(), 2.0**53, float("inf"), float("nan"), 1e300, float(rng.randint(0, 2**53))]))
+            small, share, large = float(rng.randint(-9, 9)), rng.random(), float(rng.randint(0, 2**53))
+            coefficients.append(rng.choice([small, -0.0, 0.5, share, 2.0**53, float("inf"), float("nan"), 1e300, large]))
     steps = []
     for i in range(count):
         p = inputs + i
@@ -206,8 +209,13 @@ def sheet(rng):
 
 
 def main():
-    rng, count, rest = random.Random(int(sys.argv[1])), int(sys.argv[2]), sys.argv[3:]
-    limits, recipe = rest[: rest.index("--")], rest[rest.index("--") + 1 :]
+    given = sys.argv[1:]
+    between = given.index("--") if "--" in given else 0
+    if not (all(word.isdecimal() for word in given[:2]) and 2 < between < len(given) - 1):
+        print("tests/limits.py is used so: tests/limits.py SEED COUNT PROGRAM.. -- RECIPE..", file=sys.stderr)
+        return 2
+    rng, count = random.Random(int(given[0])), int(given[1])
+    limits, recipe = given[2:between], given[between + 1 :]
     run = lambda program, text: subprocess.run(program, input=text.encode(), stdout=subprocess.PIPE).stdout.decode()
     kinds = {"refused": 0, "WHOLE": 0, "CUT": 0}
     for i in range(count):

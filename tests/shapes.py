@@ -1,5 +1,5 @@
-"""What crates/replay_shapes has to print, worked out from document 01 ('Header word', 'What a polynomial is here', 'Announced limits
-and lengths') and from nothing of the crates. Its output is stored as crates/replay_shapes/stdout:
+"""What crates/replay_shapes has to print, worked out from document 01 ('Header word', 'What a polynomial is here',
+'Announced limits and lengths') and from nothing of the crates. Its output is stored as crates/replay_shapes/stdout:
 
     python3 tests/shapes.py > crates/replay_shapes/stdout
 
@@ -153,6 +153,9 @@ def main():
             print(name, len(words))
             print("\n".join("    0x%016x," % w for w in words))
         return
+    if sys.argv[1:]:
+        print("tests/shapes.py takes no argument, or the one argument words", file=sys.stderr)
+        sys.exit(2)
     for w in WORDS:
         header = read(w)
         if header is None:

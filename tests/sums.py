@@ -1,8 +1,10 @@
-"""Stored cases for crates/replay_entries and what has to come out, worked out from document 01 (port order 2 to 4, 'Tail', 'Refusal numbers')
-and from nothing of the crates. Python's floats are IEEE 754 binary64.
+"""Stored cases for crates/replay_entries and what has to come out, worked out from document 01 (port order 2 to 4,
+'Tail', 'Refusal numbers') and from nothing of the crates. Python's floats are IEEE 754 binary64.
 
-    python3 tests/sums.py cases > crates/replay_entries/stdin
-    python3 tests/sums.py answers > crates/replay_entries/stdout
+    python3 tests/sums.py cases      a line a case
+    python3 tests/sums.py answers    what has to come out
+
+tests/stored puts them at the front of crates/replay_entries/stdin and stdout.
 """
 import itertools
 import math
@@ -398,9 +400,12 @@ def cases():
 
 
 def main():
-    all_cases = list(cases())
-    for case in all_cases:
+    if sys.argv[1:] not in (["cases"], ["answers"]):
+        print("tests/sums.py is used so: tests/sums.py cases, or tests/sums.py answers", file=sys.stderr)
+        return 2
+    for case in list(cases()):
         print(case.text() if sys.argv[1] == "cases" else case.answer())
+    return 0
 
 
-main()
+sys.exit(main())
