@@ -3,8 +3,8 @@
 
     tests/limits.py SEED COUNT PROGRAM.. -- RECIPE..
 
-runs COUNT random sheets through both programs (each a command of one or more words). The limits, cuts and the verdict
-are worked out here; the coefficients of the answer are taken from what `recipe` prints, and so is every refusal. Prints
+runs COUNT random sheets through both programs (each a command of one or more words). The limits, full lengths and the
+verdict are worked out here; the coefficients of the answer are taken from what `recipe` prints, and so is every refusal. Prints
 how many sheets there were and the first difference, if any. tests/limits starts it with the built programs."""
 import random, struct, subprocess, sys
 
@@ -12,7 +12,7 @@ NAMES = ["constant", "negate", "add", "subtract", "multiply", "divide", "power",
 USES = ["n", "a", "ab", "ab", "ab", "ab", "an", "avn", "avn", "avn", "abv"]
 HEAD = (
     "Each place: what it is, its number of variables, and of each variable the\n"
-    "limit/stored length. Operands are places, v is a variable, n a number.\n"
+    "limit/most it stores. Operands are places, v is a variable, n a number.\n"
 )
 OF_PLACE = {
     1: "its header word breaks the rules; write its limits and lengths anew.\n",
@@ -87,18 +87,81 @@ def operands(w, v, known):
     return [x for x, used in ((a, "a" in USES[kind]), (b, "b" in USES[kind])) if used and v < len(known[x][0])]
 
 
+ENDLESS = float("inf")
+MANY = 2**32  # stands for itself and all that is longer
+
+
+def full_lengths(w, full):
+    """How long a step would be with no limits anywhere, in each of four variables; `full`: the places before it."""
+    kind, a, b, v, n = fields(w)
+    if kind == 0 or kind == 6 and n == 0:
+        return [1] * 4
+    x, y = full[a], full[b]
+    p = x[v]
+    out = []
+    for k in range(4):
+        if kind == 1:
+            f = x[k]
+        elif kind in (2, 3):
+            f = max(x[k], y[k])
+        elif kind == 4:
+            f = x[k] + y[k] - 1
+        elif kind == 5:
+            f = x[k] if y[k] == 1 else ENDLESS
+        elif kind == 6:
+            f = n * (x[k] - 1) + 1
+        elif kind < 10:
+            f = x[k] if k != v or x[k] >= MANY else max(1, x[k] - n)
+        else:
+            more = 0 if p == 1 or y[k] == 1 else (p - 1) * (y[k] - 1)
+            f = (1 if k == v else x[k]) + more
+        out.append(f if f == ENDLESS else min(f, MANY))
+    return out
+
+
+def made_of(w, full):
+    """The operands whose terms a step is made of."""
+    kind, a, b, v, n = fields(w)
+    if kind == 0 or kind == 6 and n == 0:
+        return []
+    return [a] + ([b] if kind in (2, 3, 4, 5) or kind == 10 and full[a][v] != 1 else [])
+
+
 def limits_text(inputs, steps, known):
     step = lambda p: steps[p - inputs]
     limit = lambda p, v: known[p][0][v] if v < len(known[p][0]) else 1
     who = lambda p: "place %d (%s)" % (p, "input" if p < inputs else "step")
+    full = []
+    for p, (l, n) in enumerate(known):
+        full.append(n + [1] * (4 - len(n)) if p < inputs else full_lengths(step(p), full))
 
-    def decider(p, v):
-        while p >= inputs:
-            same = [x for x in operands(step(p), v, known) if limit(x, v) == limit(p, v)]
-            if not same:
+    def back(p, v):
+        """One step back: through a shift, or to the first operand with the same limit; None where there is none."""
+        if p < inputs:
+            return None
+        kind, a, _, u, _ = fields(step(p))
+        if 7 <= kind <= 9 and u == v:
+            return a
+        return next((x for x in operands(step(p), v, known) if limit(x, v) == limit(p, v)), None)
+
+    def way(p, v):
+        """The place that decides a limit, its limit, and what shifts took off it."""
+        start, shifts = p, []
+        while True:
+            if p >= inputs:
+                kind, _, _, u, n = fields(step(p))
+                if 7 <= kind <= 9 and u == v and n > 0:
+                    shifts.append((p, n))
+            q = back(p, v)
+            if q is None:
                 break
-            p = same[0]
-        return p
+            p = q
+        note = ""
+        if shifts:
+            took = sum(n for _, n in shifts)
+            assert limit(p, v) - took == limit(start, v)
+            note = " (%d, less %d by place %d%s)" % (limit(p, v), took, shifts[0][0], " and before" if len(shifts) > 1 else "")
+        return p, note
 
     def further(p, v, memo):
         if p not in memo:
@@ -112,6 +175,7 @@ def limits_text(inputs, steps, known):
                 memo[p] = best
         return memo[p]
 
+    passing = lambda p: [v for v in range(len(known[p][0])) if full[p][v] > limit(p, v)]
     out = [HEAD]
     for p, (l, n) in enumerate(known):
         what = "input"
@@ -121,20 +185,41 @@ def limits_text(inputs, steps, known):
             words = [(" %d" % a, "a"), (" %d" % b, "b"), (" v%d" % v, "v"), (" n%d" % number, "n")]
             what = NAMES[kind] + "".join(word for word, field in words if field in used)
         out.append("place %d: %s; vars %d%s%s\n" % (p, what, len(l), ":" if l else "", "".join(" %d/%d" % x for x in zip(l, n))))
-    for p in range(inputs, len(known)):
+    for p in range(len(known)):
         for v in range(len(known[p][0])):
+            here = "place %d variable %d: " % (p, v)
+            if p < inputs:
+                if known[p][1][v] == limit(p, v):
+                    out.append(here + "fills its limit of %d and may have been cut before\n" % limit(p, v))
+                continue
+            kind, _, _, u, _ = fields(step(p))
             above = [x for x in operands(step(p), v, known) if limit(p, v) < limit(x, v)]
-            if above:
+            if above and not (7 <= kind <= 9 and u == v):
                 x = above[0]
-                out.append("place %d variable %d: cut from %d (place %d) to %d by %s\n" % (p, v, limit(x, v), x, limit(p, v), who(decider(p, v))))
-    last, whole = len(known) - 1, True
+                out.append(here + "limit falls from %d (place %d) to %d (place %d)\n" % (limit(x, v), x, limit(p, v), back(p, v)))
+            if v in passing(p):
+                f = full[p][v]
+                by, note = way(p, v)
+                need = "may go on without end" if f == ENDLESS else "needs more than 4000000000" if f == MANY else "needs %d" % f
+                broken = f == ENDLESS or f == MANY or note
+                out.append(here + need + (",\n  " if broken else ", ") + "its limit is %d%s, as %s has\n" % (limit(p, v), note, who(by)))
+    last = len(known) - 1
     for v in range(len(known[last][0])):
-        far = further(last, v, {})
-        more = ""
-        if limit(far, v) > limit(last, v):
-            whole, more = False, ";\n  place %d went to %d" % (far, limit(far, v))
-        out.append("variable %d of the answer ends at %d, as %s does%s\n" % (v, limit(last, v), who(decider(last, v)), more))
-    out.append("*** WHOLE: no limit cut the answer. ***\n" if whole else "*** CUT: the answer ends before a place that it was made from. ***\n")
+        far, (by, note) = further(last, v, {}), way(last, v)
+        more = ";\n  place %d went to %d" % (far, limit(far, v)) if limit(far, v) > limit(by, v) else ""
+        out.append("variable %d of the answer ends at %d%s%sas %s does%s\n" % (v, limit(last, v), note, ",\n  " if note else ", ", who(by), more))
+    made, seen = [last], set()
+    while made:
+        p = made.pop()
+        if p not in seen:
+            seen.add(p)
+            made += made_of(step(p), full) if p >= inputs else []
+    lost = sorted(p for p in seen if p >= inputs and passing(p))
+    out.append(
+        "*** CUT: what lies past the limits of place %d is left out. ***\n" % lost[0]
+        if lost
+        else "*** WHOLE: with each input as it is stored, no limit left anything out. ***\n"
+    )
     return "".join(out)
 
 
@@ -181,10 +266,11 @@ def told(text, said):
 
 def sheet(rng):
     inputs, count = rng.randint(0, 5), rng.randint(1, 6)
+    equal = rng.choice([0, 0, 3, 4, 8])  # limits that are all alike, on purpose: no limit is below another
     lines, coefficients = [], []
     for _ in range(inputs):
         n = rng.choice([0, 1, 1, 1, 2, 2, 3, 4])
-        limits = [rng.randint(1, 9 if n < 3 else 4) for _ in range(n)]
+        limits = [min(equal, 4) if equal and n > 2 else equal or rng.randint(1, 9 if n < 3 else 4) for _ in range(n)]
         lengths = [rng.randint(1, l) for l in limits]
         lines.append(pack(limits, lengths))
         stored = 1
@@ -200,6 +286,8 @@ def sheet(rng):
         used = USES[kind]
         a, b = (rng.randrange(p) if "a" in used else 0), (rng.randrange(p) if "b" in used else 0)
         v, n = (rng.choice([0, 0, 0, 1, 2, 3]) if "v" in used else 0), (rng.randint(0, 3) if "n" in used else 0)
+        if kind == 6 and rng.random() < 0.2:
+            n = rng.choice([2**31, 2**32 - 1])  # longer than can be counted, where it is done twice
         steps.append(kind << 60 | a << 54 | b << 48 | v << 46 | n << 14)
     if rng.random() < 0.03:
         steps[rng.randrange(count)] |= rng.choice([1, 1 << 63, 1 << 50])
