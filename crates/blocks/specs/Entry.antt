@@ -1,4 +1,5 @@
--- What an entry shows at its two returns, whatever the operation: refused, and done with the front of each buffer written.
+-- What an entry shows at its two returns, whatever the operation: refused, and done with the front of each buffer
+-- written.
 use Prim.Native.Nat.{ℕ, _+_, _-_, _*_, _≤_}
 use mathlib.Core.List.{List, [], _∷_, _++_, append-nil}
 use mathlib.Core.Path.{_≡_, refl, sym, ap, _∙_}

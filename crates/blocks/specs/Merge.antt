@@ -1,4 +1,5 @@
--- Two blocks whose last variable is as long in both, with their last two variables taken as one: the same places, in longer rows.
+-- Two blocks whose last variable is as long in both, with their last two variables taken as one: the same places, in
+-- longer rows.
 use Prim.Native.Nat.{ℕ, _+_, _*_, _≤_, _<_}
 use mathlib.Core.List.{List, [], _∷_}
 use mathlib.Core.Bool.{Bool, true, false, true≢false}

@@ -28,7 +28,8 @@ pub record Inner (n c : List ℕ) : Type 0 where
 pub inner-inside : {n c i : List ℕ} → Inner n c → Inside c i → Inside n i
 inner-inside h t = record { i0 = omega arith; i1 = omega arith; i2 = omega arith; i3 = omega arith }
 
--- what a loop over the rows of a block with the lengths c has come to: the row that begins at the place p, with the index i
+-- what a loop over the rows of a block with the lengths c has come to: the row that begins at the place p, with the
+-- index i
 pub record AtRow (c : List ℕ) (p : ℕ) (i : List ℕ) : Type 0 where
   pub is : i ≡ index c p
   pub begins : p % at c 3 ≡ 0

@@ -1,4 +1,5 @@
--- A place in three parts: the variables before v, the number of v, the variables after it. Rows of v that become more or fewer, by place.
+-- A place in three parts: the variables before v, the number of v, the variables after it. Rows of v that become more
+-- or fewer, by place.
 use Prim.Native.Nat.{ℕ, zero, suc, _+_, _*_, _/_, _%_, _<_}
 use mathlib.Core.List.{List, [], _∷_}
 use mathlib.Core.Path.{_≡_, ap, _∙_}

@@ -1,4 +1,5 @@
--- `derivative` and `taylor_expansion_of_coeff`: what they write, and that it keeps what an operation owes of its result.
+-- `derivative` and `taylor_expansion_of_coeff`: what they write, and that it keeps what an operation owes of its
+-- result.
 use Prim.Native.Nat.{ℕ, zero, suc, _+_, _-_, _*_, _/_, _%_, _≤_, _<_}
 use mathlib.Core.List.{List, [], _∷_}
 use mathlib.Core.Bool.{Bool, true, false, cond}

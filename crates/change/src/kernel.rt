@@ -1,4 +1,5 @@
-// The rows of one variable. All places that share the numbers of the variables before v are a part: rows of `s` places, one after the other.
+// The rows of one variable. All places that share the numbers of the variables before v are a part: rows of `s` places,
+// one after the other.
 use gates::stored_of;
 use model::Answer;
 use model::Family;
@@ -85,7 +86,8 @@ fn shortest(h: Header) -> Header
     }
 }
 
-// The derivative, or the expansion of the coefficient n where `plain`, with +0.0 past it: h is the header of `a`, r the announced one; answers the true one.
+// The derivative, or the expansion of the coefficient n where `plain`, with +0.0 past it: h is the header of `a`, r the
+// announced one; answers the true one.
 pub fn take_rows(
     plain: bool,
     a: &[f64],

@@ -1,4 +1,5 @@
--- How an entry of two operands opens: the gate's refusal and, where there is none, what the words and the family tell, each worked out once.
+-- How an entry of two operands opens: the gate's refusal and, where there is none, what the words and the family tell,
+-- each worked out once.
 use Prim.Native.Nat.{ℕ, suc, _*_, _≤_}
 use mathlib.Core.Bool.{true, false, _&&_}
 use mathlib.Core.Path.{_≡_, sym, ap, _∙_}

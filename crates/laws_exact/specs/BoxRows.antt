@@ -1,5 +1,6 @@
--- Sums over a box by the rows of one variable v (they belong beside crate whole's BoxLaws): an index with each number of v in turn. And the rows of `shift_down` (document 01,
--- port order 7): the first n + 1 in one, then the rows after them, sum to what they summed to.
+-- Sums over a box by the rows of one variable v (they belong beside crate whole's BoxLaws): an index with each number
+-- of v in turn. And the rows of `shift_down` (document 01, port order 7): the first n + 1 in one, then the rows after
+-- them, sum to what they summed to.
 use mathlib.Core.Path.{_≡_, sym, ap, ap₂, _∙_}
 use mathlib.Core.List.{List, [], _∷_}
 use Prim.Native.Nat.{ℕ, zero, suc, _+_, _-_, _≤_, _<_, max}

@@ -1,5 +1,5 @@
--- What is a series under the limits is a block of whole numbers again (document 01, 'Where the result is exact'), and its own series agrees with it there. So is what
--- cutting leaves; its |A| is no more than before.
+-- What is a series under the limits is a block of whole numbers again (document 01, 'Where the result is exact'), and
+-- its own series agrees with it there. So is what cutting leaves; its |A| is no more than before.
 use mathlib.Core.Path.{_≡_, refl, sym, ap, _∙_}
 use mathlib.Core.List.{List}
 use Prim.Native.Nat.{ℕ, _*_, _≤_, _<_}

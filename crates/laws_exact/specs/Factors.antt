@@ -1,5 +1,6 @@
--- The exact product by a factor of which little is not zero (document 01, port order 4): by a constant it is the other times c; by a line c + m v it is m times the
--- other shifted up by one in v, and the other times c. Of a factor only what lies up to the index counts.
+-- The exact product by a factor of which little is not zero (document 01, port order 4): by a constant it is the other
+-- times c; by a line c + m v it is m times the other shifted up by one in v, and the other times c. Of a factor only
+-- what lies up to the index counts.
 use mathlib.Core.Path.{_≡_, refl, sym, ap, ap₂, _∙_}
 use mathlib.Core.Bool.{cond}
 use mathlib.Core.List.{List}

@@ -1,5 +1,6 @@
--- The constant's place (document 01, port order 3 and 4: stored count 1 is what the shortcuts ask for): its index is the origin, a block of stored count 1 is zero
--- everywhere else, and a block with its first coefficient changed is changed at the origin only.
+-- The constant's place (document 01, port order 3 and 4: stored count 1 is what the shortcuts ask for): its index is
+-- the origin, a block of stored count 1 is zero everywhere else, and a block with its first coefficient changed is
+-- changed at the origin only.
 use mathlib.Core.Path.{_≡_, refl, sym, ap, _∙_}
 use mathlib.Core.Bool.{false, true≢false}
 use mathlib.Core.List.{List}

@@ -1,5 +1,6 @@
--- The general product of two blocks under the limits l (document 01, port order 4, 'General') is the product of their series there: at the places that it stores,
--- and past them, where the product of two polynomials of those lengths is zero.
+-- The general product of two blocks under the limits l (document 01, port order 4, 'General') is the product of their
+-- series there: at the places that it stores, and past them, where the product of two polynomials of those lengths is
+-- zero.
 use mathlib.Core.Path.{_≡_, refl, sym, ap, _∙_}
 use mathlib.Core.Bool.{false, true≢false}
 use mathlib.Core.List.{List}

@@ -1,5 +1,5 @@
--- The sum and the difference of two blocks that sit under the limits l are those of their series there (document 01, port order 3), whichever shortcut is taken:
--- a right operand of stored count 1, a left one, or neither.
+-- The sum and the difference of two blocks that sit under the limits l are those of their series there (document 01,
+-- port order 3), whichever shortcut is taken: a right operand of stored count 1, a left one, or neither.
 use mathlib.Core.Path.{_≡_, refl, sym, ap, ap₂, _∙_}
 use mathlib.Core.Bool.{Bool, true, false}
 use mathlib.Core.List.{List}

@@ -1,5 +1,5 @@
--- A linear factor (document 01, port order 4): c + m v. m times the other is raised by one in v and, unless c is zero, the other times c is added: that is the exact
--- product, and every number in between is a term of it at most in size.
+-- A linear factor (document 01, port order 4): c + m v. m times the other is raised by one in v and, unless c is zero,
+-- the other times c is added: that is the exact product, and every number in between is a term of it at most in size.
 use mathlib.Core.Path.{_≡_, refl, sym, ap, _∙_}
 use mathlib.Core.Bool.{true, false, _||_}
 use mathlib.Core.List.{List}

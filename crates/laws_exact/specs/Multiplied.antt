@@ -1,5 +1,5 @@
--- The whole product of two blocks under the limits l (document 01, port order 4): zero is tested before the cut, the rest after it. A zero that only the cut makes is a
--- constant like any other.
+-- The whole product of two blocks under the limits l (document 01, port order 4): zero is tested before the cut, the
+-- rest after it. A zero that only the cut makes is a constant like any other.
 use mathlib.Core.Path.{_≡_, refl, sym, ap, _∙_}
 use mathlib.Core.Bool.{true, _||_}
 use mathlib.Core.List.{List}

@@ -1,5 +1,5 @@
--- What `pow` owes of its header (document 01, 'Announced limits and lengths', power): 0 gives no variables, else the limits are unchanged and no length is above
--- min(L, e(a-1)+1), whichever way each product of the squarings takes.
+-- What `pow` owes of its header (document 01, 'Announced limits and lengths', power): 0 gives no variables, else the
+-- limits are unchanged and no length is above min(L, e(a-1)+1), whichever way each product of the squarings takes.
 use mathlib.Core.Path.{_≡_, refl, ap, _∙_}
 use mathlib.Core.Bool.{cond}
 use mathlib.Core.List.{List}

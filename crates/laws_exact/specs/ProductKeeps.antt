@@ -1,5 +1,5 @@
--- What a product owes of its header (document 01, 'Announced limits and lengths', product): exactly the announced limits, no length above the announced one,
--- and as many coefficients as the true header says; on every shortcut.
+-- What a product owes of its header (document 01, 'Announced limits and lengths', product): exactly the announced
+-- limits, no length above the announced one, and as many coefficients as the true header says; on every shortcut.
 use mathlib.Core.Path.{_≡_, refl, sym, ap, _∙_}
 use mathlib.Core.Bool.{false, _||_, cond}
 use mathlib.Core.List.{List}

@@ -1,4 +1,5 @@
--- m times a block, shifted up by one in a variable (document 01, port order 4, the source's `mul_var`), cut to the limits.
+-- m times a block, shifted up by one in a variable (document 01, port order 4, the source's `mul_var`), cut to the
+-- limits.
 use mathlib.Core.Path.{_≡_, sym, ap, _∙_}
 use mathlib.Core.Bool.{true≢false}
 use mathlib.Core.List.{List}

@@ -1,5 +1,6 @@
--- The results are polynomials with whole coefficients again, so that the laws of this crate apply to them (document 01, 'Where the result is exact', of what is made in several
--- steps): their series are the exact ones under the limits, |A + B| is at most |A| + |B|, and |A B| at most |A| |B|.
+-- The results are polynomials with whole coefficients again, so that the laws of this crate apply to them (document 01,
+-- 'Where the result is exact', of what is made in several steps): their series are the exact ones under the limits, |A
+-- + B| is at most |A| + |B|, and |A B| at most |A| |B|.
 use mathlib.Core.Path.{_≡_, refl, ap}
 use mathlib.Core.Bool.{true, false}
 use mathlib.Core.List.{List}

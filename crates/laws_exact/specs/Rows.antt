@@ -1,5 +1,7 @@
--- One place of the general product (document 01, port order 4, 'General') is the exact product of the series there, where the sizes of its terms sum to 2 ^ 53 at most.
--- The recursion on the first variable is the sum over the first number of an index; a line is such a sum where every later number is 0.
+-- One place of the general product (document 01, port order 4, 'General') is the exact product of the series there,
+-- where the sizes of its terms sum to 2 ^ 53 at most.
+-- The recursion on the first variable is the sum over the first number of an index; a line is such a sum where every
+-- later number is 0.
 use mathlib.Core.Path.{_≡_, sym, _∙_}
 use mathlib.Core.Bool.{true, not}
 use mathlib.Core.List.{List, [], _∷_}

@@ -1,5 +1,6 @@
--- A value that runs through several products and sums under the limits l, as in `pow` and in Horner's rule (document 01, port order 7): it sits under l, and no length is
--- above x. A product adds the lengths less 1; cut at every step, it never passes l.
+-- A value that runs through several products and sums under the limits l, as in `pow` and in Horner's rule (document
+-- 01, port order 7): it sits under l, and no length is above x. A product adds the lengths less 1; cut at every step,
+-- it never passes l.
 use Prim.Native.Nat.{ℕ, _+_, _≤_, _<_, min}
 use mathlib.Core.Bool.{false, _||_}
 use mathlib.Core.List.{List}

@@ -1,5 +1,6 @@
--- What exp and log owe of their headers (document 01, 'Announced limits and lengths', exp and log: 1 where a is 1, else L): the true header is the announced one, and
--- the coefficients are as many as it says. Of a constant they give the head alone.
+-- What exp and log owe of their headers (document 01, 'Announced limits and lengths', exp and log: 1 where a is 1, else
+-- L): the true header is the announced one, and the coefficients are as many as it says. Of a constant they give the
+-- head alone.
 use mathlib.Core.Path.{_≡_, refl, sym, ap, _∙_}
 use mathlib.Core.Bool.{not, cond}
 use mathlib.Core.List.{List, [], _∷_}

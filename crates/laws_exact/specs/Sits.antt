@@ -1,5 +1,5 @@
--- A block that sits under the lengths r (document 01, 'Announced limits and lengths': the true length may be shorter): four lengths of 1 to r, and as many places
--- as they say. What cutting leaves sits under the limits.
+-- A block that sits under the lengths r (document 01, 'Announced limits and lengths': the true length may be shorter):
+-- four lengths of 1 to r, and as many places as they say. What cutting leaves sits under the limits.
 use mathlib.Core.Path.{_≡_, refl, sym, _∙_}
 use mathlib.Core.List.{List}
 use Prim.Native.Nat.{ℕ, _+_, _-_, _≤_, _<_, min, max}

@@ -1,4 +1,5 @@
--- The product of two blocks that are cut already (document 01, port order 4) is the exact one on whichever way is chosen: one, constant, linear, general, from either side.
+-- The product of two blocks that are cut already (document 01, port order 4) is the exact one on whichever way is
+-- chosen: one, constant, linear, general, from either side.
 -- The product by a constant that a line asks for is the product again, one stage lower.
 use mathlib.Core.Path.{_≡_, refl, sym, ap, _∙_}
 use mathlib.Core.Bool.{true, cond, true≢false}

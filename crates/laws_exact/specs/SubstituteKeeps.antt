@@ -1,5 +1,6 @@
--- What `subst_var` owes of its header (document 01, 'Announced limits and lengths', substitution, and port order 7): the polynomial itself where it lacks the variable; else
--- the smaller limits, and no length above min(L, 1+(p-1)(b-1)) in v and min(L, a+(p-1)(b-1)) elsewhere, p the uncut length of v; on the zero, linear and Horner paths.
+-- What `subst_var` owes of its header (document 01, 'Announced limits and lengths', substitution, and port order 7):
+-- the polynomial itself where it lacks the variable; else the smaller limits, and no length above min(L, 1+(p-1)(b-1))
+-- in v and min(L, a+(p-1)(b-1)) elsewhere, p the uncut length of v; on the zero, linear and Horner paths.
 use mathlib.Core.Path.{_≡_, refl}
 use mathlib.Core.Bool.{false, _&&_}
 use mathlib.Core.List.{List}

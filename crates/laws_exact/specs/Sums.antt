@@ -1,5 +1,6 @@
--- Document 01, 'Where the result is exact': sum and difference of polynomials with whole coefficients are the exact truncated ones where |A| + |B| is at most 2 ^ 53,
--- at every index under the announced limits and on every shortcut. Negation is exact wherever the coefficients are whole.
+-- Document 01, 'Where the result is exact': sum and difference of polynomials with whole coefficients are the exact
+-- truncated ones where |A| + |B| is at most 2 ^ 53, at every index under the announced limits and on every shortcut.
+-- Negation is exact wherever the coefficients are whole.
 use mathlib.Core.Path.{_≡_, refl, ap}
 use mathlib.Core.Bool.{Bool, true, false}
 use mathlib.Core.List.{List}

@@ -1,5 +1,6 @@
--- The terms that one place of a product sums, by the first variable left (document 01, port order 4, 'General'): the source's range of j leaves out only zeros, and where
--- every later length is 1 the terms are products of two numbers, which the source sums from +0.0 and then adds (`mul_1d`).
+-- The terms that one place of a product sums, by the first variable left (document 01, port order 4, 'General'): the
+-- source's range of j leaves out only zeros, and where every later length is 1 the terms are products of two numbers,
+-- which the source sums from +0.0 and then adds (`mul_1d`).
 use mathlib.Core.Path.{_≡_, sym, ap, _∙_}
 use mathlib.Core.List.{List, _∷_}
 use Prim.Native.Nat.{ℕ, suc, _+_, _-_, _*_, _^_, _≤_, _<_}

@@ -1,4 +1,5 @@
--- The ways of a product (document 01, port order 4), one after the other: what holds on each way holds of the way chosen. And what a linear factor is.
+-- The ways of a product (document 01, port order 4), one after the other: what holds on each way holds of the way
+-- chosen. And what a linear factor is.
 use mathlib.Core.Path.{_≡_, refl, sym}
 use mathlib.Core.Bool.{Bool, true, false, cond, true≢false}
 use Prim.Native.Nat.{ℕ, zero, suc, _+_, _≤_, _<_}

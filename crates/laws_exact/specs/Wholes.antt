@@ -1,5 +1,6 @@
--- A block of whole numbers (document 01, 'Where the result is exact': whole coefficients; equality as numbers), and a block that is a series wherever an index lies
--- under the limits l. The second is what every operation is said to keep: it does not ask how the block is stored, so shortcuts compose.
+-- A block of whole numbers (document 01, 'Where the result is exact': whole coefficients; equality as numbers), and a
+-- block that is a series wherever an index lies under the limits l. The second is what every operation is said to keep:
+-- it does not ask how the block is stored, so shortcuts compose.
 use mathlib.Core.Path.{_≡_, refl, sym, ap, _∙_}
 use mathlib.Core.Bool.{false, true≢false}
 use mathlib.Core.List.{List}

@@ -1,4 +1,5 @@
--- The quotient of two blocks under the limits l (document 01, port order 5: divisor one, divisor constant, else the recurrence) is the exact one on whichever way is chosen.
+-- The quotient of two blocks under the limits l (document 01, port order 5: divisor one, divisor constant, else the
+-- recurrence) is the exact one on whichever way is chosen.
 use mathlib.Core.Path.{_≡_, refl, ap, _∙_}
 use mathlib.Core.Bool.{true}
 use mathlib.Core.List.{List}

@@ -1,6 +1,8 @@
--- Document 01, 'Where the result is exact' (port order 5): the quotient of polynomials with whole coefficients, the divisor's constant 1 or -1, is the exact truncated one
--- where |A| + |Q| |B| is at most 2 ^ 53, at every index under the announced limits and on every shortcut, in 0 to 4 variables.
--- |A| and |B| are of the operands as they are stored, before the cut; Q is their exact quotient, a series without end, and |Q| its sum under the announced limits.
+-- Document 01, 'Where the result is exact' (port order 5): the quotient of polynomials with whole coefficients, the
+-- divisor's constant 1 or -1, is the exact truncated one where |A| + |Q| |B| is at most 2 ^ 53, at every index under
+-- the announced limits and on every shortcut, in 0 to 4 variables.
+-- |A| and |B| are of the operands as they are stored, before the cut; Q is their exact quotient, a series without end,
+-- and |Q| its sum under the announced limits.
 use mathlib.Core.Path.{_≡_, refl, sym, ap, _∙_}
 use mathlib.Core.List.{List}
 use Prim.Native.Nat.{ℕ, _+_, _*_, _^_, _≤_}

@@ -1,5 +1,5 @@
--- The quotient by the recurrence of `div` (document 01, port order 5) under the limits l is the quotient of the series there: at the places that it stores, each from those
--- before it, and past them.
+-- The quotient by the recurrence of `div` (document 01, port order 5) under the limits l is the quotient of the series
+-- there: at the places that it stores, each from those before it, and past them.
 use mathlib.Core.Path.{_≡_, refl, sym, _∙_}
 use mathlib.Core.List.{List, [], _∷_}
 use Prim.Native.Nat.{ℕ, zero, suc, _≤_, _<_}

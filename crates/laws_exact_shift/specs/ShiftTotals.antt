@@ -1,5 +1,6 @@
--- Document 01, 'Where the result is exact', `shift_down`: the sum of all coefficients is kept, and |A| does not grow. So where |A| is at most 2 ^ 53, the result is a polynomial
--- with whole coefficients again, and `evaluate_all_one` of it is the number that it was.
+-- Document 01, 'Where the result is exact', `shift_down`: the sum of all coefficients is kept, and |A| does not grow.
+-- So where |A| is at most 2 ^ 53, the result is a polynomial with whole coefficients again, and `evaluate_all_one` of
+-- it is the number that it was.
 use mathlib.Core.Path.{_≡_, refl, sym, ap, _∙_}
 use mathlib.Core.Bool.{true, cond}
 use mathlib.Core.List.{List}

@@ -1,4 +1,5 @@
--- Document 01, 'Where the result is exact', `shift_down`: where |A| is at most 2 ^ 53, the coefficients are the whole numbers of the textbook's shift, at every index.
+-- Document 01, 'Where the result is exact', `shift_down`: where |A| is at most 2 ^ 53, the coefficients are the whole
+-- numbers of the textbook's shift, at every index.
 use mathlib.Core.Path.{_≡_, refl, sym, ap, _∙_}
 use mathlib.Core.Bool.{false, true≢false}
 use mathlib.Core.List.{List}

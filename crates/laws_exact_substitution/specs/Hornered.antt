@@ -1,5 +1,7 @@
--- Horner's rule on series (document 01, port order 7, `subst_var`: from the highest power, every power counted): what the rows n to n + d - 1 of v have made, and its size.
--- The rows together weigh |A|, and each turn multiplies by |B|: so nothing on the way weighs more than |A| times max(1, |B|) to the p - 1.
+-- Horner's rule on series (document 01, port order 7, `subst_var`: from the highest power, every power counted): what
+-- the rows n to n + d - 1 of v have made, and its size.
+-- The rows together weigh |A|, and each turn multiplies by |B|: so nothing on the way weighs more than |A| times max(1,
+-- |B|) to the p - 1.
 use mathlib.Core.Path.{_≡_, sym, ap, ap₂, _∙_}
 use mathlib.Core.List.{List}
 use Prim.Native.Nat.{ℕ, zero, suc, _+_, _-_, _*_, _^_, _≤_, _<_}

@@ -1,5 +1,6 @@
--- Horner's rule on blocks of whole numbers (document 01, port order 7, `subst_var`): every turn, cut to the limits l, is exact there, since nothing on the way weighs more
--- than max(1,|A|) times max(1,|B|) to the p - 1. The first turn multiplies a zero, and asks nothing of |B|.
+-- Horner's rule on blocks of whole numbers (document 01, port order 7, `subst_var`): every turn, cut to the limits l,
+-- is exact there, since nothing on the way weighs more than max(1,|A|) times max(1,|B|) to the p - 1. The first turn
+-- multiplies a zero, and asks nothing of |B|.
 use mathlib.Core.Path.{_≡_, refl, sym, ap, _∙_}
 use mathlib.Core.Bool.{false}
 use mathlib.Core.List.{List}

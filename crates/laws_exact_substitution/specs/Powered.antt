@@ -1,5 +1,6 @@
--- `subst_var` by a line in v with c zero (document 01, port order 7): row k times m to the k, by running products. That is the exact substitution: each turn of Horner's rule
--- raises by one in v and multiplies by m, so of all rows only one reaches an index.
+-- `subst_var` by a line in v with c zero (document 01, port order 7): row k times m to the k, by running products. That
+-- is the exact substitution: each turn of Horner's rule raises by one in v and multiplies by m, so of all rows only one
+-- reaches an index.
 use mathlib.Core.Path.{_≡_, refl, sym, ap, _∙_}
 use mathlib.Core.Bool.{true≢false}
 use mathlib.Core.List.{List}

@@ -1,4 +1,5 @@
--- The row i of v, as `subst_var` takes it (document 01, port order 7), is the coefficient of v to the i: every power of v counts, also one past the limit.
+-- The row i of v, as `subst_var` takes it (document 01, port order 7), is the coefficient of v to the i: every power of
+-- v counts, also one past the limit.
 use mathlib.Core.Path.{_≡_, sym, _∙_}
 use mathlib.Core.Bool.{true≢false}
 use mathlib.Core.List.{List}

@@ -1,5 +1,6 @@
--- The ways of `subst_var` on blocks of whole numbers (document 01, port order 7), tested on the uncut b: zero leaves the row 0; a line in v with c zero gives row k times m to
--- the k; else Horner's rule. Each is the exact substitution under the limits.
+-- The ways of `subst_var` on blocks of whole numbers (document 01, port order 7), tested on the uncut b: zero leaves
+-- the row 0; a line in v with c zero gives row k times m to the k; else Horner's rule. Each is the exact substitution
+-- under the limits.
 use mathlib.Core.Path.{_≡_, sym, ap, _∙_}
 use mathlib.Core.Bool.{true, _&&_}
 use mathlib.Core.List.{List}

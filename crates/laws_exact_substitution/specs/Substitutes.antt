@@ -1,5 +1,6 @@
--- Document 01, 'Where the result is exact': substitution into a polynomial with whole coefficients is the exact truncated one where max(1,|A|) times max(1,|B|) to the p - 1
--- is at most 2 ^ 53, at every index under the announced limits and on the zero, linear, missing and Horner paths. The result is a polynomial with whole coefficients again.
+-- Document 01, 'Where the result is exact': substitution into a polynomial with whole coefficients is the exact
+-- truncated one where max(1,|A|) times max(1,|B|) to the p - 1 is at most 2 ^ 53, at every index under the announced
+-- limits and on the zero, linear, missing and Horner paths. The result is a polynomial with whole coefficients again.
 use mathlib.Core.Path.{_≡_, refl, sym, ap, _∙_}
 use mathlib.Core.List.{List}
 use Prim.Native.Nat.{ℕ, _+_, _-_, _*_, _^_, _≤_, _<_, max}

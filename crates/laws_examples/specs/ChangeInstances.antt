@@ -1,5 +1,5 @@
--- The laws of `subst_var` and `shift_down` apply: of document 01's examples they say that [1,2,3] with v replaced by [1,1] limit 3 has 8 at the index 1, and [2,3,1] shifted
--- by 1 has 5 at the index 0.
+-- The laws of `subst_var` and `shift_down` apply: of document 01's examples they say that [1,2,3] with v replaced by
+-- [1,1] limit 3 has 8 at the index 1, and [2,3,1] shifted by 1 has 5 at the index 0.
 use mathlib.Core.Path.{refl}
 use mathlib.Core.Bool.{false}
 use mathlib.Core.List.{List, [], _∷_}

@@ -1,6 +1,7 @@
--- Document 01, 'Examples to hold', those marked P, as far as the operations stand: one table, one statement, by computation from the definitions that the functions
--- promise. A row names an operation, its operands and what is wanted; an operand is a header word and the bits of its coefficients. A number that is read has no
--- header: its word is 0. A further operation is a further case of `Operation` and of `answer`.
+-- Document 01, 'Examples to hold', those marked P, as far as the operations stand: one table, one statement, by
+-- computation from the definitions that the functions promise. A row names an operation, its operands and what is
+-- wanted; an operand is a header word and the bits of its coefficients. A number that is read has no header: its word
+-- is 0. A further operation is a further case of `Operation` and of `answer`.
 use mathlib.Core.Path.{_≡_, refl}
 use mathlib.Core.Bool.{Bool, true, false, _&&_}
 use mathlib.Core.List.{List, [], _∷_, map}

@@ -1,4 +1,5 @@
--- What an entry point holds: a header word that is good and coefficients that are lent are a polynomial to which the laws of this crate apply.
+-- What an entry point holds: a header word that is good and coefficients that are lent are a polynomial to which the
+-- laws of this crate apply.
 use mathlib.Core.Path.{_≡_, _∙_}
 use mathlib.Core.Bool.{true}
 use mathlib.Core.List.{List}

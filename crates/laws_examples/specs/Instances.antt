@@ -1,5 +1,5 @@
--- The laws of this crate apply: of document 01's example [[1,2],[3,4]] times [[5,6],[7,8]] they say what the table of examples computes, 60 at the index (1, 1), and of
--- [1] limit 3 over [1,1] limit 3 that -1 stands at the index 1.
+-- The laws of this crate apply: of document 01's example [[1,2],[3,4]] times [[5,6],[7,8]] they say what the table of
+-- examples computes, 60 at the index (1, 1), and of [1] limit 3 over [1,1] limit 3 that -1 stands at the index 1.
 use mathlib.Core.Path.{_≡_, refl}
 use mathlib.Core.Bool.{false}
 use mathlib.Core.List.{List, [], _∷_}

@@ -1,4 +1,5 @@
--- Negation, sum, difference, product and division by 1 or -1 at binary64 are exact on whole floats where the result's size is 2 ^ 53 at most.
+-- Negation, sum, difference, product and division by 1 or -1 at binary64 are exact on whole floats where the result's
+-- size is 2 ^ 53 at most.
 use mathlib.Core.Path.{_≡_, refl, sym, ap, ap₂, _∙_}
 use mathlib.Core.Bool.{Bool, true, false, not}
 use Prim.Native.Nat.{ℕ, zero, suc, _+_, _-_, _*_, _^_, _≤_, _<_}

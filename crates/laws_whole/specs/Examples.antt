@@ -1,4 +1,5 @@
--- Computed examples: sums, whole floats at and past the bound, and textbook series on cases of document 01's 'Examples to hold'.
+-- Computed examples: sums, whole floats at and past the bound, and textbook series on cases of document 01's 'Examples
+-- to hold'.
 use mathlib.Core.Path.{_≡_, refl}
 use mathlib.Core.Bool.{true, false}
 use mathlib.Core.List.{List, [], _∷_}

@@ -1,4 +1,5 @@
--- The laws of ℤ that lib.IntN lacks: the product is associative and distributes over the sum, and sizes of sums and products.
+-- The laws of ℤ that lib.IntN lacks: the product is associative and distributes over the sum, and sizes of sums and
+-- products.
 use mathlib.Core.Path.{_≡_, refl, sym, ap, _∙_}
 use Prim.Native.Nat.{ℕ, zero, suc, _+_, _*_, _≤_}
 use native.Mathlib.Nat.{le-refl}

@@ -1,4 +1,5 @@
--- The textbook quotient is the one series whose product by the divisor is the dividend, in four variables, where the divisor's constant is 1 or -1.
+-- The textbook quotient is the one series whose product by the divisor is the dividend, in four variables, where the
+-- divisor's constant is 1 or -1.
 use mathlib.Core.Path.{_≡_, sym, ap, _∙_}
 use mathlib.Core.List.{List}
 use Prim.Native.Nat.{ℕ, zero, suc, _<_}

@@ -1,4 +1,5 @@
--- A walk whose steps each add a known whole number is exact where the sizes sum to 2 ^ 53 at most; so is a sum from +0.0 upward.
+-- A walk whose steps each add a known whole number is exact where the sizes sum to 2 ^ 53 at most; so is a sum from
+-- +0.0 upward.
 use mathlib.Core.List.{List}
 use Prim.Native.Nat.{ℕ, zero, suc, _+_, _*_, _^_, _≤_, _<_}
 use native.Mathlib.Nat.{le-refl}

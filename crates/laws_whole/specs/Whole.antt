@@ -1,4 +1,5 @@
--- A float that is a whole number (document 01, 'Where the result is exact': equality as numbers), and that rounding keeps a whole number of size 2 ^ 53 at most.
+-- A float that is a whole number (document 01, 'Where the result is exact': equality as numbers), and that rounding
+-- keeps a whole number of size 2 ^ 53 at most.
 use mathlib.Core.Path.{_≡_, refl, sym, ap, _∙_, subst}
 use mathlib.Core.Bool.{Bool, true, false}
 use Prim.Native.Nat.{ℕ, suc, _*_, _^_, _≤_, _<_}

@@ -1,6 +1,6 @@
--- Document 01, port order 3: add and subtract. Both operands are cut to the smaller limits first. A right operand of stored count 1 changes only
--- the first coefficient; else a left one does, and subtraction then negates all. Otherwise each place is (0 + a) + b or (0 + a) - b over the
--- places stored. Refusals 1, 2, 5, 6.
+-- Document 01, port order 3: add and subtract. Both operands are cut to the smaller limits first. A right operand of
+-- stored count 1 changes only the first coefficient; else a left one does, and subtraction then negates all. Otherwise
+-- each place is (0 + a) + b or (0 + a) - b over the places stored. Refusals 1, 2, 5, 6.
 use Prim.Native.Nat.{ℕ}
 use mathlib.Core.List.{List}
 use mathlib.Core.Bool.{Bool, true, false, cond}

@@ -1,5 +1,5 @@
--- Document 01, 'What each answer owes': what an entry that makes a polynomial answers and leaves in its buffers, from the gate's refusal, the
--- announced header and the value. Every such entry's promise is these three.
+-- Document 01, 'What each answer owes': what an entry that makes a polynomial answers and leaves in its buffers, from
+-- the gate's refusal, the announced header and the value. Every such entry's promise is these three.
 use mathlib.Core.List.{List}
 use Prim.Native.Nat.{ℕ}
 use lib.Ieee.{Float}

@@ -1,4 +1,5 @@
--- Document 01, port order 2, constructors, with the lengths of 'What must change shape': each writes its coefficients to a lent buffer.
+-- Document 01, port order 2, constructors, with the lengths of 'What must change shape': each writes its coefficients
+-- to a lent buffer.
 use Prim.Native.Nat.{ℕ}
 use mathlib.Core.List.{List, [], _∷_}
 use lib.ListN.{length, take}

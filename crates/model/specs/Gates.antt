@@ -1,5 +1,7 @@
--- Document 01, 'Refusal numbers', one gate for each way of calling: numbers go in (header words, lengths of buffers, variables), a refusal comes out.
--- The tests stand in the order of their numbers, so the lowest wins. Tests 3 and 4 read the number of variables and the limits alone.
+-- Document 01, 'Refusal numbers', one gate for each way of calling: numbers go in (header words, lengths of buffers,
+-- variables), a refusal comes out.
+-- The tests stand in the order of their numbers, so the lowest wins. Tests 3 and 4 read the number of variables and the
+-- limits alone.
 use Prim.Native.Nat.{ℕ, suc}
 use mathlib.Core.List.{List}
 use mathlib.Core.Bool.{Bool, _&&_, _||_}

@@ -1,6 +1,7 @@
--- Document 01, port order 4, 'General': recursion on the first variable, j ascending; where the result has exactly one length above 1, each place
--- sums from +0.0 and is then added. One place of the result is the source's `mul` seen from that place: an accumulator that goes through the variables.
--- lx, ly and r are the lengths of the left, the right and the result, k the index of the place; n variables are left, from v on.
+-- Document 01, port order 4, 'General': recursion on the first variable, j ascending; where the result has exactly one
+-- length above 1, each place sums from +0.0 and is then added. One place of the result is the source's `mul` seen from
+-- that place: an accumulator that goes through the variables. lx, ly and r are the lengths of the left, the right and
+-- the result, k the index of the place; n variables are left, from v on.
 use Prim.Native.Nat.{ℕ, zero, suc, _+_, _-_, _*_, min}
 use mathlib.Core.List.{List}
 use mathlib.Core.Bool.{Bool, not, _&&_, cond}

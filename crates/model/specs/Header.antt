@@ -1,4 +1,5 @@
--- Document 01, 'What a polynomial is here': 0 to 4 variables, limits of 1 to 64, lengths of 1 to the limit, at most 4,096 stored places.
+-- Document 01, 'What a polynomial is here': 0 to 4 variables, limits of 1 to 64, lengths of 1 to the limit, at most
+-- 4,096 stored places.
 -- Lists have four numbers, one to a variable; a missing variable has limit 1 and length 1 and stands at the end.
 use Prim.Native.Nat.{ℕ, zero, suc, _*_, min}
 use mathlib.Core.List.{List, [], _∷_}

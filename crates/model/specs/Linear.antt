@@ -1,5 +1,5 @@
--- Document 01, port order 4 and 'What must change shape': `extract_linear` answers constant c, factor m and a variable, the first that fits, as a
--- small record of two floats and a variable with a yes or no, all 0 for no.
+-- Document 01, port order 4 and 'What must change shape': `extract_linear` answers constant c, factor m and a variable,
+-- the first that fits, as a small record of two floats and a variable with a yes or no, all 0 for no.
 use Prim.Native.Nat.{ℕ, zero, suc}
 use mathlib.Core.List.{List}
 use mathlib.Core.Bool.{Bool, true, false, _&&_, _||_, cond}

@@ -1,4 +1,5 @@
--- Document 01, 'What a polynomial is here': coefficients lie in one buffer, last variable fastest; the index of a place is four numbers, one to a variable.
+-- Document 01, 'What a polynomial is here': coefficients lie in one buffer, last variable fastest; the index of a place
+-- is four numbers, one to a variable.
 use Prim.Native.Nat.{ℕ, suc, _+_, _-_, _*_, _/_, _%_}
 use mathlib.Core.List.{List, [], _∷_}
 use mathlib.Core.Bool.{Bool, _&&_}

@@ -1,4 +1,5 @@
--- Document 01, port order 7: `pow` by squaring, without the last squaring, which reaches no answer. 0 gives one with no variables, 1 a copy.
+-- Document 01, port order 7: `pow` by squaring, without the last squaring, which reaches no answer. 0 gives one with no
+-- variables, 1 a copy.
 -- The exponent is any u32. Refusals 1, 2, 5, 6.
 use Prim.Native.Nat.{ℕ, zero, suc, _/_, _%_}
 use mathlib.Core.List.{List, [], _∷_}
@@ -18,7 +19,8 @@ use Rattle.model.specs.Readings.{oneF}
 use Rattle.model.specs.Constructed.{constant}
 use Rattle.model.specs.Product.{constantBlock, multiplied}
 
--- what is reached and the base's running square, under the limits l: at most n turns, one for each bit of the exponent left
+-- what is reached and the base's running square, under the limits l: at most n turns, one for each bit of the exponent
+-- left
 unfoldable pub squared : ℕ → List ℕ → ℕ → Block → Block → Block
 squared zero l e res base = res
 squared (suc n) l e res base =

@@ -1,8 +1,9 @@
--- Document 01, port order 5: quotient. Divisor one, divisor constant (each place divided), else the recurrence of the source's `div`: rows negated,
--- then x added, then divided by the divisor's row 0. Refusals 1, 2, 5, 6.
--- One place of the result is `div` seen from that place: a number that goes through the variables, and at each is lessened by what the rows before give.
--- ly and r are the lengths of the divisor and of the result, k the index of the place; n variables are left, from v on.
--- q has the places of the result before this one that agree with k in the variables before v.
+-- Document 01, port order 5: quotient. Divisor one, divisor constant (each place divided), else the recurrence of the
+-- source's `div`: rows negated, then x added, then divided by the divisor's row 0. Refusals 1, 2, 5, 6.
+-- One place of the result is `div` seen from that place: a number that goes through the variables, and at each is
+-- lessened by what the rows before give. ly and r are the lengths of the divisor and of the result, k the index of the
+-- place; n variables are left, from v on. q has the places of the result before this one that agree with k in the
+-- variables before v.
 use Prim.Native.Nat.{ℕ, zero, suc, _+_, _-_, _*_}
 use mathlib.Core.List.{List, [], _∷_}
 use mathlib.Core.Bool.{Bool, false, cond}
@@ -33,7 +34,8 @@ module _ (ly r : List ℕ) (ys : List Float) (k : List ℕ) where
   abbrev pub rowsBefore : ℕ → ℕ → ℕ
   rowsBefore n v = at k v * span r n (suc v)
 
-  -- the rows j before, each times the divisor's row k - j: from +0.0, j ascending from the first that the divisor reaches
+  -- the rows j before, each times the divisor's row k - j: from +0.0, j ascending from the first that the divisor
+  -- reaches
   unfoldable pub taken : ℕ → ℕ → List Float → Float
   unfolding productAt
   taken n v q =

@@ -1,5 +1,7 @@
--- Document 01, port order 7: `derivative`, `taylor_expansion_of_coeff`, `shift_down` by n in the variable v. Limits are less n in v, lengths max(1, a - n).
--- Running factors as the source has them: the quotient is rounded first, then multiplied; n! by ascending products. Refusals 1, 2, 3, 4, 5.
+-- Document 01, port order 7: `derivative`, `taylor_expansion_of_coeff`, `shift_down` by n in the variable v. Limits are
+-- less n in v, lengths max(1, a - n).
+-- Running factors as the source has them: the quotient is rounded first, then multiplied; n! by ascending products.
+-- Refusals 1, 2, 3, 4, 5.
 use Prim.Native.Nat.{ℕ, suc, _+_}
 use mathlib.Core.List.{List, [], _∷_}
 use mathlib.Core.Bool.{Bool, cond}

@@ -1,5 +1,7 @@
--- Document 01, port order 7: `subst_var`, b for the variable v of a. A variable that a lacks: a unchanged. Tested uncut: b zero; b linear in v with c zero.
--- Else Horner from the highest power, every power counted, cut at every step. Every path cuts to the smaller limits. Refusals 1, 2, 5, 6.
+-- Document 01, port order 7: `subst_var`, b for the variable v of a. A variable that a lacks: a unchanged. Tested
+-- uncut: b zero; b linear in v with c zero.
+-- Else Horner from the highest power, every power counted, cut at every step. Every path cuts to the smaller limits.
+-- Refusals 1, 2, 5, 6.
 use Prim.Native.Nat.{ℕ, zero, suc}
 use mathlib.Core.List.{List}
 use mathlib.Core.Bool.{Bool, false, _&&_, cond}

@@ -1,4 +1,5 @@
--- Document 01, 'Tail (added)': for one variable and k below the limit, 1.0 minus the sum, from +0.0 upwards, of stored coefficients 0 to k.
+-- Document 01, 'Tail (added)': for one variable and k below the limit, 1.0 minus the sum, from +0.0 upwards, of stored
+-- coefficients 0 to k.
 use Prim.Native.Nat.{ℕ, _+_, min}
 use mathlib.Core.List.{List}
 use lib.ListN.{length}

@@ -1,5 +1,6 @@
--- Document 01, 'Recipes' and 'Refusal numbers': the check of a recipe, from words alone. Recipe sizes (7, at no place), then inputs in order (1), then each step
--- in order (7, 3, 4, 5). It answers the pool total, the largest announced step count and the input coefficient total.
+-- Document 01, 'Recipes' and 'Refusal numbers': the check of a recipe, from words alone. Recipe sizes (7, at no place),
+-- then inputs in order (1), then each step in order (7, 3, 4, 5). It answers the pool total, the largest announced step
+-- count and the input coefficient total.
 use Prim.Native.Nat.{ℕ, suc, _+_}
 use mathlib.Core.List.{List, [], _∷_, _++_}
 use mathlib.Core.Bool.{Bool, true, false, _&&_, _||_, cond}

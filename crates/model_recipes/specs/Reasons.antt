@@ -1,5 +1,7 @@
--- Document 01, 'Recipes' and 'Refusal numbers': the reasons to refuse a recipe, each with its place and its number; what a reason is, and not how it is found.
--- Sizes are at no place in particular: 64. A recipe has at most 64 places. 3, 4 and 5 are reasons of a step whose word is right.
+-- Document 01, 'Recipes' and 'Refusal numbers': the reasons to refuse a recipe, each with its place and its number;
+-- what a reason is, and not how it is found.
+-- Sizes are at no place in particular: 64. A recipe has at most 64 places. 3, 4 and 5 are reasons of a step whose word
+-- is right.
 use Prim.Native.Nat.{ℕ, suc, _+_, _≤_, _<_}
 use mathlib.Core.List.{List}
 use mathlib.Core.Bool.{true, false, cond}
@@ -19,7 +21,8 @@ pub data WrongSizes (hs ss : List ℕ) : Type 0 where
   no-step : length ss ≡ 0 → WrongSizes hs ss
   many-places : 64 < length hs + length ss → WrongSizes hs ss
 
--- 7, in the step word w at the place p: no such kind; an operand that names no earlier place; a field that its kind does not use; the last bits
+-- 7, in the step word w at the place p: no such kind; an operand that names no earlier place; a field that its kind
+-- does not use; the last bits
 pub data WrongWord (w p : ℕ) : Type 0 where
   no-kind : 10 < stepOf w .kind → WrongWord w p
   late-a : usesOf (stepOf w .kind) .a ≡ true → p ≤ stepOf w .a → WrongWord w p

@@ -1,5 +1,6 @@
--- Document 01, 'Recipes' and 'Announced limits and lengths': the headers that a recipe's places announce, from words alone. Inputs come first, each with its
--- own header; a step announces by its kind from what its operands announce. Total: whatever the fields hold, rules of headers are kept.
+-- Document 01, 'Recipes' and 'Announced limits and lengths': the headers that a recipe's places announce, from words
+-- alone. Inputs come first, each with its own header; a step announces by its kind from what its operands announce.
+-- Total: whatever the fields hold, rules of headers are kept.
 use Prim.Native.Nat.{ℕ, _+_, max}
 use mathlib.Core.List.{List, [], _∷_, map}
 use lib.ListN.{length, drop, getD}

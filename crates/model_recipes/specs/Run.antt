@@ -1,6 +1,7 @@
--- Document 01, 'Recipes' and 'Refusal numbers': the run of a recipe. Each step's value is its operation's, of its operands' values (demand 2); steps work on
--- true headers. The run makes the check, then tests 2, 5, 6. When done, step values lie end to end in the pool at announced counts, true headers go to the
--- buffer of words, one per step, the scratch's first 8 times the largest count are +0.0, and the rest is untouched. A refusal changes no buffer.
+-- Document 01, 'Recipes' and 'Refusal numbers': the run of a recipe. Each step's value is its operation's, of its
+-- operands' values (demand 2); steps work on true headers. The run makes the check, then tests 2, 5, 6. When done, step
+-- values lie end to end in the pool at announced counts, true headers go to the buffer of words, one per step, the
+-- scratch's first 8 times the largest count are +0.0, and the rest is untouched. A refusal changes no buffer.
 use Prim.Native.Nat.{ℕ, _*_}
 use mathlib.Core.List.{List, [], _∷_, _++_, map}
 use mathlib.Core.Bool.{true, false, _&&_, cond}
@@ -69,7 +70,8 @@ values hs cs ss = chain stepValue (inputValues hs cs) ss
 unfoldable pub stepValues : List ℕ → List Float → List ℕ → List Poly
 stepValues hs cs ss = drop (length hs) (values hs cs ss)
 
--- Whether an operation refuses its operands: each kind's own gate, row by row, with the operands' true header words, n places for the result and m of scratch.
+-- Whether an operation refuses its operands: each kind's own gate, row by row, with the operands' true header words, n
+-- places for the result and m of scratch.
 unfoldable pub gates : Step → Poly → Poly → ℕ → ℕ → List Refusal
 gates s a b n m =
     let w = wordOf (a .head) in
@@ -117,7 +119,8 @@ laid [] vs = []
 laid (h ∷ known) [] = []
 laid (h ∷ known) (v ∷ vs) = padded (stored h) (v .coeffs) ++ laid known vs
 
--- hs the inputs' header words, cs their coefficients, ss the step words, pool, words and scratch the buffers as they came
+-- hs the inputs' header words, cs their coefficients, ss the step words, pool, words and scratch the buffers as they
+-- came
 module _ (hs : List ℕ) (cs : List Float) (ss : List ℕ) (pool : List Float) (words : List ℕ) (scratch : List Float) where
   unfoldable pub runRefusal : Refusal
   runRefusal =

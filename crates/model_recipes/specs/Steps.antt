@@ -1,5 +1,5 @@
--- Document 01, 'Recipes': the step word, most significant first: kind (4 bits), operand a (6), operand b (6), variable (2), number n (32), 14 zero bits;
--- and the table of sixteen rows that says which fields each kind uses.
+-- Document 01, 'Recipes': the step word, most significant first: kind (4 bits), operand a (6), operand b (6), variable
+-- (2), number n (32), 14 zero bits; and the table of sixteen rows that says which fields each kind uses.
 use Prim.Native.Nat.{ℕ, _/_, _%_, _^_}
 use mathlib.Core.List.{List, [], _∷_}
 use mathlib.Core.Bool.{Bool, true, false}

@@ -1,5 +1,6 @@
--- Document 01, 'Where the result is exact', in several variables (Knuth, Seminumerical Algorithms, 4.7, in each of them): an index is a list of numbers, one to a variable,
--- and a box is all indices whose numbers stay below the box's. The sum of f over a box.
+-- Document 01, 'Where the result is exact', in several variables (Knuth, Seminumerical Algorithms, 4.7, in each of
+-- them): an index is a list of numbers, one to a variable, and a box is all indices whose numbers stay below the box's.
+-- The sum of f over a box.
 use Prim.Native.Nat.{ℕ, suc, _+_, _-_}
 use mathlib.Core.List.{List, [], _∷_}
 use lib.IntN.{ℤ}

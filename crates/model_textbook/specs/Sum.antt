@@ -1,5 +1,6 @@
--- Document 01, 'Where the result is exact', sums up coefficients and products of them (Knuth, Seminumerical Algorithms, 4.7): the sum of f over a range of numbers,
--- by any operation that is associative, commutative and has a zero; and the two that are used, of ℕ and of ℤ.
+-- Document 01, 'Where the result is exact', sums up coefficients and products of them (Knuth, Seminumerical Algorithms,
+-- 4.7): the sum of f over a range of numbers, by any operation that is associative, commutative and has a zero; and the
+-- two that are used, of ℕ and of ℤ.
 use mathlib.Core.Path.{_≡_}
 use Prim.Native.Nat.{ℕ, zero, suc, _+_}
 use native.Mathlib.Nat.{zero-add, add-assoc, add-comm}

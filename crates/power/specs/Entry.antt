@@ -1,4 +1,5 @@
--- What the entry shows: the kernel is lent what it asks for, and its block under the announced header is the definition's value.
+-- What the entry shows: the kernel is lent what it asks for, and its block under the announced header is the
+-- definition's value.
 use Prim.Native.Nat.{ℕ, _-_, _*_, _<_}
 use mathlib.Core.List.{List, _++_}
 use mathlib.Core.Path.{_≡_, refl, ap, _∙_}

@@ -1,4 +1,5 @@
--- How the products of a power come together in the work: where a product was kept, and what the turns leave for the next.
+-- How the products of a power come together in the work: where a product was kept, and what the turns leave for the
+-- next.
 use Prim.Native.Nat.{ℕ, _+_, _-_, _*_, _/_, _%_, _^_, _≤_, _<_, min}
 use mathlib.Core.List.{List}
 use mathlib.Core.Path.{_≡_, refl, sym, ap, _∙_}

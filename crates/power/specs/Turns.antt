@@ -1,4 +1,5 @@
--- The turns of squaring, on blocks alone: what is left to do makes the whole power, in turns enough for the exponent's bits, and no length passes the announced one.
+-- The turns of squaring, on blocks alone: what is left to do makes the whole power, in turns enough for the exponent's
+-- bits, and no length passes the announced one.
 use Prim.Native.Nat.{ℕ, zero, suc, _+_, _-_, _*_, _/_, _%_, _^_, _≤_, _<_, min}
 use mathlib.Core.List.{List}
 use mathlib.Core.Path.{_≡_, refl, sym, _∙_}

@@ -1,5 +1,6 @@
 // Powers by squaring, without the last squaring: at most 63 products, whatever the exponent.
-// The work is eight blocks of the announced count n: the base lies at its front, the running result from n on, and products use what lies from 2 n on.
+// The work is eight blocks of the announced count n: the base lies at its front, the running result from n on, and
+// products use what lies from 2 n on.
 ghost use mathlib.Core.Path.{_≡_};
 ghost use Prim.Native.Nat.{_*_, _%_, _≤_, _<_};
 ghost use lib.ListN.{length};
@@ -71,7 +72,8 @@ fn take_bit(
     lr
 }
 
-// The power e of the base, to the front of `out`: each bit of the exponent below the highest is taken and the base is squared; the highest is taken into `out`.
+// The power e of the base, to the front of `out`: each bit of the exponent below the highest is taken and the base is
+// squared; the highest is taken into `out`.
 fn squarings(
     work: &mut [f64],
     la: [usize; 4],

@@ -142,7 +142,8 @@ module _ (limits : List ℕ) (a b : Block) {out : List Float} {r : List ℕ} (c 
   pub stands-plain : {d : List Float} → (c .kind ≡ 4 → ⊥) → (c .kind ≡ 5 → ⊥) → Put (plainProduct limits (c .kind) (c .line .c) a b) d out r → Stands (productOf 1 limits a b) out r
   stands-plain h4 h5 o = made-plain limits 1 a b {s = 0} {w = []} {w' = []} c e h4 h5 o refl .stands
 
--- a linear product, step by step: r and n are what was computed; o1 the raised block; w1 where it was kept; w2 with the constant; w3 and o2 after the product; w4 where that was kept
+-- a linear product, step by step: r and n are what was computed; o1 the raised block; w1 where it was kept; w2 with the
+-- constant; w3 and o2 after the product; w4 where that was kept
 module _ {w : List Float} {mo p e : ℕ} {l : List ℕ} {v spare : ℕ} {limits : List ℕ} {stage : ℕ} (room : LineRoom w p e l v spare limits stage mo) where
   pub line-within : spare ≤ length w
   line-within = omega (arith, room .room)

@@ -1,4 +1,5 @@
--- The entry's short way: the tests that `own` makes let no call pass that the gate refuses, and what is made then is what the entry owes.
+-- The entry's short way: the tests that `own` makes let no call pass that the gate refuses, and what is made then is
+-- what the entry owes.
 use Prim.Native.Nat.{ℕ, _+_, _*_, _%_, _^_, _≤_, _<_}
 use mathlib.Core.List.{List, _++_}
 use mathlib.Core.Bool.{Bool, true, _&&_}

@@ -1,4 +1,5 @@
--- A block shifted up by one in a variable, in contiguous rows: all the places that share the numbers of the variables before v.
+-- A block shifted up by one in a variable, in contiguous rows: all the places that share the numbers of the variables
+-- before v.
 use Prim.Native.Nat.{ℕ, zero, suc, _+_, _-_, _*_, _/_, _%_, _≤_, _<_}
 use mathlib.Core.List.{List, [], _∷_}
 use mathlib.Core.Bool.{false}

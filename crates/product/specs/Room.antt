@@ -23,7 +23,8 @@ use Rattle.shape_words.specs.Lengths.{Lengths}
 abbrev pub lineWay : Block → Block → Way
 lineWay a b = cond (linear a .yes) (way 4 (linear a)) (cond (linear b .yes) (way 5 (linear b)) (way 6 noLinear))
 
--- under a linear factor, c and m, at an index of the result: what is shifted there added to +0.0, then c times the block, as far as it reaches
+-- under a linear factor, c and m, at an index of the result: what is shifted there added to +0.0, then c times the
+-- block, as far as it reaches
 abbrev pub linedAt : ℕ → Float → Float → Block → List ℕ → Float
 linedAt v c m b i =
     cond (inside (b .lengths) i) (add binary64 (add binary64 zeroF (raisedAt v m b i)) (mul binary64 c (readAt b i))) (add binary64 zeroF (raisedAt v m b i))

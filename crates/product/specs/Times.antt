@@ -1,4 +1,5 @@
--- The product of two operands: zero before the cut, the cut, the product, and what is past it; and what the entry shows.
+-- The product of two operands: zero before the cut, the cut, the product, and what is past it; and what the entry
+-- shows.
 use Prim.Native.Nat.{ℕ, _+_, _-_, _*_, _≤_, _<_, min}
 use mathlib.Core.List.{List, [], _++_, append-nil}
 use mathlib.Core.Bool.{Bool, true, false, _||_}

@@ -1,5 +1,7 @@
-// The product of two blocks, with its shortcuts. `product` and `linear_product` call each other; the stage falls at the product by a constant.
-// The blocks lie in a lent buffer, used as a stack: what lies below `spare` stays as it was. The result goes to the front of `out`.
+// The product of two blocks, with its shortcuts. `product` and `linear_product` call each other; the stage falls at the
+// product by a constant.
+// The blocks lie in a lent buffer, used as a stack: what lies below `spare` stays as it was. The result goes to the
+// front of `out`.
 use model::Linear;
 use model::Way;
 use product_linear::line_rows;
@@ -306,7 +308,8 @@ pub fn times(
     product(work, pa, ea, la, pb, eb, lb, spare, limits, 1, out)
 }
 
-// The block with the lengths n times c, and m times it, shifted up by one in v; r are the lengths of the result, no less than n.
+// The block with the lengths n times c, and m times it, shifted up by one in v; r are the lengths of the result, no
+// less than n.
 fn line_up(a: &[f64], n: [usize; 4], v: usize, c: f64, m: f64, r: [usize; 4], to: &mut [f64])
     requires { ⌜ Raising n v r (length (now a)) (length (now to)) ⌝ ∗ ⌜ at n v ≤ at r v ⌝ }
     ensures { λ _. ⌜ now (to .exit) ≡ table (count r) (λ k. linedAt v c m (block n (now (a .entry))) (index r k)) ⌝ }
@@ -384,7 +387,8 @@ fn product_whole(
     plain(a, la, b, lb, kind, c, limits, out)
 }
 
-// The product of two operands with the lengths la and lb, to the front of `out`: zero is tested before the cut. n is the announced count.
+// The product of two operands with the lengths la and lb, to the front of `out`: zero is tested before the cut. n is
+// the announced count.
 fn multiply_front(
     a: &[f64],
     la: [usize; 4],

@@ -1,4 +1,5 @@
--- The index of a place of a sub-block: of p = k * s + q, where s places lie in a row of the variable v, and q is one of them.
+-- The index of a place of a sub-block: of p = k * s + q, where s places lie in a row of the variable v, and q is one of
+-- them.
 use Prim.Native.Nat.{ℕ, _+_, _-_, _*_, _/_, _%_, _<_}
 use mathlib.Core.List.{List}
 use mathlib.Core.Path.{_≡_, sym, ap, _∙_}

@@ -1,4 +1,5 @@
--- Two long variables: a plane, whose rows are made of pairs of lines. xs has rows of tx places, the first nx of them a line; ys rows of ty, and ny.
+-- Two long variables: a plane, whose rows are made of pairs of lines. xs has rows of tx places, the first nx of them a
+-- line; ys rows of ty, and ny.
 use Prim.Native.Nat.{ℕ, suc, _+_, _-_, _*_, _/_, _%_, _≤_, _<_, min}
 use mathlib.Core.List.{List, _++_}
 use mathlib.Core.Bool.{true, false}
@@ -25,7 +26,8 @@ use Rattle.product_lines.specs.Added.{lineAdded}
 use Rattle.product_general.specs.Pairs.{fromOn, rows-line}
 use Rattle.product_general.specs.Bounds.{most, line-size, turn}
 
--- the lines of the pairs from a up to b of the row k are there; n, m and r are the lengths of the buffers and of the row
+-- the lines of the pairs from a up to b of the row k are there; n, m and r are the lengths of the buffers and of the
+-- row
 pub record Lining (tx nx ty ny k a b n m r : ℕ) : Type 0 where
   pub below : b ≤ k + 1
   pub small : k < 64

@@ -1,5 +1,6 @@
 // The quotient of two blocks: by a constant, or by the recurrence, row by row, which recurses over the variables.
-// In the work lie the dividend, the divisor, the finished places, and behind these, used as a stack, what each level still has to divide.
+// In the work lie the dividend, the divisor, the finished places, and behind these, used as a stack, what each level
+// still has to divide.
 ghost use mathlib.Core.Path.{_≡_};
 ghost use Prim.Native.Nat.{_+_, _*_, _<_};
 ghost use mathlib.Core.Bool.{false, cond};
@@ -47,7 +48,8 @@ fn add_dividend(xs: &[f64], lx: [usize; 4], r: [usize; 4], k: usize, row: &mut [
     blocks::join_block(false, &xs[from..], n, m, row);
 }
 
-// What the row k of the whole still has to divide: what the rows before it take, negated, then the dividend added. It goes to p.
+// What the row k of the whole still has to divide: what the rows before it take, negated, then the dividend added. It
+// goes to p.
 fn gather_first(
     work: &mut [f64],
     lx: [usize; 4],
@@ -138,8 +140,8 @@ fn divide_constant(c: f64, a: &[f64], to: &mut [f64])
     divide_by(c, a, to);
 }
 
-// The quotient of two operands that are loaded already, cut to the limits: the dividend, na places, at the front of the work, the divisor, nb places, from as many
-// places on as the quotient has, whose lengths are r.
+// The quotient of two operands that are loaded already, cut to the limits: the dividend, na places, at the front of the
+// work, the divisor, nb places, from as many places on as the quotient has, whose lengths are r.
 pub fn divide_loaded(
     work: &mut [f64],
     ca: [usize; 4],

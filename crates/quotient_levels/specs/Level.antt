@@ -1,4 +1,5 @@
--- The sub-block of the variables from v on, row by row: the row k is the sub-block of the variables after v, of what the rows before leave of c.
+-- The sub-block of the variables from v on, row by row: the row k is the sub-block of the variables after v, of what
+-- the rows before leave of c.
 use Prim.Native.Nat.{ℕ, zero, suc, _+_, _-_, _*_, _≤_, _<_}
 use mathlib.Core.List.{List, [], _++_}
 use mathlib.Core.Path.{_≡_, refl, sym, ap, _∙_}

@@ -1,4 +1,5 @@
--- A sub-block whose rows are one place each: a place is what the places before it leave of c, then -0.0 added in each later variable, then divided.
+-- A sub-block whose rows are one place each: a place is what the places before it leave of c, then -0.0 added in each
+-- later variable, then divided.
 use Prim.Native.Nat.{ℕ, _+_, _-_, _*_, _≤_, _<_}
 use mathlib.Core.List.{List, [], _++_, append-nil}
 use mathlib.Core.Path.{_≡_, sym, ap, _∙_}

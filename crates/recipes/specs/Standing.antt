@@ -1,4 +1,5 @@
--- Where the values of a run's places stand: an input's among the coefficients, a step's in the pool, each from its start on.
+-- Where the values of a run's places stand: an input's among the coefficients, a step's in the pool, each from its
+-- start on.
 use Prim.Native.Nat.{ℕ, zero, suc, _+_, _-_, _*_, _^_, _≤_, _<_}
 use mathlib.Core.Bool.{Bool, true, false, cond}
 use mathlib.Core.List.{List, [], _∷_, _++_, map}

@@ -17,7 +17,8 @@ ghost use Rattle.model_recipes.specs.Run.{stepValues, laid};
 ghost use Rattle.recipes.specs.Running.{Admitted};
 ghost use Rattle.recipes.specs.Admission.{Admits};
 
-// Why a run is refused: the check, then tests 2, 5, 6 by the lengths of the buffers. Where it is not, the words that all places announce stand in `known`.
+// Why a run is refused: the check, then tests 2, 5, 6 by the lengths of the buffers. Where it is not, the words that
+// all places announce stand in `known`.
 pub fn admit(
     headers: &[u64],
     steps: &[u64],
@@ -49,7 +50,8 @@ pub fn admit(
     Refusal::none()
 }
 
-// The run: step values end to end in the pool, true header words one a step, the scratch's first 8 times the largest count at +0.0.
+// The run: step values end to end in the pool, true header words one a step, the scratch's first 8 times the largest
+// count at +0.0.
 pub fn run_admitted(
     headers: &[u64],
     coefficients: &[f64],

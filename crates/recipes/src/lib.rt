@@ -33,7 +33,8 @@ pub fn check(headers: &[u64], steps: &[u64]) -> CheckAnswer
     }
 }
 
-// The values of the steps, end to end at announced counts in the pool, and their true headers in `words`: refusals of the check, then 2, 5, 6.
+// The values of the steps, end to end at announced counts in the pool, and their true headers in `words`: refusals of
+// the check, then 2, 5, 6.
 // Done, the first 8 times the largest announced count of scratch are +0.0.
 pub fn run(
     headers: &[u64],

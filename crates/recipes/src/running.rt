@@ -1,5 +1,6 @@
-// The steps of a run, one after the other. `known` holds a header word a place: the true one of every place that has its value, the announced one of the others.
-// `starts` says where each value begins, an input's among the coefficients, a step's in the pool.
+// The steps of a run, one after the other. `known` holds a header word a place: the true one of every place that has
+// its value, the announced one of the others. `starts` says where each value begins, an input's among the coefficients,
+// a step's in the pool.
 use gates::stored_of;
 use model::Header;
 use model_recipes::Step;

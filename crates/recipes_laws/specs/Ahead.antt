@@ -1,4 +1,5 @@
--- A run after an accepted check, step by step: the values follow what was announced, and no step ahead is refused, by the check or by its operation.
+-- A run after an accepted check, step by step: the values follow what was announced, and no step ahead is refused, by
+-- the check or by its operation.
 use Prim.Native.Nat.{ℕ, zero, suc, _+_, _*_, _≤_, _<_}
 use mathlib.Core.Bool.{true}
 use mathlib.Core.List.{List, [], _∷_, _++_}

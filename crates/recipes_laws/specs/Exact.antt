@@ -1,5 +1,5 @@
--- The check refuses exactly for document 01's reasons: it accepts where there is none, and only there; else it answers the first place that has one, with
--- its lowest number.
+-- The check refuses exactly for document 01's reasons: it accepts where there is none, and only there; else it answers
+-- the first place that has one, with its lowest number.
 use Prim.Native.Nat.{ℕ, suc, _+_, _≤_, _<_}
 use mathlib.Core.Bool.{false}
 use mathlib.Core.List.{List}

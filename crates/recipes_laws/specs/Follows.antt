@@ -1,6 +1,6 @@
--- What the values of a run's places keep to: each has exactly the limits that its place announces, no length above the announced one, and as many coefficients
--- as its true header says. A step's value keeps to it whatever its fields hold: each operation's law for the true headers, and then announced headers,
--- which are no smaller.
+-- What the values of a run's places keep to: each has exactly the limits that its place announces, no length above the
+-- announced one, and as many coefficients as its true header says. A step's value keeps to it whatever its fields hold:
+-- each operation's law for the true headers, and then announced headers, which are no smaller.
 use Prim.Native.Nat.{ℕ, zero, suc, _≤_}
 use mathlib.Core.Bool.{true, false}
 use mathlib.Core.List.{List, [], _∷_, _++_}

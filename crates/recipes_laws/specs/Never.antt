@@ -1,4 +1,5 @@
--- Refusal 9 never happens, whatever words, coefficients and buffers are handed in: after the check and tests 2, 5, 6 no step's operation refuses.
+-- Refusal 9 never happens, whatever words, coefficients and buffers are handed in: after the check and tests 2, 5, 6 no
+-- step's operation refuses.
 use Prim.Native.Nat.{ℕ, _*_, _≤_}
 use mathlib.Core.Bool.{Bool, true, false, _&&_}
 use mathlib.Core.List.{List}

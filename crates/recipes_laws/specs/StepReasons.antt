@@ -1,4 +1,5 @@
--- A step's refusal and document 01's reasons for it: it is refused where there is a reason, by the lowest number, and only there.
+-- A step's refusal and document 01's reasons for it: it is refused where there is a reason, by the lowest number, and
+-- only there.
 use Prim.Native.Nat.{ℕ, _≤_}
 use mathlib.Core.Bool.{Bool, true, false, cond}
 use mathlib.Core.List.{List}

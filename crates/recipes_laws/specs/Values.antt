@@ -1,5 +1,5 @@
--- The values of all places, where the check accepts and the inputs have their coefficients: they follow what was announced, inputs first, and each step's is
--- its operation's of its operands' values.
+-- The values of all places, where the check accepts and the inputs have their coefficients: they follow what was
+-- announced, inputs first, and each step's is its operation's of its operands' values.
 use Prim.Native.Nat.{ℕ, _+_, _*_, _≤_, _<_}
 use mathlib.Core.List.{List}
 use mathlib.Core.Path.{_≡_, sym, ap, _∙_}

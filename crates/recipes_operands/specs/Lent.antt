@@ -1,4 +1,5 @@
--- What a step is lent: where an operand lies, and a part of the pool that is written piece by piece. The m.. are the lengths of buffers.
+-- What a step is lent: where an operand lies, and a part of the pool that is written piece by piece. The m.. are the
+-- lengths of buffers.
 use Prim.Native.Nat.{ℕ, zero, suc, _+_, _-_, _*_, _≤_}
 use mathlib.Core.List.{List, [], _∷_, _++_, append-assoc, append-nil}
 use mathlib.Core.Bool.{Bool, true, false, cond}

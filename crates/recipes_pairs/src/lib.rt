@@ -19,7 +19,8 @@ ghost use Rattle.product.specs.Room.{Stands};
 ghost use Rattle.recipes_operands.specs.Lent.{source, lying, Lies, Lent};
 ghost use Rattle.recipes_pairs.specs.Pair.{pairOf, pairPoly, leftIn, rightIn, Pairing};
 
-// Both operands into the work, cut to the limits: one at its front, the other from n on. Answers whether one of them, uncut, is the constant zero.
+// Both operands into the work, cut to the limits: one at its front, the other from n on. Answers whether one of them,
+// uncut, is the constant zero.
 fn load_pair<'a>(
     x: Header,
     xi: bool,
@@ -49,7 +50,8 @@ fn load_pair<'a>(
     product::kernel::is_zero(a, la) | product::kernel::is_zero(b, lb)
 }
 
-// The value, to the front of `out`, which has the announced count n: x and y are the headers of the operands, which are loaded, h is the announced one.
+// The value, to the front of `out`, which has the announced count n: x and y are the headers of the operands, which are
+// loaded, h is the announced one.
 fn pair_front(
     kind: usize,
     zero: bool,

@@ -1,4 +1,5 @@
-// Steps of one operand. Where it is negated or shifted, the value is made in scratch and copied to the pool; a power is made in the pool.
+// Steps of one operand. Where it is negated or shifted, the value is made in scratch and copied to the pool; a power is
+// made in the pool.
 use gates::stored_of;
 use model::Header;
 ghost use mathlib.Core.Path.{_≡_};

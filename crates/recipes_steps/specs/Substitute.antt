@@ -1,4 +1,5 @@
--- Kind 10: a polynomial put for a variable of another. Its value is made in a part of the pool, which holds the running value of Horner's rule.
+-- Kind 10: a polynomial put for a variable of another. Its value is made in a part of the pool, which holds the running
+-- value of Horner's rule.
 use Prim.Native.Nat.{ℕ, suc, _+_, _-_, _*_, _≤_, _<_}
 use mathlib.Core.List.{List, _++_}
 use mathlib.Core.Path.{_≡_, refl, sym, ap, _∙_}

@@ -26,7 +26,8 @@ pub fn constant_to(n: u32, pool: &mut [f64], at: usize, room: usize)
     recipes_operands::pad(pool, at + 1, at + room);
 }
 
-// The value of a step of any other kind to the pool, n places from `at` on: x and y are the true headers of its operands, h what they announce, n its count.
+// The value of a step of any other kind to the pool, n places from `at` on: x and y are the true headers of its
+// operands, h what they announce, n its count.
 fn value_to(
     s: Step,
     x: Header,
@@ -100,7 +101,8 @@ fn value_to(
     )
 }
 
-// The value of such a step to the pool, then +0.0 up to `room` places; answers its header word. The operands have the header words xw and yw.
+// The value of such a step to the pool, then +0.0 up to `room` places; answers its header word. The operands have the
+// header words xw and yw.
 pub fn perform(
     s: Step,
     xw: u64,

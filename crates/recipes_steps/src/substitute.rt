@@ -1,5 +1,5 @@
-// A polynomial put for a variable of another. What is asked of the operands is read into scratch, a row of Horner's rule at a time, before the value's
-// part of the pool is lent.
+// A polynomial put for a variable of another. What is asked of the operands is read into scratch, a row of Horner's
+// rule at a time, before the value's part of the pool is lent.
 use gates::stored_of;
 use model::Header;
 use model::Way;
@@ -119,7 +119,8 @@ fn put_from<'a>(
     blocks::load(b, lb, c, &mut work[..z]);
 }
 
-// Horner's rule over the rows below k, the highest first: r the lengths of the running value, b those of what is put, c those of a row.
+// Horner's rule over the rows below k, the highest first: r the lengths of the running value, b those of what is put, c
+// those of a row.
 fn rows_to(
     x: Header,
     xi: bool,
@@ -152,7 +153,8 @@ fn rows_to(
     value
 }
 
-// Horner's rule from the highest power of v. Where there is one row alone, what is put is not needed, and may be too large.
+// Horner's rule from the highest power of v. Where there is one row alone, what is put is not needed, and may be too
+// large.
 fn horner_to(
     v: usize,
     x: Header,

@@ -1,4 +1,5 @@
--- What the text of a stored case says: words of 16 hex digits, each with one byte behind it. A byte that is missing or no digit counts as 0.
+-- What the text of a stored case says: words of 16 hex digits, each with one byte behind it. A byte that is missing or
+-- no digit counts as 0.
 use Prim.Native.Nat.{ℕ, _+_, _-_, _*_, _<_}
 use mathlib.Core.List.{List, [], _∷_}
 use mathlib.Core.Bool.{Bool, true, false, _&&_, cond}

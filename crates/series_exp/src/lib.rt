@@ -1,5 +1,6 @@
 // exp, row by row; it recurses over the variables.
-// At the front of the work lie the finished rows, and from n on the operand's rows, each times its number. A row is gathered in the buffer of the result.
+// At the front of the work lie the finished rows, and from n on the operand's rows, each times its number. A row is
+// gathered in the buffer of the result.
 ghost use mathlib.Core.Path.{_≡_};
 ghost use mathlib.Core.Bool.{false};
 ghost use Prim.Native.Nat.{_+_, _-_, _*_, _<_, min};
@@ -16,7 +17,8 @@ ghost use Rattle.series_gathering.specs.Whole.{Whole};
 ghost use Rattle.series_gathering.specs.Gather.{gathered};
 ghost use Rattle.series_exp.specs.NextRow.{nextRow};
 
-// The row k of the variable v, over k; it goes behind the rows before it, which lie at the front of the work. The operand's rows lie from n up to e.
+// The row k of the variable v, over k; it goes behind the rows before it, which lie at the front of the work. The
+// operand's rows lie from n up to e.
 fn exp_row(
     work: &mut [f64],
     n: usize,

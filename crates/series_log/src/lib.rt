@@ -1,5 +1,6 @@
 // log, row by row; it recurses over the variables. One long variable has its own order of operations.
-// At the front of the work lie the finished rows, and from n on the same rows, each times its number; the rest is for the inner quotient.
+// At the front of the work lie the finished rows, and from n on the same rows, each times its number; the rest is for
+// the inner quotient.
 // A row is gathered in the buffer of the result.
 ghost use mathlib.Core.Path.{_≡_};
 ghost use mathlib.Core.Bool.{true, false, cond};
@@ -60,7 +61,8 @@ fn add_operand(
     blocks::join_block(false, times, ax, ar, row);
 }
 
-// The row k of the variable v before it is divided: gathered from the rows before it, negated, k times the operand's row k added, where it is stored.
+// The row k of the variable v before it is divided: gathered from the rows before it, negated, k times the operand's
+// row k added, where it is stored.
 fn log_gather(
     xs: &[f64],
     lx: [usize; 4],

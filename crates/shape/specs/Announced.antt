@@ -1,4 +1,5 @@
--- An announced header is a header that keeps the rules, its count aside; its limits are as document 01 says; its lengths are at most its limits.
+-- An announced header is a header that keeps the rules, its count aside; its limits are as document 01 says; its
+-- lengths are at most its limits.
 -- Whatever v, n and e are: no gate is asked.
 use Prim.Native.Nat.{ℕ, _+_, _-_, _*_, _≤_, _<_, min, max}
 use mathlib.Core.List.{List}

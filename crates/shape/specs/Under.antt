@@ -1,4 +1,5 @@
--- A header under another: the same variables and limits, no length above the other's. Under smaller lengths every family announces no more.
+-- A header under another: the same variables and limits, no length above the other's. Under smaller lengths every
+-- family announces no more.
 -- With the law that a result's true header is under the announced one, this is what a run's steps need of one another.
 use Prim.Native.Nat.{ℕ, _+_, _-_, _*_, _≤_, _<_, min, max}
 use mathlib.Core.List.{List}

@@ -1,4 +1,5 @@
--- Lengths whose product is 1 (document 01, port order 3 and 4: stored count 1; exactly one length above 1): each of them is 1.
+-- Lengths whose product is 1 (document 01, port order 3 and 4: stored count 1; exactly one length above 1): each of
+-- them is 1.
 use mathlib.Core.Path.{_≡_, refl, _∙_}
 use mathlib.Core.List.{List}
 use Prim.Native.Nat.{ℕ, zero, suc, _+_, _*_, _≤_, _<_}

@@ -21,7 +21,8 @@ use Rattle.model_texts.specs.Hex.{isDigit, digitOf, digitFor, isLine, wordAt, h
 use Rattle.model_texts.specs.Printed.{digits, decimal, doneText, refusedText}
 use Rattle.model_texts.specs.Sheet.{ownRefusal, recipeRefusal, inputCount, stepCount, spare, sheetHeaders, coefficientCount, sheetCoefficients, sheetSteps, headersRefusal, readRefusal, sheetRefusal, lastValue, sheetOutput}
 
--- 0101000000000000, 2104000000000000, 4000000000000000, 4008000000000000, 3ff0000000000000, 9000000000004000: [2, 3, 1] shifted down by 1
+-- 0101000000000000, 2104000000000000, 4000000000000000, 4008000000000000, 3ff0000000000000, 9000000000004000: [2, 3, 1]
+-- shifted down by 1
 unfoldable pub exampleSheet : List ℕ
 exampleSheet =
     48 ∷ 49 ∷ 48 ∷ 49 ∷ 48 ∷ 48 ∷ 48 ∷ 48 ∷ 48 ∷ 48 ∷ 48 ∷ 48 ∷ 48 ∷ 48 ∷ 48 ∷ 48 ∷ 10

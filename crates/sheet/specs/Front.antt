@@ -1,4 +1,5 @@
--- A sheet is judged by its first 1,115,218 bytes: 65,601 lines, and one byte that would be too many. So a program may stop reading there.
+-- A sheet is judged by its first 1,115,218 bytes: 65,601 lines, and one byte that would be too many. So a program may
+-- stop reading there.
 use Prim.Native.Nat.{ℕ, zero, suc, _+_, _*_, _/_, _%_, _^_, _≤_, _<_}
 use mathlib.Core.List.{List}
 use mathlib.Core.Path.{_≡_, refl, sym, ap, _∙_}

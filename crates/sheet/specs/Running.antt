@@ -36,8 +36,8 @@ pub record Running (t hs ss known : List ℕ) : Type 0 where
   pub judged : orElse (checkRefusal hs ss) (ownRefusal hs ss) .number ≡ 0
   pub places : map headerOf known ≡ announcedPlaces hs ss
 
--- and judged, with buffers as long as it takes: the last value lies in the pool from the place f on, c coefficients, p places of the pool, w words, s places
--- of scratch
+-- and judged, with buffers as long as it takes: the last value lies in the pool from the place f on, c coefficients, p
+-- places of the pool, w words, s places of scratch
 pub record RunningIn (t hs ss : List ℕ) (f c p w s : ℕ) : Type 0 where
   pub opened : Opening t hs
   pub steps : ss ≡ sheetSteps t

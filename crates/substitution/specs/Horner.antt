@@ -1,4 +1,5 @@
--- Horner's rule, turn by turn: the rows left to do make of the running value what the whole is, and no turn passes the announced lengths.
+-- Horner's rule, turn by turn: the rows left to do make of the running value what the whole is, and no turn passes the
+-- announced lengths.
 use Prim.Native.Nat.{ℕ, zero, suc, _+_, _-_, _*_, _≤_, _<_, min}
 use mathlib.Core.List.{List}
 use mathlib.Core.Bool.{false}

@@ -1,4 +1,5 @@
--- What the announced lengths have room for: a row, what is put where there are two rows at least, and the result of every way.
+-- What the announced lengths have room for: a row, what is put where there are two rows at least, and the result of
+-- every way.
 use Prim.Native.Nat.{ℕ, _+_, _-_, _*_, _≤_, _<_, min}
 use mathlib.Core.List.{List, []}
 use mathlib.Core.Path.{_≡_, ap, _∙_}

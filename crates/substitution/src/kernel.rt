@@ -1,5 +1,6 @@
-// What is put for a variable of a polynomial. Scratch is used in blocks of n places, n the announced count: first what is put, cut to the
-// limits, then the running value of Horner's rule, then one row of the polynomial, then what the product needs.
+// What is put for a variable of a polynomial. Scratch is used in blocks of n places, n the announced count: first what
+// is put, cut to the limits, then the running value of Horner's rule, then one row of the polynomial, then what the
+// product needs.
 use model::Header;
 use readings_row::pick;
 use shape_words::places::count_of;
@@ -95,7 +96,8 @@ pub fn line_put(
     c
 }
 
-// Horner's rule over the rows below k, the highest first: r the lengths of the running value, b those of what is put, c those of a row.
+// Horner's rule over the rows below k, the highest first: r the lengths of the running value, b those of what is put, c
+// those of a row.
 fn horner_rows(
     a: &[f64],
     la: [usize; 4],
@@ -123,7 +125,8 @@ fn horner_rows(
     value
 }
 
-// Neither: Horner's rule from the highest power of v, every power counted. Where there is one row alone, b is not needed, and may be too large.
+// Neither: Horner's rule from the highest power of v, every power counted. Where there is one row alone, b is not
+// needed, and may be too large.
 fn horner_put(
     a: &[f64],
     la: [usize; 4],

@@ -1,5 +1,5 @@
-// One turn of Horner's rule inside a lent buffer, which is used in blocks of n places: what is put, cut to the limits, then the running value, then one row of the
-// polynomial, then what the product needs.
+// One turn of Horner's rule inside a lent buffer, which is used in blocks of n places: what is put, cut to the limits,
+// then the running value, then one row of the polynomial, then what the product needs.
 use product::kernel::add_blocks;
 use product::kernel::is_zero;
 use product::kernel::keep;
@@ -18,7 +18,8 @@ ghost use Rattle.model.specs.Product.{constantBlock};
 ghost use Rattle.product.specs.Room.{Room, Made};
 ghost use Rattle.substitution_turn.specs.Room.{Adding, Turning, timesPut, turnOf, Turned};
 
-// The product of the blocks pa..ea and pb..eb, which are cut to the limits already; the right one was tested for zero before.
+// The product of the blocks pa..ea and pb..eb, which are cut to the limits already; the right one was tested for zero
+// before.
 fn times_put(
     work: &mut [f64],
     pa: usize,
@@ -57,7 +58,8 @@ fn plus_row(work: &mut [f64], n: usize, k: [usize; 4], c: [usize; 4], out: &mut 
     r
 }
 
-// One turn of Horner's rule, cut to the limits: the running value, whose lengths are r, times what is put, whose lengths are b, plus the row.
+// One turn of Horner's rule, cut to the limits: the running value, whose lengths are r, times what is put, whose
+// lengths are b, plus the row.
 pub fn turn(
     work: &mut [f64],
     n: usize,

@@ -27,7 +27,8 @@ use Rattle.blocks.specs.Rows.{Inner}
 use Rattle.blocks.specs.Two.{Two, Holds, cutPlaces, cut-is}
 use Rattle.blocks.specs.Combine.{Combining}
 
--- la and lb the operands' lengths, l the limits, r the result's lengths, n its count; the rest the lengths of the buffers
+-- la and lb the operands' lengths, l the limits, r the result's lengths, n its count; the rest the lengths of the
+-- buffers
 pub record Summing (la lb l r : List ℕ) (n ma mb mo mw : ℕ) : Type 0 where
   pub left : Lengths la
   pub right : Lengths lb

@@ -1,5 +1,6 @@
--- The face: what the check and the run of a recipe answered is read back, from the word and, of the check, from the totals that were written. Both refuse by
--- 1 to 7, so that the 0 of accepted or done stands for nothing else. What stood where the totals go makes no difference.
+-- The face: what the check and the run of a recipe answered is read back, from the word and, of the check, from the
+-- totals that were written. Both refuse by 1 to 7, so that the 0 of accepted or done stands for nothing else. What
+-- stood where the totals go makes no difference.
 use Prim.Native.Nat.{ℕ, _<_}
 use mathlib.Core.Bool.{false, cond}
 use mathlib.Core.List.{List}

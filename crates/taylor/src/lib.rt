@@ -1,5 +1,6 @@
 // The face for C, Rust and Python: every entry under its name with `taylor_` before it, its answer as one word.
-// A header word's low five bits are zero, a refusal's are not (specs/Face.antt, specs/Apart.antt). Four limits or four indices are four words.
+// A header word's low five bits are zero, a refusal's are not (specs/Face.antt, specs/Apart.antt). Four limits or four
+// indices are four words.
 mod answers;
 
 use answers::put;
@@ -407,7 +408,8 @@ pub extern "C" fn taylor_subst_var(
     word_of(substitution::subst_var(ah, a, bh, b, v as usize, out, scratch))
 }
 
-// Whether a recipe can be run, from words alone: the pool total, the largest announced step count and the input coefficient total; refusals 1, 3, 4, 5, 7.
+// Whether a recipe can be run, from words alone: the pool total, the largest announced step count and the input
+// coefficient total; refusals 1, 3, 4, 5, 7.
 #[no_mangle]
 pub extern "C" fn taylor_check(
     headers: &[u64],
@@ -424,7 +426,8 @@ pub extern "C" fn taylor_check(
     put_totals(recipes::check(headers, steps), pool, largest, inputs)
 }
 
-// A recipe's steps, their values end to end in the pool and their header words in `words`: refusals 1 to 7; 0 when done.
+// A recipe's steps, their values end to end in the pool and their header words in `words`: refusals 1 to 7; 0 when
+// done.
 #[no_mangle]
 pub extern "C" fn taylor_run(
     headers: &[u64],
