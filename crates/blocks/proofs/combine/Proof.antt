@@ -19,8 +19,9 @@ first-joined-requires c κs =
 
 returns : tie.Need-returns
 returns c =
-    let a = (c .before .before .before .before .before .before .before .before) .args in
-    c .before .before .first-joined .ensures ∙ way-left _ (a .r) (block (a .n) (a .a .now)) (block (a .m) (a .b .now)) (sym ((c .before .before .before .before .before .before .before .before) .pre .full-b) ∙ c .before .before .before .before .if1 .taken)
+    let start = c .before .before .before .before .before .before .before .before in
+    let a = start .args in
+    c .before .before .first-joined .ensures ∙ way-left _ (a .r) (block (a .n) (a .a .now)) (block (a .m) (a .b .now)) (sym (start .pre .full-b) ∙ c .before .before .before .before .if1 .taken)
 
 turned-joined-requires : tie.Need-turned-joined-requires
 turned-joined-requires c κs =
@@ -29,8 +30,9 @@ turned-joined-requires c κs =
 
 returns-2 : tie.Need-returns-2
 returns-2 c =
-    let a' = (c .before .before .before .before .before .before .before .before .before) .args in
-    let p = (c .before .before .before .before .before .before .before .before .before) .pre in
+    let start = c .before .before .before .before .before .before .before .before .before in
+    let a' = start .args in
+    let p = start .pre in
     c .before .before .turned-joined .ensures ∙ way-right _ (a' .r) (block (a' .n) (a' .a .now)) (block (a' .m) (a' .b .now)) (λ e. c .before .before .before .before .before .if1 .left (p .full-b ∙ e)) (sym (p .full-a) ∙ c .before .before .before .before .if2 .taken)
 
 join-both-requires : tie.Need-join-both-requires
@@ -38,8 +40,9 @@ join-both-requires c κs = (c .before .before .before .before .before .before) .
 
 returns-3 : tie.Need-returns-3
 returns-3 c =
-    let a = (c .before .before .before .before .before .before .before .before .before) .args in
-    let p = (c .before .before .before .before .before .before .before .before .before) .pre in
+    let start = c .before .before .before .before .before .before .before .before .before in
+    let a = start .args in
+    let p = start .pre in
     c .before .before .join-both .ensures ∙ way-both (a .minus) (a .r) (block (a .n) (a .a .now)) (block (a .m) (a .b .now)) (λ e. c .before .before .before .before .before .if1 .left (p .full-b ∙ e)) (λ e. c .before .before .before .before .if2 .left (p .full-a ∙ e))
 
 pub combine-spec : {M : Type 1} → statement M

@@ -13,8 +13,9 @@ use Rattle.blocks.proofs.joined.Reads as joined-reads
 
 returns : tie.Need-returns
 returns c =
-    let a = (c .before .before .before .before .before .before .before .before .before .before) .args in
-    first-set (a .minus) (a .a .now) (a .b .now) (a .to .now) (c .before .before .before .before .before .copy .ensures) ((c .before .before .before .before .before .before .before .before .before .before) .pre .1) (c .joined .ensures)
+    let start = c .before .before .before .before .before .before .before .before .before .before in
+    let a = start .args in
+    first-set (a .minus) (a .a .now) (a .b .now) (a .to .now) (c .before .before .before .before .before .copy .ensures) (start .pre .1) (c .joined .ensures)
 
 pub first-joined-spec : {M : Type 1} → statement M
 first-joined-spec =

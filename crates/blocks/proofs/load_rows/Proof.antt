@@ -43,19 +43,27 @@ to-fits c =
     let p = (c .before .before .before .before) .pre in
     by-fits (p .to) (p .full) (c .before .loop .inv .1) (more c)
 
-from-fits : (c : tie.After-place-of Inv-loop μ-loop) → c .place-of .result + at ((c .before .before .before .before .before) .args .t3) 3 ≤ length ((c .before .before .before .before .before) .args .a .now)
+from-fits : (c : tie.After-place-of Inv-loop μ-loop) →
+    let start = c .before .before .before .before .before in
+    c .place-of .result + at (start .args .t3) 3 ≤ length (start .args .a .now)
 from-fits c =
-    let a = (c .before .before .before .before .before) .args in
-    omega (arith, c .place-of .ensures, cut-from (a .n) (a .t3) (a .a .now) (a .to .now) ((c .before .before .before .before .before) .pre) (c .before .before .loop .inv .1) (more (c .before)))
+    let start = c .before .before .before .before .before in
+    let a = start .args in
+    omega (arith, c .place-of .ensures, cut-from (a .n) (a .t3) (a .a .now) (a .to .now) (start .pre) (c .before .before .loop .inv .1) (more (c .before)))
 
-copied : (c : tie.After-copy Inv-loop μ-loop) → c .copy .last .1 .0 ≡ take (at ((c .before .before .before .before .before .before .before .before) .args .t3) 3) (drop (place ((c .before .before .before .before .before .before .before .before) .args .n) (c .before .before .before .before .before .loop .i)) ((c .before .before .before .before .before .before .before .before) .args .a .now))
+copied : (c : tie.After-copy Inv-loop μ-loop) →
+    let start = c .before .before .before .before .before .before .before .before in
+    c .copy .last .1 .0 ≡ take (at (start .args .t3) 3) (drop (place (start .args .n) (c .before .before .before .before .before .loop .i)) (start .args .a .now))
 copied c =
-    let w : ℕ = at ((c .before .before .before .before .before .before .before .before) .args .t3) 3 in
+    let c3 = c .before .before .before in
+    let c5 = c3 .before .before in
+    let start = c5 .before .before .before in
+    let w : ℕ = at (start .args .t3) 3 in
     let p = to-fits (c .before .before .before .before) in
-    let e : c .before .before .before .place-of .result + w - c .before .before .before .place-of .result ≡ w = omega arith in
-    let k : c .before .before .before .before .before .loop .at + w - c .before .before .before .before .before .loop .at ≡ w = omega arith in
-    let m : length (take (c .before .before .before .before .before .loop .at + w - c .before .before .before .before .before .loop .at) (drop (c .before .before .before .before .before .loop .at) (c .before .before .before .before .before .loop .to))) ≡ w = simp (length-take, length-drop) (omega arith) in
-    c .copy .ensures ∙ (rw (m, e, c .before .before .before .place-of .ensures) (take-take w w _ (omega arith)))
+    let e : c3 .place-of .result + w - c3 .place-of .result ≡ w = omega arith in
+    let k : c5 .loop .at + w - c5 .loop .at ≡ w = omega arith in
+    let m : length (take (c5 .loop .at + w - c5 .loop .at) (drop (c5 .loop .at) (c5 .loop .to))) ≡ w = simp (length-take, length-drop) (omega arith) in
+    c .copy .ensures ∙ (rw (m, e, c3 .place-of .ensures) (take-take w w _ (omega arith)))
 
 loop-holds : tie.Need-loop-holds Inv-loop μ-loop
 loop-holds c =
@@ -94,18 +102,25 @@ add-at c = omega (arith, to-fits (c .before .before .before .before .before .bef
 
 next-row-requires : tie.Need-next-row-requires Inv-loop μ-loop
 next-row-requires c κs =
-    let a = (c .before .before .before .before .before .before .before .before .before .before) .args in
-    let p = (c .before .before .before .before .before .before .before .before .before .before) .pre in
+    let start = c .before .before .before .before .before .before .before .before .before .before in
+    let a = start .args in
+    let p = start .pre in
     (p .to, cut-begins (a .n) (a .t3) (a .a .now) (a .to .now) (p) (c .before .before .before .before .before .before .before .loop .inv .1) (more (c .before .before .before .before .before .before)))
 
 loop-less : tie.Need-loop-less Inv-loop μ-loop
-loop-less c = let q = (c .before .before .before .before .before .before .before .before .before .before .before) .pre .to .p3 in omega (arith, to-fits (c .before .before .before .before .before .before .before), to-len (c .before .before .before .before .before .before .before))
+loop-less c =
+    let c7 = c .before .before .before .before .before .before .before in
+    let start = c7 .before .before .before .before in
+    let q = start .pre .to .p3 in omega (arith, to-fits c7, to-len c7)
 
 loop-again : tie.Need-loop-again Inv-loop μ-loop
 loop-again c =
-    let a = (c .before .before .before .before .before .before .before .before .before .before .before) .args in
-    let p = (c .before .before .before .before .before .before .before .before .before .before .before) .pre in
-    (refl, by-put (p .to) (p .full) (c .before .before .before .before .before .before .before .before .loop .inv .1) (more (c .before .before .before .before .before .before .before)) (let e : c .before .before .before .before .before .before .before .before .loop .at + at (a .t3) 3 - c .before .before .before .before .before .before .before .before .loop .at ≡ at (a .t3) 3 = omega arith in e) (cut-row (a .n) (a .t3) (a .a .now) (a .to .now) (p) (c .before .before .before .before .before .before .before .before .loop .inv .1) (more (c .before .before .before .before .before .before .before)) (copied (c .before .before .before))) (c .next-row .ensures))
+    let c7 = c .before .before .before .before .before .before .before in
+    let c8 = c7 .before in
+    let start = c8 .before .before .before in
+    let a = start .args in
+    let p = start .pre in
+    (refl, by-put (p .to) (p .full) (c8 .loop .inv .1) (more c7) (let e : c8 .loop .at + at (a .t3) 3 - c8 .loop .at ≡ at (a .t3) 3 = omega arith in e) (cut-row (a .n) (a .t3) (a .a .now) (a .to .now) (p) (c8 .loop .inv .1) (more c7) (copied (c .before .before .before))) (c .next-row .ensures))
 
 same-length : tie.Need-same-length Inv-loop μ-loop
 same-length c =

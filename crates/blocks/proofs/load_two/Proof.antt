@@ -27,8 +27,10 @@ load-requires c κs = cutting-a ((c .before .before .before .before .before) .pr
 
 returns : tie.Need-returns
 returns c =
-    let a = (c .before .before .before .before .before .before .before .before .before .before .before .before .before) .args in
-    two-held (a .la) (a .ca) (a .lb) (a .cb) (a .n + c .before .before .before .before .count-of2 .result - a .n) (a .a .now) (a .b .now) (a .work .now) ((c .before .before .before .before .before .before .before .before .before .before .before .before .before) .pre) (c .before .before .before .before .before .before .before .load .ensures) (c .before .before .load2 .ensures) (c .before .before .before .before .before .before .before .before .before .count-of .ensures)
+    let c9 = c .before .before .before .before .before .before .before .before .before in
+    let start = c9 .before .before .before .before in
+    let a = start .args in
+    two-held (a .la) (a .ca) (a .lb) (a .cb) (a .n + c .before .before .before .before .count-of2 .result - a .n) (a .a .now) (a .b .now) (a .work .now) (start .pre) (c .before .before .before .before .before .before .before .load .ensures) (c .before .before .load2 .ensures) (c9 .count-of .ensures)
 
 pub load-two-spec : {M : Type 1} → statement M
 load-two-spec =

@@ -15,8 +15,13 @@ abbrev μ-loop : tie.MeasureT-loop
 whole : (c : tie.After-clear Inv-loop μ-loop) → length (c .clear .last .0) ≡ length (c .before .before .before .before .args .to .now)
 whole c = c .clear .kept .0
 
-fits : (c : tie.In-loop Inv-loop μ-loop) → c .before .loop .at + length (c .before .before .before .before .clear .last .0) ≤ length (c .before .before .before .before .before .before .before .before .args .a .now)
-fits c = row-below (length (c .before .before .before .before .clear .last .0)) (c .before .loop .j) (c .before .before .before .before .before .before .before .before .args .m) (c .before .loop .inv .1 .0) (omega arith) (rw (whole (c .before .before .before .before)) ((c .before .before .before .before .before .before .before .before) .pre))
+fits : (c : tie.In-loop Inv-loop μ-loop) →
+    let start = c .before .before .before .before .before .before .before .before in
+    c .before .loop .at + length (c .before .before .before .before .clear .last .0) ≤ length (start .args .a .now)
+fits c =
+    let c4 = c .before .before .before .before in
+    let start = c4 .before .before .before .before in
+    row-below (length (c4 .clear .last .0)) (c .before .loop .j) (start .args .m) (c .before .loop .inv .1 .0) (omega arith) (rw (whole c4) (start .pre))
 
 clear-requires : tie.Need-clear-requires Inv-loop μ-loop
 clear-requires c κs = tt
@@ -40,13 +45,18 @@ add-at : tie.Need-add-at Inv-loop μ-loop
 add-at c = omega (arith, fits (c .before .before .before .before .before))
 
 loop-again : tie.Need-loop-again Inv-loop μ-loop
-loop-again c = let e : c .before .before .before .before .before .before .loop .at + length (c .before .before .before .before .before .before .before .before .before .clear .last .0) - c .before .before .before .before .before .before .loop .at ≡ length (c .before .before .before .before .before .before .before .before .before .clear .last .0) = omega arith in (omega arith, (omega (arith, c .before .before .before .before .before .before .loop .inv .1 .0), sum-more (c .before .before .before .before .before .before .loop .at + length (c .before .before .before .before .before .before .before .before .before .clear .last .0) - c .before .before .before .before .before .before .loop .at) _ (c .before .before .before .before .before .before .loop .inv .1 .1) (c .before .before .before .before .before .before .loop .inv .1 .0) refl e (c .before .before .before .before .before .before .loop .inv .1 .1 .len) (c .before .before .add-row .ensures)))
+loop-again c =
+    let c6 = c .before .before .before .before .before .before in
+    let c9 = c6 .before .before .before in
+    let e : c6 .loop .at + length (c9 .clear .last .0) - c6 .loop .at ≡ length (c9 .clear .last .0) = omega arith in (omega arith, (omega (arith, c6 .loop .inv .1 .0), sum-more (c6 .loop .at + length (c9 .clear .last .0) - c6 .loop .at) _ (c6 .loop .inv .1 .1) (c6 .loop .inv .1 .0) refl e (c6 .loop .inv .1 .1 .len) (c .before .before .add-row .ensures)))
 
 same-length : tie.Need-same-length Inv-loop μ-loop
 same-length c = c .before .loop .inv .1 .1 .len ∙ whole (c .before .before .before .before)
 
 returns : tie.Need-returns Inv-loop μ-loop
-returns c = let j : c .before .loop .j ≡ c .before .before .before .before .before .before .before .before .args .m = omega arith in let w = whole (c .before .before .before .before) in (c .before .loop .inv .1 .0 ∙ (rw (j, w)), c .before .loop .inv .1 .1 .is ∙ (rw (j, w)))
+returns c =
+    let start = c .before .before .before .before .before .before .before .before in
+    let j : c .before .loop .j ≡ start .args .m = omega arith in let w = whole (c .before .before .before .before) in (c .before .loop .inv .1 .0 ∙ (rw (j, w)), c .before .loop .inv .1 .1 .is ∙ (rw (j, w)))
 
 pub sum-rows-spec : {M : Type 1} → statement M
 sum-rows-spec =

@@ -20,11 +20,15 @@ is-full-requires c κs = rw (c .header-of .ensures) (good-word _ (word (c .befor
 
 returns-2 : tie.Need-returns-2
 unfolding readGate
-returns-2 c = simp (word (c .before .before .before .before), not-true (full ((c .before .before .before .before .before .before) .args .word) ((c .before .before .before .before .before .before) .args .given)) (rw (c .before .before .is-full .ensures, c .before .before .before .header-of .ensures) at (c .before .if2 .taken))) (c .by2 .ensures)
+returns-2 c =
+    let start = c .before .before .before .before .before .before in
+    simp (word (c .before .before .before .before), not-true (full (start .args .word) (start .args .given)) (rw (c .before .before .is-full .ensures, c .before .before .before .header-of .ensures) at (c .before .if2 .taken))) (c .by2 .ensures)
 
 returns-3 : tie.Need-returns-3
 unfolding readGate
-returns-3 c = simp (word (c .before .before .before .before), not-false (full ((c .before .before .before .before .before .before) .args .word) ((c .before .before .before .before .before .before) .args .given)) (rw (c .before .before .is-full .ensures, c .before .before .before .header-of .ensures) at (c .before .if2 .left))) (c .none .ensures)
+returns-3 c =
+    let start = c .before .before .before .before .before .before in
+    simp (word (c .before .before .before .before), not-false (full (start .args .word) (start .args .given)) (rw (c .before .before .is-full .ensures, c .before .before .before .header-of .ensures) at (c .before .if2 .left))) (c .none .ensures)
 
 pub read-gate-spec : {M : Type 1} → statement M
 read-gate-spec =

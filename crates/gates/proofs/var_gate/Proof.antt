@@ -11,7 +11,9 @@ use Rattle.gates.proofs.var_gate.Tie as tie
 limit : (c : tie.Else1) → goodLimit ((c .before .before) .args .limit) ≡ true
 limit c = not-false _ (rw (c .before .good-limit .ensures) at (c .if1 .left))
 
-header : (c : tie.After-var-with-degrees-p1) → c .var-with-degrees-p1 .result ≡ varHeader ((c .before .before .before .before) .args .v) ((c .before .before .before .before) .args .limit)
+header : (c : tie.After-var-with-degrees-p1) →
+    let start = c .before .before .before .before in
+    c .var-with-degrees-p1 .result ≡ varHeader (start .args .v) (start .args .limit)
 header c = rw (add-one ((c .before .before .before .before) .args .v)) at (c .var-with-degrees-p1 .ensures)
 
 returns : tie.Need-returns

@@ -8,7 +8,9 @@ use Rattle.lists.specs.Test.{and-left, and-right}
 use Rattle.product_lines.proofs.four_at.Statement.{statement}
 use Rattle.product_lines.proofs.four_at.Tie as tie
 
-reach : (c : tie.Then1) → ((c .before .before .before) .args .k + 3 < (c .before .before .before) .args .nx) × ((c .before .before .before) .args .k + 3 < (c .before .before .before) .args .ny)
+reach : (c : tie.Then1) →
+    let start = c .before .before .before in
+    (start .args .k + 3 < start .args .nx) × (start .args .k + 3 < start .args .ny)
 reach c =
     let a = (c .before .before .before) .args in
     let t : ltb (a .k + 3) (a .nx) && ltb (a .k + 3) (a .ny) ≡ true = c .if1 .taken in
@@ -36,7 +38,9 @@ line-at-requires-3 : tie.Need-line-at-requires-3
 line-at-requires-3 c κs = ((c .before .before .before .before .before .before .before .before) .pre .0, omega arith)
 
 line-at-requires-4 : tie.Need-line-at-requires-4
-line-at-requires-4 c κs = ((c .before .before .before .before .before .before .before .before .before) .pre .0, omega arith)
+line-at-requires-4 c κs =
+    let start = c .before .before .before .before .before .before .before .before .before in
+    (start .pre .0, omega arith)
 
 returns-3 : tie.Need-returns-3
 returns-3 c = record { z0 = c .before .before .before .line-at .ensures; z1 = c .before .before .line-at2 .ensures; z2 = c .before .line-at3 .ensures; z3 = c .line-at4 .ensures }

@@ -11,7 +11,9 @@ Inv-loop xs ys k a b s0₀ s1₀ s2₀ s3₀ j₀ s0 s1 s2 s3 j = (j ≤ b) × W
 abbrev μ-loop : tie.MeasureT-loop
 μ-loop xs ys k a b s0₀ s1₀ s2₀ s3₀ j₀ s0 s1 s2 s3 j = b - j
 
-turn : (c : tie.In-loop Inv-loop μ-loop) → Near ((c .before .before .before .before) .args .k) (c .before .loop .j) (length ((c .before .before .before .before) .args .xs .now)) (length ((c .before .before .before .before) .args .ys .now))
+turn : (c : tie.In-loop Inv-loop μ-loop) →
+    let start = c .before .before .before .before in
+    Near (start .args .k) (c .before .loop .j) (length (start .args .xs .now)) (length (start .args .ys .now))
 turn c = let f = c .before .loop .inv .1 .w0 .from in let t = c .loop-test .taken in near (omega arith) (omega arith) (omega arith) ((c .before .before .before .before) .pre .small)
 
 loop-holds : tie.Need-loop-holds Inv-loop μ-loop
@@ -84,16 +86,22 @@ add-j : tie.Need-add-j Inv-loop μ-loop
 add-j c = fits (turn (c .before .before .before .before .before .before .before) .j2)
 
 loop-less : tie.Need-loop-less Inv-loop μ-loop
-loop-less c = let f = c .before .before .before .before .before .before .before .before .loop .inv .1 .w0 .from in omega arith
+loop-less c =
+    let c8 = c .before .before .before .before .before .before .before .before in
+    let f = c8 .loop .inv .1 .w0 .from in omega arith
 
 loop-again : tie.Need-loop-again Inv-loop μ-loop
-loop-again c = let f = c .before .before .before .before .before .before .before .before .loop .inv .1 .w0 .from in (omega arith, walking-two (c .before .before .before .before .before .before .before .before .loop .inv .1) (omega arith))
+loop-again c =
+    let c8 = c .before .before .before .before .before .before .before .before in
+    let f = c8 .loop .inv .1 .w0 .from in (omega arith, walking-two (c8 .loop .inv .1) (omega arith))
 
 four-more-requires : tie.Need-four-more-requires Inv-loop μ-loop
 four-more-requires c κs = let f = c .before .before .loop .inv .1 .w0 .from in omega arith
 
 returns : tie.Need-returns Inv-loop μ-loop
-returns c = let f = c .before .before .before .loop .inv .1 .w0 .from in walking-last ((c .before .before .before .before .before .before) .args .t6) (c .before .before .before .loop .inv .1) (c .four-more .ensures) (omega arith)
+returns c =
+    let c3 = c .before .before .before in
+    let f = c3 .loop .inv .1 .w0 .from in walking-last (c .before .before .before .before .before .before .args .t6) (c3 .loop .inv .1) (c .four-more .ensures) (omega arith)
 
 returns-2 : tie.Need-returns-2 Inv-loop μ-loop
 returns-2 c = let f = c .before .before .loop .inv .1 .w0 .from in walking-end ((c .before .before .before .before .before) .args .t6) (c .before .before .loop .inv .1) (omega arith)

@@ -37,7 +37,9 @@ loop-less : tie.Need-loop-less Inv-loop μ-loop
 loop-less c = let f = c .before .before .before .loop .inv .1 .from in omega arith
 
 loop-again : tie.Need-loop-again Inv-loop μ-loop
-loop-again c = let f = c .before .before .before .loop .inv .1 .from in (omega arith, walked-more (c .before .before .before .loop .inv .1) refl)
+loop-again c =
+    let c3 = c .before .before .before in
+    let f = c3 .loop .inv .1 .from in (omega arith, walked-more (c3 .loop .inv .1) refl)
 
 returns : tie.Need-returns Inv-loop μ-loop
 returns c = let f = c .before .loop .inv .1 .from in walked-end ((c .before .before) .args .b - (c .before .before) .args .a) (c .before .loop .inv .1) (omega arith)

@@ -43,7 +43,9 @@ slice-write-work : tie.Need-slice-write-work Inv-loop μ-loop
 slice-write-work c = let l = c .before .before .before .loop .inv .1 .len in omega (arith, (c .before .before .before .before) .pre)
 
 loop-again : tie.Need-loop-again Inv-loop μ-loop
-loop-again c = let a = c .before .before .before .before .args in let l = c .before .before .before .loop in (omega arith, laid-more (a .to) (l .i) (λ j. add binary64 (neg (getD (a .row .now) j nan)) (getD (a .work .now) (a .from + j) nan)) (l .inv .1) (ap (λ (z : Float). add binary64 (neg (getD (a .row .now) (l .i) nan)) z) (l .inv .1 .low (a .from + l .i) (omega (arith, (c .before .before .before .before) .pre)))) (omega (arith, (c .before .before .before .before) .pre)))
+loop-again c =
+    let start = c .before .before .before .before in
+    let a = start .args in let l = c .before .before .before .loop in (omega arith, laid-more (a .to) (l .i) (λ j. add binary64 (neg (getD (a .row .now) j nan)) (getD (a .work .now) (a .from + j) nan)) (l .inv .1) (ap (λ (z : Float). add binary64 (neg (getD (a .row .now) (l .i) nan)) z) (l .inv .1 .low (a .from + l .i) (omega (arith, start .pre)))) (omega (arith, start .pre)))
 
 same-length : tie.Need-same-length Inv-loop μ-loop
 same-length c = c .before .loop .inv .1 .len

@@ -17,10 +17,14 @@ loop-holds : tie.Need-loop-holds Inv-loop μ-loop
 loop-holds c = summed-none _
 
 stored-of-requires : tie.Need-stored-of-requires Inv-loop μ-loop
-stored-of-requires c κs = rw (c .header-of .ensures) (word-ruled ((c .before .before .before .before .before) .args .words .now) (c .before .before .before .before .before .pre .0) (c .before .before .before .loop .i))
+stored-of-requires c κs =
+    let start = c .before .before .before .before .before in
+    rw (c .header-of .ensures) (word-ruled (start .args .words .now) (start .pre .0) (c .before .before .before .loop .i))
 
 add-sum : tie.Need-add-sum Inv-loop μ-loop
-add-sum c = record { fits = summed-fits (c .before .before .before .before .loop .inv) (c .before .before .before .before .before .before .pre .0) (c .before .before .before .before .before .before .pre .1) (c .stored-of .ensures ∙ ap stored (c .before .header-of .ensures)) }
+add-sum c =
+    let start = c .before .before .before .before .before .before in
+    record { fits = summed-fits (c .before .before .before .before .loop .inv) (start .pre .0) (start .pre .1) (c .stored-of .ensures ∙ ap stored (c .before .header-of .ensures)) }
 
 loop-again : tie.Need-loop-again Inv-loop μ-loop
 loop-again c = summed-more (c .before .before .before .before .loop .inv) (c .before .before .before .before .before .before .pre .0) (c .before .before .before .loop-test .taken) (c .stored-of .ensures ∙ ap stored (c .before .header-of .ensures))

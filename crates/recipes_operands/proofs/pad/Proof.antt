@@ -14,7 +14,9 @@ use Rattle.recipes_operands.proofs.pad.Lts as lts
 use Rattle.blocks.proofs.clear.Reads as clear-reads
 
 returns : tie.Need-returns
-returns c = pad-kept (c .before .before .before .before .before .args .from) (c .before .before .before .before .before .args .to) (c .before .before .before .before .before .args .pool .now) (c .before .before .clear .ensures) (simp (length-take, length-drop) (omega (arith, c .before .before .before .before .before .pre))) (c .before .before .before .before .before .pre .0) (c .before .before .before .before .before .pre .1)
+returns c =
+    let start = c .before .before .before .before .before in
+    pad-kept (start .args .from) (start .args .to) (start .args .pool .now) (c .before .before .clear .ensures) (simp (length-take, length-drop) (omega (arith, start .pre))) (start .pre .0) (start .pre .1)
 
 pub pad-spec : {M : Type 1} → statement M
 pad-spec =

@@ -22,19 +22,30 @@ negate-into-requires : tie.Need-negate-into-requires
 negate-into-requires c κs = same-room (c .before .before .before .before .pre) (c .before .if1 .taken)
 
 returns : tie.Need-returns
-returns c = (same-head (c .before .before .before .before .before .before .before .pre) (c .before .before .before .before .if1 .taken) (c .before .before .before .before .before .before .before .args .a .now), c .before .before .negate-into .ensures ∙ same-places (c .before .before .before .before .before .before .before .pre) (c .before .before .before .before .if1 .taken) (c .before .before .before .before .before .before .before .args .a .now) (c .before .before .before .before .before .before .before .args .to .now) refl)
+returns c =
+    let c4 = c .before .before .before .before in
+    let start = c4 .before .before .before in
+    (same-head (start .pre) (c4 .if1 .taken) (start .args .a .now), c .before .before .negate-into .ensures ∙ same-places (start .pre) (c4 .if1 .taken) (start .args .a .now) (start .args .to .now) refl)
 
 shift-rows-requires : tie.Need-shift-rows-requires
 shift-rows-requires c κs = shifting (c .before .before .before .before .before .pre) (c .before .before .if1 .left)
 
 returns-2 : tie.Need-returns-2
-returns-2 c = (down-head (c .before .before .before .before .before .before .before .before .pre) (c .before .before .before .before .before .if1 .left) (c .before .before .before .before .if2 .taken) (c .before .before .before .before .before .before .before .before .args .a .now), down-places (c .before .before .before .before .before .before .before .before .pre) (c .before .before .before .before .before .if1 .left) (c .before .before .before .before .if2 .taken) (c .before .before .before .before .before .before .before .before .args .a .now) (c .before .before .shift-rows .ensures))
+returns-2 c =
+    let c4 = c .before .before .before .before in
+    let c5 = c4 .before in
+    let start = c5 .before .before .before in
+    (down-head (start .pre) (c5 .if1 .left) (c4 .if2 .taken) (start .args .a .now), down-places (start .pre) (c5 .if1 .left) (c4 .if2 .taken) (start .args .a .now) (c .before .before .shift-rows .ensures))
 
 take-rows-requires : tie.Need-take-rows-requires
 take-rows-requires c κs = shifting (c .before .before .before .before .before .pre) (c .before .before .if1 .left)
 
 returns-3 : tie.Need-returns-3
-returns-3 c = (c .before .before .take-rows .ensures .0 ∙ ap (λ (p : Poly). p .head) (scaled-is (c .before .before .before .before .before .before .before .before .pre) (c .before .before .before .before .before .if1 .left) (c .before .before .before .before .if2 .left) (c .before .before .before .before .before .before .before .before .args .a .now)), c .before .before .take-rows .ensures .1 ∙ ap (λ (p : Poly). padded (stored (c .before .before .before .before .before .before .before .before .args .r)) (p .coeffs)) (scaled-is (c .before .before .before .before .before .before .before .before .pre) (c .before .before .before .before .before .if1 .left) (c .before .before .before .before .if2 .left) (c .before .before .before .before .before .before .before .before .args .a .now)))
+returns-3 c =
+    let c4 = c .before .before .before .before in
+    let c5 = c4 .before in
+    let start = c5 .before .before .before in
+    (c .before .before .take-rows .ensures .0 ∙ ap (λ (p : Poly). p .head) (scaled-is (start .pre) (c5 .if1 .left) (c4 .if2 .left) (start .args .a .now)), c .before .before .take-rows .ensures .1 ∙ ap (λ (p : Poly). padded (stored (start .args .r)) (p .coeffs)) (scaled-is (start .pre) (c5 .if1 .left) (c4 .if2 .left) (start .args .a .now)))
 
 pub changed-spec : {M : Type 1} → statement M
 changed-spec =

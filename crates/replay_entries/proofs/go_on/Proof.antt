@@ -43,7 +43,9 @@ slice-aggregate-fill : tie.Need-slice-aggregate-fill
 slice-aggregate-fill c = sym (length-take-le _ _ (slice-relend-prefix-fill (c .before)))
 
 fill-requires : tie.Need-fill-requires
-fill-requires c κs = (omega (arith, c .before .before .before .before .before .before .count-of3 .ensures), simp length-take (omega (arith, c .before .before .before .before .before .before .before .before .count-of .ensures)))
+fill-requires c κs =
+    let c8 = c .before .before .before .before .before .before .before .before in
+    (omega (arith, c .before .before .before .before .before .before .count-of3 .ensures), simp length-take (omega (arith, c8 .count-of .ensures)))
 
 add-fill : tie.Need-add-fill
 add-fill c = search needs
@@ -58,7 +60,11 @@ slice-aggregate-fill-2 : tie.Need-slice-aggregate-fill-2
 slice-aggregate-fill-2 c = sym (length-take-le _ _ (slice-relend-prefix-fill-2 (c .before)))
 
 fill-requires-2 : tie.Need-fill-requires-2
-fill-requires-2 c κs = (omega (arith, c .before .before .before .before .before .before .before .before .before .before .before .before .before .count-of .ensures, c .before .before .before .before .before .before .before .before .before .before .before .count-of3 .ensures), simp length-take (omega (arith, c .before .before .before .before .before .before .before .before .before .before .before .before .count-of2 .ensures)))
+fill-requires-2 c κs =
+    let c11 = c .before .before .before .before .before .before .before .before .before .before .before in
+    let c12 = c11 .before in
+    let c13 = c12 .before in
+    (omega (arith, c13 .count-of .ensures, c11 .count-of3 .ensures), simp length-take (omega (arith, c12 .count-of2 .ensures)))
 
 slice-reshare-prefix-act : tie.Need-slice-reshare-prefix-act
 slice-reshare-prefix-act c = search needs

@@ -22,7 +22,9 @@ abbrev μ-loop : tie.MeasureT-loop
 μ-loop head xs m to₀ n k₀ to k = n - k
 
 small : (c : tie.In-loop Inv-loop μ-loop) → c .before .loop .k < length ((c .before .before .before .before) .args .to .now)
-small c = omega (arith, c .loop-test .taken, length-set ((c .before .before .before .before) .args .to .now) 0 ((c .before .before .before .before) .args .head))
+small c =
+    let start = c .before .before .before .before in
+    omega (arith, c .loop-test .taken, length-set (start .args .to .now) 0 (start .args .head))
 
 slice-write-to : tie.Need-slice-write-to Inv-loop μ-loop
 slice-write-to c = (c .before .before) .pre .places
@@ -34,7 +36,9 @@ part-log-next-end : tie.Need-part-log-next-end Inv-loop μ-loop
 part-log-next-end c = omega (arith, c .before .before .loop .inv .1 .len, c .before .loop-test .taken)
 
 log-next-requires : tie.Need-log-next-requires Inv-loop μ-loop
-log-next-requires c κs = let z : c .before .before .before .loop .k - 0 ≡ c .before .before .before .loop .k = omega arith in line-next ((c .before .before .before .before .before .before) .pre) (small (c .before .before)) (length-take-le (c .before .before .before .loop .k - 0) (c .before .before .before .loop .to) (omega (arith, c .before .before .before .loop .inv .1 .len, c .before .before .loop-test .taken)) ∙ z)
+log-next-requires c κs =
+    let c3 = c .before .before .before in
+    let z : c3 .loop .k - 0 ≡ c3 .loop .k = omega arith in line-next (c .before .before .before .before .before .before .pre) (small (c .before .before)) (length-take-le (c3 .loop .k - 0) (c3 .loop .to) (omega (arith, c3 .loop .inv .1 .len, c .before .before .loop-test .taken)) ∙ z)
 
 mul-to : tie.Need-mul-to Inv-loop μ-loop
 mul-to c = omega (arith, small (c .before .before .before), (c .before .before .before .before .before .before .before) .pre .few)
@@ -49,13 +53,21 @@ loop-less : tie.Need-loop-less Inv-loop μ-loop
 loop-less c = omega (arith, c .before .before .before .loop-test .taken)
 
 loop-again : tie.Need-loop-again Inv-loop μ-loop
-loop-again c = let z : c .before .before .before .before .loop .k - 0 ≡ c .before .before .before .before .loop .k = omega arith in (omega (arith, c .before .before .before .loop-test .taken), grown-more (c .before .before .before .before .loop .inv .1) (c .before .before .before .loop-test .taken) (c .log-next .ensures ∙ ap (λ (i : ℕ). nextPlace ((c .before .before .before .before .before .before .before) .args .m) ((c .before .before .before .before .before .before .before) .args .xs .now) (take i (c .before .before .before .before .loop .to))) z))
+loop-again c =
+    let c3 = c .before .before .before in
+    let c4 = c3 .before in
+    let start = c4 .before .before .before in
+    let z : c4 .loop .k - 0 ≡ c4 .loop .k = omega arith in (omega (arith, c3 .loop-test .taken), grown-more (c4 .loop .inv .1) (c3 .loop-test .taken) (c .log-next .ensures ∙ ap (λ (i : ℕ). nextPlace (start .args .m) (start .args .xs .now) (take i (c4 .loop .to))) z))
 
 same-length : tie.Need-same-length Inv-loop μ-loop
-same-length c = c .before .loop .inv .1 .len ∙ length-set ((c .before .before .before .before) .args .to .now) 0 ((c .before .before .before .before) .args .head)
+same-length c =
+    let start = c .before .before .before .before in
+    c .before .loop .inv .1 .len ∙ length-set (start .args .to .now) 0 (start .args .head)
 
 returns : tie.Need-returns Inv-loop μ-loop
-returns c = grown-all (c .before .loop .inv .1) (omega (arith, c .before .loop .inv .0, c .loop-test .left)) ∙ ap (λ (i : ℕ). grow (i - 1) (nextPlace ((c .before .before .before .before) .args .m) ((c .before .before .before .before) .args .xs .now)) ((c .before .before .before .before) .args .head ∷ [])) (length-set ((c .before .before .before .before) .args .to .now) 0 ((c .before .before .before .before) .args .head))
+returns c =
+    let start = c .before .before .before .before in
+    grown-all (c .before .loop .inv .1) (omega (arith, c .before .loop .inv .0, c .loop-test .left)) ∙ ap (λ (i : ℕ). grow (i - 1) (nextPlace (start .args .m) (start .args .xs .now)) (start .args .head ∷ [])) (length-set (start .args .to .now) 0 (start .args .head))
 
 pub log-line-spec : {M : Type 1} → statement M
 log-line-spec =

@@ -43,7 +43,9 @@ same-length : tie.Need-same-length Inv-loop μ-loop
 same-length c = c .before .loop .inv .1 .len
 
 returns : tie.Need-returns Inv-loop μ-loop
-returns c = filled-all (c .before .loop .inv .1) (c .before .loop .inv .0) (omega (arith, c .loop-test .left)) ∙ ap (λ (m : ℕ). table m (λ p. mul binary64 (getD ((c .before .before .before) .args .a .now) p nan) (wholeF ((c .before .before .before) .args .k)))) ((c .before .before .before) .pre .1)
+returns c =
+    let start = c .before .before .before in
+    filled-all (c .before .loop .inv .1) (c .before .loop .inv .0) (omega (arith, c .loop-test .left)) ∙ ap (λ (m : ℕ). table m (λ p. mul binary64 (getD (start .args .a .now) p nan) (wholeF (start .args .k)))) (start .pre .1)
 
 pub scale-spec : {M : Type 1} → statement M
 scale-spec =

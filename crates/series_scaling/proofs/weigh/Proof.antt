@@ -28,7 +28,9 @@ shared-slice-read-to : tie.Need-shared-slice-read-to Inv-loop μ-loop
 shared-slice-read-to c = omega (arith, (c .before .before .before) .pre .0 .1)
 
 int-to-float-to : tie.Need-int-to-float-to Inv-loop μ-loop
-int-to-float-to c = small-float (small-row ((c .before .before .before .before) .pre .0 .0) ((c .before .before .before .before) .pre .1) (c .before .before .loop-test .taken))
+int-to-float-to c =
+    let start = c .before .before .before .before in
+    small-float (small-row (start .pre .0 .0) (start .pre .1) (c .before .before .loop-test .taken))
 
 mul-to-2 : tie.Need-mul-to-2 Inv-loop μ-loop
 mul-to-2 c = omega (arith, c .before .before .before .loop .inv .1 .len)

@@ -20,7 +20,9 @@ loop-holds : tie.Need-loop-holds Inv-loop μ-loop
 loop-holds c = (omega arith, (refl, filled-none))
 
 loop-again : tie.Need-loop-again Inv-loop μ-loop
-loop-again c = (omega arith, (c .before .before .before .loop .inv .1 .0, filled-more (c .before .before .before .loop .inv .1 .1) (c .float-of .ensures ∙ ap (ofBits binary64) (c .before .word-at .ensures)) (omega arith)))
+loop-again c =
+    let c3 = c .before .before .before in
+    (omega arith, (c3 .loop .inv .1 .0, filled-more (c3 .loop .inv .1 .1) (c .float-of .ensures ∙ ap (ofBits binary64) (c .before .word-at .ensures)) (omega arith)))
 
 same-length : tie.Need-same-length Inv-loop μ-loop
 same-length c = c .before .loop .inv .1 .1 .len

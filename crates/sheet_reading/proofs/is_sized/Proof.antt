@@ -13,7 +13,9 @@ step-count-requires : tie.Need-step-count-requires
 step-count-requires c κs = search needs
 
 add-result : tie.Need-add-result
-add-result c = omega (arith, c .before .input-count .ensures, c .step-count .ensures, count-small (c .before .before .before .args .text .now), step-small (c .before .before .before .args .text .now))
+add-result c =
+    let start = c .before .before .before in
+    omega (arith, c .before .input-count .ensures, c .step-count .ensures, count-small (start .args .text .now), step-small (start .args .text .now))
 
 word-at-requires : tie.Need-word-at-requires
 word-at-requires c κs = search needs

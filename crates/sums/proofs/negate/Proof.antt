@@ -17,10 +17,13 @@ use Rattle.gates.proofs.stored_of.Reads as stored-of-reads
 use Rattle.shape_words.proofs.word.header_of.Reads as header-of-reads
 use Rattle.sums_negation.proofs.negate_into.Reads as negate-into-reads
 
-ready : (c : tie.Else1) → OneReady Same ((c .before .before .before .before .before) .args .head) (length ((c .before .before .before .before .before) .args .a .now)) (length ((c .before .before .before .before .before) .args .out .now))
+ready : (c : tie.Else1) →
+    let start = c .before .before .before .before .before in
+    OneReady Same (start .args .head) (length (start .args .a .now)) (length (start .args .out .now))
 ready c =
-    let a = (c .before .before .before .before .before) .args in
-    negate-ready (a .head) (a .a .now) (a .out .now) ((c .before .before .before .before .before) .fits .head .fits) (c .before .before .one-gate .ensures) (c .if1 .left)
+    let start = c .before .before .before .before .before in
+    let a = start .args in
+    negate-ready (a .head) (a .a .now) (a .out .now) (start .fits .head .fits) (c .before .before .one-gate .ensures) (c .if1 .left)
 
 counted : (c : tie.After-stored-of) → c .stored-of .result ≡ stored (headerOf ((c .before .before .before .before .before .before .before) .args .head))
 counted c = c .stored-of .ensures ∙ ap stored (c .before .header-of .ensures)
@@ -40,8 +43,11 @@ negate-into-requires c κs =
 
 returns-2 : tie.Need-returns-2
 returns-2 c =
-    let a = (c .before .before .before .before .before .before .before .before .before .before .before) .args in
-    (negate-done (a .head) (a .a .now) (a .out .now) ((c .before .before .before .before .before .before .before .before .before .before .before) .fits .head .fits) (c .before .before .before .before .before .before .before .before .one-gate .ensures) (c .before .before .before .before .before .before .if1 .left), (c .before .before .negate-into .ensures ∙ negate-out (a .head) (a .a .now) (a .out .now) ((c .before .before .before .before .before .before .before .before .before .before .before) .fits .head .fits) (c .before .before .before .before .before .before .before .before .one-gate .ensures) (c .before .before .before .before .before .before .if1 .left) (counted (c .before .before .before .before))))
+    let c6 = c .before .before .before .before .before .before in
+    let c8 = c6 .before .before in
+    let start = c8 .before .before .before in
+    let a = start .args in
+    (negate-done (a .head) (a .a .now) (a .out .now) (start .fits .head .fits) (c8 .one-gate .ensures) (c6 .if1 .left), (c .before .before .negate-into .ensures ∙ negate-out (a .head) (a .a .now) (a .out .now) (start .fits .head .fits) (c8 .one-gate .ensures) (c6 .if1 .left) (counted (c .before .before .before .before))))
 
 pub negate-spec : {M : Type 1} → statement M
 negate-spec =

@@ -9,7 +9,9 @@ use Rattle.product.proofs.kernel.keep.Statement.{statement}
 use Rattle.product.proofs.kernel.keep.Tie as tie
 
 returns : tie.Need-returns
-returns c = let e : c .before .before .before .before .before .before .args .at + c .before .before .before .before .before .before .args .n - c .before .before .before .before .before .before .args .at ≡ c .before .before .before .before .before .before .args .n = omega arith in kept-mid (c .before .before .before .before .before .before .args .at) (c .before .before .before .before .before .before .args .n) (c .before .before .before .before .before .before .args .work .now) (c .before .before .before .before .before .before .args .from .now) (length (take (c .before .before .before .before .before .before .args .at + c .before .before .before .before .before .before .args .n - c .before .before .before .before .before .before .args .at) (drop (c .before .before .before .before .before .before .args .at) (c .before .before .before .before .before .before .args .work .now)))) (c .before .before .copy .ensures) (simp (length-take, length-drop) (omega (arith, c .before .before .before .before .before .before .pre))) (c .before .before .before .before .before .before .pre .0) (c .before .before .before .before .before .before .pre .1) e
+returns c =
+    let start = c .before .before .before .before .before .before in
+    let e : start .args .at + start .args .n - start .args .at ≡ start .args .n = omega arith in kept-mid (start .args .at) (start .args .n) (start .args .work .now) (start .args .from .now) (length (take (start .args .at + start .args .n - start .args .at) (drop (start .args .at) (start .args .work .now)))) (c .before .before .copy .ensures) (simp (length-take, length-drop) (omega (arith, start .pre))) (start .pre .0) (start .pre .1) e
 
 pub keep-spec : {M : Type 1} → statement M
 keep-spec =

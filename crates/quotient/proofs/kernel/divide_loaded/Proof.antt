@@ -24,7 +24,9 @@ slice-aggregate-divide-constant : tie.Need-slice-aggregate-divide-constant
 slice-aggregate-divide-constant c = sym (length-take-le _ _ (recurring-fits (c .before .before .before .before .before .pre .0) .0))
 
 divide-constant-requires : tie.Need-divide-constant-requires
-divide-constant-requires c κs = c .before .before .before .before .before .before .pre .1 (c .before .before .before .if1 .taken) ∙ sym (length-take-le _ _ (recurring-fits (c .before .before .before .before .before .before .pre .0) .0))
+divide-constant-requires c κs =
+    let start = c .before .before .before .before .before .before in
+    start .pre .1 (c .before .before .before .if1 .taken) ∙ sym (length-take-le _ _ (recurring-fits (start .pre .0) .0))
 
 returns : tie.Need-returns
 unfolding loadedQuotient

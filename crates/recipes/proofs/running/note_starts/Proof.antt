@@ -27,19 +27,27 @@ loop-holds : tie.Need-loop-holds Inv-loop μ-loop
 loop-holds c = starting-none
 
 mul-starts : tie.Need-mul-starts Inv-loop μ-loop
-mul-starts c = omega (arith, c .before .before .before .before .pre .1, c .before .loop .inv .begun .len, c .before .before .before .before .good)
+mul-starts c =
+    let start = c .before .before .before .before in
+    omega (arith, start .pre .1, c .before .loop .inv .begun .len, start .good)
 
 slice-write-starts : tie.Need-slice-write-starts Inv-loop μ-loop
 slice-write-starts c = omega (arith, c .before .before .before .before .pre .1, c .before .loop .inv .begun .len)
 
 stored-of-requires : tie.Need-stored-of-requires Inv-loop μ-loop
-stored-of-requires c κs = rw (c .header-of .ensures) (word-ruled (c .before .before .before .before .before .before .args .headers .now) (c .before .before .before .before .before .before .pre .0) (c .before .before .before .loop .i))
+stored-of-requires c κs =
+    let start = c .before .before .before .before .before .before in
+    rw (c .header-of .ensures) (word-ruled (start .args .headers .now) (start .pre .0) (c .before .before .before .loop .i))
 
 add-from : tie.Need-add-from Inv-loop μ-loop
-add-from c = record { fits = starting-fits (c .before .before .before .before .loop .inv) (c .before .before .before .before .before .before .before .pre .0) (c .stored-of .ensures ∙ ap stored (c .before .header-of .ensures)) (c .before .before .before .before .before .before .before .pre .1 .1) }
+add-from c =
+    let start = c .before .before .before .before .before .before .before in
+    record { fits = starting-fits (c .before .before .before .before .loop .inv) (start .pre .0) (c .stored-of .ensures ∙ ap stored (c .before .header-of .ensures)) (start .pre .1 .1) }
 
 loop-again : tie.Need-loop-again Inv-loop μ-loop
-loop-again c = starting-more (c .before .before .before .before .loop .inv) (c .before .before .before .before .before .before .before .pre .0) (c .stored-of .ensures ∙ ap stored (c .before .header-of .ensures)) (c .before .before .before .loop-test .taken) (c .before .before .before .before .before .before .before .pre .1 .0)
+loop-again c =
+    let start = c .before .before .before .before .before .before .before in
+    starting-more (c .before .before .before .before .loop .inv) (start .pre .0) (c .stored-of .ensures ∙ ap stored (c .before .header-of .ensures)) (c .before .before .before .loop-test .taken) (start .pre .1 .0)
 
 same-length : tie.Need-same-length Inv-loop μ-loop
 same-length c = c .before .loop .inv .begun .len

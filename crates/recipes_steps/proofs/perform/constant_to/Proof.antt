@@ -17,10 +17,14 @@ use Rattle.recipes_steps.proofs.perform.constant_to.Lts as lts
 use Rattle.recipes_operands.proofs.pad.Reads as pad-reads
 
 same-length : tie.Need-same-length
-same-length c = c .before .before .pad .kept .0 ∙ length-set (c .before .before .before .before .before .before .args .pool .now) (c .before .before .before .before .before .before .args .at) (wholeF (c .before .before .before .before .before .before .args .n))
+same-length c =
+    let start = c .before .before .before .before .before .before in
+    c .before .before .pad .kept .0 ∙ length-set (start .args .pool .now) (start .args .at) (wholeF (start .args .n))
 
 returns : tie.Need-returns
-returns c = constant-kept (c .before .before .before .before .before .before .args .at) (c .before .before .before .before .before .before .args .room) (c .before .before .before .before .before .before .args .pool .now) (wholeF (c .before .before .before .before .before .before .args .n)) (c .before .before .before .before .before .before .pre .0) (c .before .before .before .before .before .before .pre .1) (c .before .before .pad .ensures)
+returns c =
+    let start = c .before .before .before .before .before .before in
+    constant-kept (start .args .at) (start .args .room) (start .args .pool .now) (wholeF (start .args .n)) (start .pre .0) (start .pre .1) (c .before .before .pad .ensures)
 
 pub constant-to-spec : {M : Type 1} → statement M
 constant-to-spec =

@@ -21,22 +21,38 @@ slice-aggregate-front-to : tie.Need-slice-aggregate-front-to
 slice-aggregate-front-to c = sym (length-take-le _ _ (c .before .before .before .before .before .before .pre .1 .1 .1 .spare))
 
 front-to-requires : tie.Need-front-to-requires
-front-to-requires c κs = (substituting-given (c .before .before .before .before .before .before .pre .0) (length-take-le _ _ (c .before .before .before .before .before .before .pre .1 .1 .1 .spare)), (c .before .before .before .before .before .before .pre .1 .0, (c .before .before .before .before .before .before .pre .1 .1 .0, c .before .before .before .before .before .before .pre .1 .1 .1 .room)))
+front-to-requires c κs =
+    let start = c .before .before .before .before .before .before in
+    (substituting-given (start .pre .0) (length-take-le _ _ (start .pre .1 .1 .1 .spare)), (start .pre .1 .0, (start .pre .1 .1 .0, start .pre .1 .1 .1 .room)))
 
 count-of-requires : tie.Need-count-of-requires
-count-of-requires c κs = value-lengths (c .before .before .before .before .before .before .before .before .before .before .before .pre .0) (lying (c .before .before .before .before .before .before .before .before .before .before .before .args .xi) (c .before .before .before .before .before .before .before .before .before .before .before .args .coefficients .now) (take (c .before .before .before .before .before .before .before .before .before .before .before .args .at) (c .before .before .before .before .before .before .before .before .before .before .before .args .pool .now)) (c .before .before .before .before .before .before .before .before .before .before .before .args .xf) (c .before .before .before .before .before .before .before .before .before .before .before .args .x) .coeffs) (lying (c .before .before .before .before .before .before .before .before .before .before .before .args .yi) (c .before .before .before .before .before .before .before .before .before .before .before .args .coefficients .now) (take (c .before .before .before .before .before .before .before .before .before .before .before .args .at) (c .before .before .before .before .before .before .before .before .before .before .before .args .pool .now)) (c .before .before .before .before .before .before .before .before .before .before .before .args .yf) (c .before .before .before .before .before .before .before .before .before .before .before .args .y) .coeffs) (full (c .before .before .before .before .before .before .before .before .before .before .before)) (c .before .before .before .before .front-to .ensures)
+count-of-requires c κs =
+    let start = c .before .before .before .before .before .before .before .before .before .before .before in
+    value-lengths (start .pre .0) (lying (start .args .xi) (start .args .coefficients .now) (take (start .args .at) (start .args .pool .now)) (start .args .xf) (start .args .x) .coeffs) (lying (start .args .yi) (start .args .coefficients .now) (take (start .args .at) (start .args .pool .now)) (start .args .yf) (start .args .y) .coeffs) (full start) (c .before .before .before .before .front-to .ensures)
 
 add-pad : tie.Need-add-pad
-add-pad c = omega (arith, c .before .before .before .before .before .before .before .before .before .before .before .before .before .pre .1 .1 .1 .room, c .before .before .before .before .before .before .before .before .before .before .before .before .before .good, value-count (c .before .before .before .before .before .before .before .before .before .before .before .before .before .pre .0) (lying (c .before .before .before .before .before .before .before .before .before .before .before .before .before .args .xi) (c .before .before .before .before .before .before .before .before .before .before .before .before .before .args .coefficients .now) (take (c .before .before .before .before .before .before .before .before .before .before .before .before .before .args .at) (c .before .before .before .before .before .before .before .before .before .before .before .before .before .args .pool .now)) (c .before .before .before .before .before .before .before .before .before .before .before .before .before .args .xf) (c .before .before .before .before .before .before .before .before .before .before .before .before .before .args .x) .coeffs) (lying (c .before .before .before .before .before .before .before .before .before .before .before .before .before .args .yi) (c .before .before .before .before .before .before .before .before .before .before .before .before .before .args .coefficients .now) (take (c .before .before .before .before .before .before .before .before .before .before .before .before .before .args .at) (c .before .before .before .before .before .before .before .before .before .before .before .before .before .args .pool .now)) (c .before .before .before .before .before .before .before .before .before .before .before .before .before .args .yf) (c .before .before .before .before .before .before .before .before .before .before .before .before .before .args .y) .coeffs) (full (c .before .before .before .before .before .before .before .before .before .before .before .before .before)) (c .before .before .before .before .before .before .front-to .ensures) (c .before .count-of .ensures))
+add-pad c =
+    let c12 = c .before .before .before .before .before .before .before .before .before .before .before .before in
+    let start = c12 .before in
+    omega (arith, start .pre .1 .1 .1 .room, start .good, value-count (start .pre .0) (lying (start .args .xi) (start .args .coefficients .now) (take (start .args .at) (start .args .pool .now)) (start .args .xf) (start .args .x) .coeffs) (lying (start .args .yi) (start .args .coefficients .now) (take (start .args .at) (start .args .pool .now)) (start .args .yf) (start .args .y) .coeffs) (full start) (c .before .before .before .before .before .before .front-to .ensures) (c .before .count-of .ensures))
 
 add-pad-2 : tie.Need-add-pad-2
-add-pad-2 c = omega (arith, c .before .before .before .before .before .before .before .before .before .before .before .before .before .pre .1 .1 .1 .room, c .before .before .before .before .before .before .before .before .before .before .before .before .before .good)
+add-pad-2 c =
+    let c12 = c .before .before .before .before .before .before .before .before .before .before .before .before in
+    let start = c12 .before in
+    omega (arith, start .pre .1 .1 .1 .room, start .good)
 
 pad-requires : tie.Need-pad-requires
-pad-requires c κs = (omega (arith, value-count (c .before .before .before .before .before .before .before .before .before .before .before .before .before .pre .0) (lying (c .before .before .before .before .before .before .before .before .before .before .before .before .before .args .xi) (c .before .before .before .before .before .before .before .before .before .before .before .before .before .args .coefficients .now) (take (c .before .before .before .before .before .before .before .before .before .before .before .before .before .args .at) (c .before .before .before .before .before .before .before .before .before .before .before .before .before .args .pool .now)) (c .before .before .before .before .before .before .before .before .before .before .before .before .before .args .xf) (c .before .before .before .before .before .before .before .before .before .before .before .before .before .args .x) .coeffs) (lying (c .before .before .before .before .before .before .before .before .before .before .before .before .before .args .yi) (c .before .before .before .before .before .before .before .before .before .before .before .before .before .args .coefficients .now) (take (c .before .before .before .before .before .before .before .before .before .before .before .before .before .args .at) (c .before .before .before .before .before .before .before .before .before .before .before .before .before .args .pool .now)) (c .before .before .before .before .before .before .before .before .before .before .before .before .before .args .yf) (c .before .before .before .before .before .before .before .before .before .before .before .before .before .args .y) .coeffs) (full (c .before .before .before .before .before .before .before .before .before .before .before .before .before)) (c .before .before .before .before .before .before .front-to .ensures) (c .before .count-of .ensures)), omega (arith, c .before .before .before .before .before .before .before .before .before .before .before .before .before .pre .1 .1 .1 .room, c .before .before .before .before .before .before .front-to .ensures .stays .below .len))
+pad-requires c κs =
+    let c6 = c .before .before .before .before .before .before in
+    let start = c6 .before .before .before .before .before .before .before in
+    (omega (arith, value-count (start .pre .0) (lying (start .args .xi) (start .args .coefficients .now) (take (start .args .at) (start .args .pool .now)) (start .args .xf) (start .args .x) .coeffs) (lying (start .args .yi) (start .args .coefficients .now) (take (start .args .at) (start .args .pool .now)) (start .args .yf) (start .args .y) .coeffs) (full start) (c6 .front-to .ensures) (c .before .count-of .ensures)), omega (arith, start .pre .1 .1 .1 .room, c6 .front-to .ensures .stays .below .len))
 
 returns : tie.Need-returns
-returns c = (value-head (c .before .before .before .before .before .before .before .before .before .before .before .before .before .before .before .before .pre .0) (lying (c .before .before .before .before .before .before .before .before .before .before .before .before .before .before .before .before .args .xi) (c .before .before .before .before .before .before .before .before .before .before .before .before .before .before .before .before .args .coefficients .now) (take (c .before .before .before .before .before .before .before .before .before .before .before .before .before .before .before .before .args .at) (c .before .before .before .before .before .before .before .before .before .before .before .before .before .before .before .before .args .pool .now)) (c .before .before .before .before .before .before .before .before .before .before .before .before .before .before .before .before .args .xf) (c .before .before .before .before .before .before .before .before .before .before .before .before .before .before .before .before .args .x) .coeffs) (lying (c .before .before .before .before .before .before .before .before .before .before .before .before .before .before .before .before .args .yi) (c .before .before .before .before .before .before .before .before .before .before .before .before .before .before .before .before .args .coefficients .now) (take (c .before .before .before .before .before .before .before .before .before .before .before .before .before .before .before .before .args .at) (c .before .before .before .before .before .before .before .before .before .before .before .before .before .before .before .before .args .pool .now)) (c .before .before .before .before .before .before .before .before .before .before .before .before .before .before .before .before .args .yf) (c .before .before .before .before .before .before .before .before .before .before .before .before .before .before .before .before .args .y) .coeffs) (full (c .before .before .before .before .before .before .before .before .before .before .before .before .before .before .before .before)) (c .before .before .before .before .before .before .before .before .before .front-to .ensures), value-kept (c .before .before .before .before .before .before .before .before .before .before .before .before .before .before .before .before .pre .0) (lying (c .before .before .before .before .before .before .before .before .before .before .before .before .before .before .before .before .args .xi) (c .before .before .before .before .before .before .before .before .before .before .before .before .before .before .before .before .args .coefficients .now) (take (c .before .before .before .before .before .before .before .before .before .before .before .before .before .before .before .before .args .at) (c .before .before .before .before .before .before .before .before .before .before .before .before .before .before .before .before .args .pool .now)) (c .before .before .before .before .before .before .before .before .before .before .before .before .before .before .before .before .args .xf) (c .before .before .before .before .before .before .before .before .before .before .before .before .before .before .before .before .args .x) .coeffs) (lying (c .before .before .before .before .before .before .before .before .before .before .before .before .before .before .before .before .args .yi) (c .before .before .before .before .before .before .before .before .before .before .before .before .before .before .before .before .args .coefficients .now) (take (c .before .before .before .before .before .before .before .before .before .before .before .before .before .before .before .before .args .at) (c .before .before .before .before .before .before .before .before .before .before .before .before .before .before .before .before .args .pool .now)) (c .before .before .before .before .before .before .before .before .before .before .before .before .before .before .before .before .args .yf) (c .before .before .before .before .before .before .before .before .before .before .before .before .before .before .before .before .args .y) .coeffs) (full (c .before .before .before .before .before .before .before .before .before .before .before .before .before .before .before .before)) (c .before .before .before .before .before .before .before .before .before .front-to .ensures) (c .before .before .before .before .count-of .ensures) (c .before .before .pad .ensures))
+returns c =
+    let c9 = c .before .before .before .before .before .before .before .before .before in
+    let start = c9 .before .before .before .before .before .before .before in
+    (value-head (start .pre .0) (lying (start .args .xi) (start .args .coefficients .now) (take (start .args .at) (start .args .pool .now)) (start .args .xf) (start .args .x) .coeffs) (lying (start .args .yi) (start .args .coefficients .now) (take (start .args .at) (start .args .pool .now)) (start .args .yf) (start .args .y) .coeffs) (full start) (c9 .front-to .ensures), value-kept (start .pre .0) (lying (start .args .xi) (start .args .coefficients .now) (take (start .args .at) (start .args .pool .now)) (start .args .xf) (start .args .x) .coeffs) (lying (start .args .yi) (start .args .coefficients .now) (take (start .args .at) (start .args .pool .now)) (start .args .yf) (start .args .y) .coeffs) (full start) (c9 .front-to .ensures) (c .before .before .before .before .count-of .ensures) (c .before .before .pad .ensures))
 
 pub substitute-to-spec : {M : Type 1} → statement M
 substitute-to-spec =
