@@ -50,7 +50,8 @@ module _ {A : Type 0} where
       e .is ∙ (rw (h, drop-length d) (append-nil (table (length d) f)))
 
   -- its front was filled, and f leaves the rest as it was
-  pub filled-front : (x : A) {i : ℕ} {f : ℕ → A} {d out : List A} → Filled i f d out → i ≤ length d → ((k : ℕ) → i ≤ k → k < length d → f k ≡ getD d k x) → out ≡ table (length d) f
+  pub filled-front : (x : A) {i : ℕ} {f : ℕ → A} {d out : List A} → Filled i f d out → i ≤ length d
+      → ((k : ℕ) → i ≤ k → k < length d → f k ≡ getD d k x) → out ≡ table (length d) f
   filled-front x {i} {f} {d} e p h =
       let n : length d ≡ i + (length d - i) = omega arith in
       let t : table (length d - i) (λ k. f (i + k)) ≡ drop i d =

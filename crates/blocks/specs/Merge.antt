@@ -123,7 +123,8 @@ module _ {n c m d : List ℕ} (x : Merged n c m d) where
       ∙ table-same _ _ (count c) (λ k l. ap (λ (p : ℕ). getD a p nan) (x .reads k l))
 
   pub join-merged : (minus : Bool) (a old : List Float)
-      → table (count d) (λ k. joinAt minus (getD old k nan) (block m a) (index d k)) ≡ table (count c) (λ k. joinAt minus (getD old k nan) (block n a) (index c k))
+      → table (count d) (λ k. joinAt minus (getD old k nan) (block m a) (index d k))
+      ≡ table (count c) (λ k. joinAt minus (getD old k nan) (block n a) (index c k))
   unfolding joinAt
   join-merged minus a old =
       ap (λ (z : ℕ). table z (λ k. joinAt minus (getD old k nan) (block m a) (index d k))) (x .as-long)

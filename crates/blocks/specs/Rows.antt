@@ -57,7 +57,8 @@ module _ {c : List ℕ} (g : Sizes c) where
   unfolding index
   at-first =
       let e : (m : ℕ) → 0 ≡ 0 * m + 0 = λ m. omega arith in
-      let z : (m : ℕ) → 0 < m → (0 / m ≡ 0) × (0 % m ≡ 0) = λ m h. (ap (λ (x : ℕ). x / m) (e m) ∙ digits-div 0 h, ap (λ (x : ℕ). x % m) (e m) ∙ digits-mod 0 h) in
+      let z : (m : ℕ) → 0 < m → (0 / m ≡ 0) × (0 % m ≡ 0) =
+      λ m h. (ap (λ (x : ℕ). x / m) (e m) ∙ digits-div 0 h, ap (λ (x : ℕ). x % m) (e m) ∙ digits-mod 0 h) in
       let a = z (at c 3) (g .p3) in
       let b = z (at c 2) (g .p2) in
       let d = z (at c 1) (g .p1) in

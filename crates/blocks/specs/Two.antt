@@ -58,7 +58,8 @@ holds-two n m xs ys rest p q =
       back = ap (take (length ys)) (drop-at (take n (xs ++ rest)) _ n t) ∙ take-at ys _ (length ys) refl;
     }
 
-pub two-held : (la ca lb cb : List ℕ) {n ma mb ka : ℕ} (m : ℕ) (a b w : List Float) {xs ys : List Float} → Two la ca lb cb n ma mb (length w) → xs ≡ cutPlaces la ca a → ys ≡ cutPlaces lb cb b
+pub two-held : (la ca lb cb : List ℕ) {n ma mb ka : ℕ} (m : ℕ) (a b w : List Float) {xs ys : List Float}
+    → Two la ca lb cb n ma mb (length w) → xs ≡ cutPlaces la ca a → ys ≡ cutPlaces lb cb b
     → ka ≡ count ca → Holds n (cutPlaces la ca a) (cutPlaces lb cb b) (putMid n m (xs ++ drop ka w) ys)
 two-held la ca lb cb {n} {ka = ka} m a b w {xs} {ys} t ex ey k =
     let l : length xs ≡ count ca = ap length ex ∙ length-table _ (count ca) in

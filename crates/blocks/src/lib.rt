@@ -151,7 +151,8 @@ pub fn load(a: &[f64], n: [usize; 4], c: [usize; 4], to: &mut [f64])
 // there.
 fn join_row(minus: bool, a: &[f64], n: [usize; 4], i: [usize; 4], to: &mut [f64])
     requires { ⌜ Sizes n ⌝ ∗ ⌜ (count n ≤ length (now a)) × (at n 3 ≤ length (now to)) ⌝ ∗ ⌜ at i 3 ≡ 0 ⌝ }
-    ensures { λ _. ⌜ now (to .exit) ≡ table (length (now (to .entry))) (λ k. joinAt minus (getD (now (to .entry)) k nan) (block n (now (a .entry))) (alongRow i k)) ⌝ }
+    ensures { λ _. ⌜ now (to .exit) ≡ table (length (now (to .entry)))
+        (λ k. joinAt minus (getD (now (to .entry)) k nan) (block n (now (a .entry))) (alongRow i k)) ⌝ }
 {
     if shape_words::places::is_inside(n, i) {
         let from = shape_words::places::place_of(n, i);

@@ -30,7 +30,9 @@ use Rattle.laws_exact.specs.Windows.{at-within}
 pub index-stored : (n : List ℕ) (p : ℕ) → ((k : ℕ) → k < 4 → 1 ≤ at n k) → p < count n → Inside n (index n p)
 unfolding index
 index-stored n p g h =
-    let k : p < at n 0 * at n 1 * at n 2 * at n 3 = rw (mul-assoc (at n 0 * at n 1) (at n 2) (at n 3), mul-assoc (at n 0) (at n 1) (at n 2 * at n 3), ← count-is n) h in
+    let k : p < at n 0 * at n 1 * at n 2 * at n 3 =
+    rw (mul-assoc (at n 0 * at n 1) (at n 2) (at n 3), mul-assoc (at n 0) (at n 1) (at n 2 * at n 3), ← count-is n)
+    h in
     record {
       i0 = div-lt-iff-lt-mul (g 1 (lit< tt)) .1 (div-lt-iff-lt-mul (g 2 (lit< tt)) .1 (div-lt-iff-lt-mul (g 3 (lit< tt)) .1 k));
       i1 = mod-lt _ (g 1 (lit< tt));
@@ -63,7 +65,9 @@ module _ {l : List ℕ} {b : Block} {A : Series} (s : Sits l b) (w : Is l b A) w
   wholes-weight =
       let n = b .lengths in
       let four = ap length (s .ns) in
-      boxN-le _ (λ k. natAbs (A k)) n (λ k u. le-of-eq (ap natAbs (wholes-agree k (in-box-length u ∙ four) (stored-under s (inside-is n k (in-box-inside n four u))))))
+      boxN-le _ (λ k. natAbs (A k)) n (λ k u. le-of-eq
+      (ap natAbs (wholes-agree k (in-box-length u ∙ four)
+      (stored-under s (inside-is n k (in-box-inside n four u))))))
 
 -- ---- cutting
 

@@ -32,7 +32,8 @@ most-more h m = record { sits = m .sits; most = λ k g. le-trans (m .most k g) (
 pub constant-most : {l : List ℕ} {x : ℕ → ℕ} {b : Block} (c : Float) → Sits l b → ((k : ℕ) → k < 4 → 1 ≤ x k) → Most l x (constantBlock c)
 constant-most c s h = record { sits = constant-sits c s; most = λ k g. le-trans (omega (arith, at-four (λ k. 1) k g)) (h k g) }
 
-module _ (l : List ℕ) (a b : Block) (pos-l : (k : ℕ) → k < 4 → 1 ≤ at l k) (p : (k : ℕ) → k < 4 → 1 ≤ at (a .lengths) k) (q : (k : ℕ) → k < 4 → 1 ≤ at (b .lengths) k) where
+module _ (l : List ℕ) (a b : Block) (pos-l : (k : ℕ) → k < 4 → 1 ≤ at l k) (p : (k : ℕ) → k < 4 → 1 ≤ at (a .lengths) k)
+    (q : (k : ℕ) → k < 4 → 1 ≤ at (b .lengths) k) where
   -- the whole product, zero tested before the cut
   pub multiplied-fits : Sits (sumShape l (cut l a .lengths) (cut l b .lengths)) (multiplied l a b)
   unfolding multiplied
@@ -61,7 +62,8 @@ joined-most {a = a} {b = b} m n = record {
 }
 
 -- a running value under the limits and the lengths of a header
-pub most-keeps : {h : Header} {x : ℕ → ℕ} {b : Block} → Regular h → Most (h .limits) x b → ((k : ℕ) → k < 4 → min (limit h k) (x k) ≤ len h k) → Keeps h (polyOf h b)
+pub most-keeps : {h : Header} {x : ℕ → ℕ} {b : Block} → Regular h → Most (h .limits) x b
+    → ((k : ℕ) → k < 4 → min (limit h k) (x k) ≤ len h k) → Keeps h (polyOf h b)
 most-keeps r m e =
     let s = m .sits in
     sits-keeps r (record { ns = s .ns; lo = s .lo; hi = λ k h. le-trans (omega (arith, s .hi k h, m .most k h)) (e k h); full = s .full })

@@ -53,9 +53,11 @@ sum-at l n m = at-four (λ k. min (at l k) (at n k + at m k - 1))
 pub max-left : {r t : List ℕ} {a b : Block} → Sits r a → Sits t b → count (b .lengths) ≡ 1 → maxShape (a .lengths) (b .lengths) ≡ a .lengths
 unfolding maxShape
 max-left {a = a} {b = b} s t h =
-    four-same (λ k. max (at (a .lengths) k) (at (b .lengths) k)) (at (a .lengths)) (λ k l. omega (arith, s .lo k l, count-one (b .lengths) (t .lo) h k l)) ∙ sym (s .ns)
+    four-same (λ k. max (at (a .lengths) k) (at (b .lengths) k)) (at (a .lengths))
+    (λ k l. omega (arith, s .lo k l, count-one (b .lengths) (t .lo) h k l)) ∙ sym (s .ns)
 
 pub max-right : {r t : List ℕ} {a b : Block} → Sits r a → Sits t b → count (a .lengths) ≡ 1 → maxShape (a .lengths) (b .lengths) ≡ b .lengths
 unfolding maxShape
 max-right {a = a} {b = b} s t h =
-    four-same (λ k. max (at (a .lengths) k) (at (b .lengths) k)) (at (b .lengths)) (λ k l. omega (arith, t .lo k l, count-one (a .lengths) (s .lo) h k l)) ∙ sym (t .ns)
+    four-same (λ k. max (at (a .lengths) k) (at (b .lengths) k)) (at (b .lengths))
+    (λ k l. omega (arith, t .lo k l, count-one (a .lengths) (s .lo) h k l)) ∙ sym (t .ns)

@@ -61,10 +61,12 @@ module _ {n m k : ℕ} {ns ms ks : List ℕ} {xs ys : List Float} {P Q : Series}
   out-of-window i h o =
       decide (ltb i (lo m k))
       (λ e. let l = ltb-true i (lo m k) e in
-      times-none _ _ ks (λ j w. ap (λ (x : ℤ). P (i ∷ j) *ℤ x) (row-past t (k - i) (omega arith) (omega arith) (indexMinus ks j) (minus-within ks j)) ∙ *ℤ-zero (P (i ∷ j))))
+      times-none _ _ ks (λ j w. ap (λ (x : ℤ). P (i ∷ j) *ℤ x)
+      (row-past t (k - i) (omega arith) (omega arith) (indexMinus ks j) (minus-within ks j)) ∙ *ℤ-zero (P (i ∷ j))))
       (λ e. let l = ltb-false i (lo m k) e in
       let far : n ≤ i = decide (ltb i n) (λ x. absurd (let y = ltb-true i n x in o l (omega arith))) (λ x. ltb-false i n x) in
-      times-none _ _ ks (λ j w. ap (λ (x : ℤ). x *ℤ Q ((k - i) ∷ indexMinus ks j)) (row-past s i (omega arith) far j w) ∙ zero-*ℤ (Q ((k - i) ∷ indexMinus ks j))))
+      times-none _ _ ks (λ j w. ap (λ (x : ℤ). x *ℤ Q ((k - i) ∷ indexMinus ks j)) (row-past s i (omega arith) far j w)
+      ∙ zero-*ℤ (Q ((k - i) ∷ indexMinus ks j))))
 
   pub times-window : times P Q (k ∷ ks) ≡ sumZ termZ (steps n m k) (lo m k)
   times-window = times-row P Q k ks ∙ sum-window addZ termZ (suc k) (lo m k) (steps n m k) (omega arith) out-of-window

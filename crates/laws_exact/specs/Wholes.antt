@@ -70,7 +70,9 @@ place-origin n = omega arith
 module _ {b : Block} {a : ℕ → ℤ} (w : Wholes b a) where
   pub wholes-at : (k : List ℕ) → Whole (coefficientAt b k) (seriesOf (b .lengths) a k)
   unfolding coefficientAt seriesOf truncated
-  wholes-at k = decide (inside (b .lengths) k) (λ t. rw t (w .at (place (b .lengths) k) (place-lt (b .lengths) k (inside-is (b .lengths) k t)))) (λ t. rw t whole-zero)
+  wholes-at k =
+      decide (inside (b .lengths) k) (λ t. rw t
+      (w .at (place (b .lengths) k) (place-lt (b .lengths) k (inside-is (b .lengths) k t)))) (λ t. rw t whole-zero)
 
   pub wholes-is : (l : List ℕ) → Is l b (seriesOf (b .lengths) a)
   wholes-is l = record { at = λ k f i. wholes-at k }

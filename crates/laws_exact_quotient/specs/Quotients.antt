@@ -57,7 +57,8 @@ module _ (p q : Poly) (g : Regular (p .head)) (h : Regular (q .head)) (a b : ℕ
       → Whole (coefficientAt (blockOf (quotientPoly p q)) k) (quotient (seriesIn p a) (seriesIn q b) k)
   unfolding quotientPoly announced paired
   quotient-exact =
-      divided-is (min-limit-pos (p .head) (q .head) (g .rules) (h .rules)) (own-sits p g u) (own-sits q h v) (wholes-is u (limitsOf p q)) (wholes-is v (limitsOf p q)) unit room .at
+      divided-is (min-limit-pos (p .head) (q .head) (g .rules) (h .rules)) (own-sits p g u) (own-sits q h v)
+      (wholes-is u (limitsOf p q)) (wholes-is v (limitsOf p q)) unit room .at
 
   -- the result is a polynomial with whole coefficients again, and no heavier than Q
   pub quotient-result : Result (announced Quotient (p .head) (q .head) .limits) (quotientPoly p q) (quotientIn p a q b) (weightOver p a q b)
@@ -66,4 +67,6 @@ module _ (p q : Poly) (g : Regular (p .head)) (h : Regular (q .head)) (a b : ℕ
       let k = quotient-keeps p q g h in
       let s = keeps-sits k in
       let e : length (announced Quotient (p .head) (q .head) .limits) ≡ 4 = ap length (announced-regular Quotient g h .ls) in
-      result k (record { at = quotient-exact }) (boxN-part (λ j. natAbs (quotientIn p a q b j)) (at-within _ _ (ap length (s .ns) ∙ sym e) (λ v l. s .hi v (rw e at l))))
+      result k (record { at = quotient-exact })
+      (boxN-part (λ j. natAbs (quotientIn p a q b j))
+      (at-within _ _ (ap length (s .ns) ∙ sym e) (λ v l. s .hi v (rw e at l))))

@@ -50,7 +50,8 @@ module _ {l : List ℕ} {a b : Block} {A B : Series} (s : Sits l a) (t : Sits l 
   four = refl
 
   -- the places before that of k, by their indices
-  earlier : (k : List ℕ) → length k ≡ 4 → (g : List Float) → ((x : ℕ) → x < place r k → Whole (getD g x nan) (Q (index r x))) → Before (from r 4 0) (from k 4 0) g Q
+  earlier : (k : List ℕ) → length k ≡ 4 → (g : List Float)
+      → ((x : ℕ) → x < place r k → Whole (getD g x nan) (Q (index r x))) → Before (from r 4 0) (from k 4 0) g Q
   earlier k f g known =
       rw (from-four r, from-four k, ← four-at r four, ← four-at k f)
       (record {

@@ -34,8 +34,10 @@ use Rattle.model.specs.Add.{joinAt, joined, joinedBlock}
 use Rattle.model.specs.General.{line, alone, productAt, general}
 use Rattle.model.specs.Product.{grown, raisedAt, raised, chosen, plainProduct, linearProduct, productOf, multiplied, productPoly, productAnswer, productOut}
 use Rattle.model.specs.Quotient.{taken, lessened, quotientAt, recurred, quotientShape, quotientOf, divided, quotientPoly, quotientAnswer, quotientOut}
-use Rattle.model.specs.Series.{expRow, expRows, logNext, logGathered, logRow, logRows, seriesShape, expOf, logOf, expPoly, logPoly, expAnswer, expOut, logAnswer, logOut}
-use Rattle.model.specs.Shifts.{rowsFrom, derivativeFactor, derivativePoly, rowSum, shiftDownPoly, derivativeAnswer, derivativeOut, shiftDownAnswer, shiftDownOut}
+use Rattle.model.specs.Series.{expRow, expRows, logNext, logGathered, logRow, logRows, seriesShape, expOf, logOf}
+use Rattle.model.specs.Series.{expPoly, logPoly, expAnswer, expOut, logAnswer, logOut}
+use Rattle.model.specs.Shifts.{rowsFrom, derivativeFactor, derivativePoly, rowSum, shiftDownPoly, derivativeAnswer}
+use Rattle.model.specs.Shifts.{derivativeOut, shiftDownAnswer, shiftDownOut}
 use Rattle.model.specs.Power.{squared, powerPoly, powerAnswer, powerOut}
 use Rattle.model.specs.Substitute.{rowAt, powered, horner, substituted, substitutePoly, substituteAnswer, substituteOut}
 
@@ -213,5 +215,13 @@ rows =
     ∷ []
 
 pub examples-hold : hold rows ≡ true
-unfolding hold equal same rows tailAnswer tailGate readBy tailOf sumTo productAnswer productOut pairGate answerBy leaves written goodWord goodHeader goodVars goodVar productPoly multiplied productOf chosen plainProduct linearProduct linearFrom lineOf linearIn zerosBut grown raised raisedAt joinedBlock joined joinAt general productAt line alone walk table cut cutTo maxShape sumShape minDegreesP1 minLimit announced paired headerOf wordOf fields strides offset index inside span quotientAnswer quotientOut quotientPoly divided quotientOf quotientShape recurred quotientAt lessened taken inGate workGate single rowsFrom derivativeFactor derivativePoly rowSum shiftDownPoly derivativeAnswer derivativeOut shiftDownAnswer shiftDownOut squared powerPoly powerAnswer powerOut rowAt powered horner substituted substitutePoly substituteAnswer substituteOut expAnswer expOut expPoly expOf seriesShape expRows expRow logAnswer logOut logPoly logOf logRows logNext logRow logGathered stack grow ofInt ofBits toBits neg add sub mul div eq
+unfolding hold equal same rows tailAnswer tailGate readBy tailOf sumTo productAnswer productOut pairGate answerBy leaves
+    written goodWord goodHeader goodVars goodVar productPoly multiplied productOf chosen plainProduct linearProduct
+    linearFrom lineOf linearIn zerosBut grown raised raisedAt joinedBlock joined joinAt general productAt line alone
+    walk table cut cutTo maxShape sumShape minDegreesP1 minLimit announced paired headerOf wordOf fields strides offset
+    index inside span quotientAnswer quotientOut quotientPoly divided quotientOf quotientShape recurred quotientAt
+    lessened taken inGate workGate single rowsFrom derivativeFactor derivativePoly rowSum shiftDownPoly derivativeAnswer
+    derivativeOut shiftDownAnswer shiftDownOut squared powerPoly powerAnswer powerOut rowAt powered horner substituted
+    substitutePoly substituteAnswer substituteOut expAnswer expOut expPoly expOf seriesShape expRows expRow logAnswer
+    logOut logPoly logOf logRows logNext logRow logGathered stack grow ofInt ofBits toBits neg add sub mul div eq
 examples-hold = refl

@@ -60,9 +60,11 @@ right-wholes =
     (record { sign = false; value = (refl, refl); is = refl }) (record { sign = false; value = (refl, refl); is = refl }))
 
 sixty : Whole (coefficientAt (blockOf (productPoly (held 0x4082082000000000 left) (held 0x4082082000000000 right))) (1 ∷ 1 ∷ 0 ∷ 0 ∷ [])) (pos 60)
-unfolding headerOf goodWord goodHeader goodVars goodVar span weight times seriesOf truncated inside strides offset box upTo indexMinus announced paired minDegreesP1 minLimit
+unfolding headerOf goodWord goodHeader goodVars goodVar span weight times seriesOf truncated inside strides offset box
+    upTo indexMinus announced paired minDegreesP1 minLimit
 sixty =
-    product-exact (held 0x4082082000000000 left) (held 0x4082082000000000 right) (held-regular 0x4082082000000000 left refl) (held-regular 0x4082082000000000 right refl)
+    product-exact (held 0x4082082000000000 left) (held 0x4082082000000000 right)
+    (held-regular 0x4082082000000000 left refl) (held-regular 0x4082082000000000 right refl)
     (whole a) (whole b) left-wholes right-wholes (lit≤ tt) (1 ∷ 1 ∷ 0 ∷ 0 ∷ []) refl
     (record { i0 = lit< tt; i1 = lit< tt; i2 = lit< tt; i3 = lit< tt })
 
@@ -90,8 +92,10 @@ unfolding headerOf span
 divisor-wholes = held-wholes 0x2102000000000000 ones units (lit≤ tt) ones-at
 
 minus-one : Whole (coefficientAt (blockOf (quotientPoly (held 0x2100000000000000 ones) (held 0x2102000000000000 ones))) (1 ∷ 0 ∷ 0 ∷ 0 ∷ [])) (negsuc 0)
-unfolding headerOf goodWord goodHeader goodVars goodVar span weight quotient turns rest degree times seriesOf truncated inside strides offset box upTo indexMinus announced paired minDegreesP1 minLimit
+unfolding headerOf goodWord goodHeader goodVars goodVar span weight quotient turns rest degree times seriesOf truncated
+    inside strides offset box upTo indexMinus announced paired minDegreesP1 minLimit
 minus-one =
-    quotient-exact (held 0x2100000000000000 ones) (held 0x2102000000000000 ones) (held-regular 0x2100000000000000 ones refl) (held-regular 0x2102000000000000 ones refl)
+    quotient-exact (held 0x2100000000000000 ones) (held 0x2102000000000000 ones)
+    (held-regular 0x2100000000000000 ones refl) (held-regular 0x2102000000000000 ones refl)
     units units dividend-wholes divisor-wholes refl (lit≤ tt) (1 ∷ 0 ∷ 0 ∷ 0 ∷ []) refl
     (record { i0 = lit< tt; i1 = lit< tt; i2 = lit< tt; i3 = lit< tt })

@@ -59,10 +59,14 @@ whole-one {x} {a} {b} p =
     sym (own-sign s m e p) ∙ ap (signed s) n ∙ own-sign s m e q)
 
 -- a fraction that is a whole number of that size rounds to it
-pub whole-round : (s : Bool) (num den : ℕ) (z : ℤ) → 0 < den → num ≡ natAbs z * den → signed s (natAbs z) ≡ z → natAbs z ≤ 2 ^ 53 → Whole (round binary64 s num den) z
+pub whole-round : (s : Bool) (num den : ℕ) (z : ℤ) → 0 < den → num ≡ natAbs z * den → signed s (natAbs z) ≡ z
+    → natAbs z ≤ 2 ^ 53 → Whole (round binary64 s num den) z
 whole-round s num den z p e k h = record {
   sign = s;
-  value = subst (λ (x : Float). HasValue x s (natAbs z) 1) (round-same binary64 s (natAbs z) 1 num den (zero-lt-suc 0) p (sym (mul-one num ∙ e))) (round-whole binary64 s (natAbs z) h);
+  value =
+      subst (λ (x : Float). HasValue x s (natAbs z) 1)
+      (round-same binary64 s (natAbs z) 1 num den (zero-lt-suc 0) p (sym (mul-one num ∙ e)))
+      (round-whole binary64 s (natAbs z) h);
   is = k;
 }
 

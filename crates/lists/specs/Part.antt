@@ -55,7 +55,8 @@ module _ {A : Type 0} where
   pub at-none : {at : ℕ} {f : ℕ → A} {d : List A} → FilledAt at 0 f d d
   at-none = record { below = below-same; tail = filled-none }
 
-  pub at-more : {at n : ℕ} {f : ℕ → A} {d out : List A} {v : A} → FilledAt at n f d out → v ≡ f n → n < length (drop at d) → FilledAt at (n + 1) f d (set out (at + n) v)
+  pub at-more : {at n : ℕ} {f : ℕ → A} {d out : List A} {v : A} → FilledAt at n f d out → v ≡ f n
+      → n < length (drop at d) → FilledAt at (n + 1) f d (set out (at + n) v)
   at-more {at} {n} {f} {d} {out} {v} h e l =
       record {
         below = below-then (h .below) (below-set out (at + n) v (omega arith));
@@ -74,7 +75,9 @@ module _ {A : Type 0} where
       record {
         below = h .below;
         holds = ap (λ (m : ℕ). take m (drop at out)) k ∙ ap (take n) (filled-end (h .tail) p q) ∙ take-at (table n f) (drop n (drop at d)) n (length-table f n);
-        above = sym (drop-drop n at out) ∙ ap (drop n) (filled-end (h .tail) p q) ∙ drop-at (table n f) (drop n (drop at d)) n (length-table f n) ∙ drop-drop n at d;
+        above =
+            sym (drop-drop n at out) ∙ ap (drop n) (filled-end (h .tail) p q)
+            ∙ drop-at (table n f) (drop n (drop at d)) n (length-table f n) ∙ drop-drop n at d;
       }
 
   -- a part above is the same

@@ -87,7 +87,8 @@ module _ (head : Float) (lx r : List ℕ) where
   logGathered n v xs k q =
       let x : Block = block (after v lx) (table (span lx n (suc v)) (λ i. mul binary64 (wholeF k) (getD (rowOf lx n v k xs) i nan))) in
       let given : ℕ → Float = λ i.
-      neg (walk (λ j acc. productAt lx r r (index r i) n (suc v) (rowOf lx n v (k - j) xs) (timesWhole j (rowOf r n v j q)) acc) (k - from1 v k) (from1 v k) zeroF) in
+      neg (walk (λ j acc. productAt lx r r (index r i) n (suc v) (rowOf lx n v (k - j) xs)
+      (timesWhole j (rowOf r n v j q)) acc) (k - from1 v k) (from1 v k) zeroF) in
       table (span r n (suc v)) (λ i. cond (ltb k (at lx v)) (joinAt false (given i) x (index r i)) (given i))
 
   -- divided by x's row 0, through the quotient and its shortcuts, under the row's own lengths as limits (lines 1376 to

@@ -25,7 +25,8 @@ fn times_front(
     out: &mut [f64],
 ) -> [usize; 4]
     requires { ⌜ Step limits la lb pa pb n (length (now work)) (length (now out)) ⌝ }
-    ensures { λ r. ⌜ Made (multiplied limits (lain pa la (now (work .entry))) (lain pb lb (now (work .entry)))) (2 * n) (now (work .entry)) (now (work .exit)) (now (out .exit)) r ⌝ }
+    ensures { λ r. ⌜ Made (multiplied limits (lain pa la (now (work .entry))) (lain pb lb (now (work .entry)))) (2 * n)
+        (now (work .entry)) (now (work .exit)) (now (out .exit)) r ⌝ }
 {
     let ea = pa + shape_words::places::count_of(la);
     let eb = pb + shape_words::places::count_of(lb);
@@ -45,7 +46,8 @@ fn times_to(
     out: &mut [f64],
 ) -> [usize; 4]
     requires { ⌜ Step limits la lb pa pb n (length (now work)) (length (now out)) ⌝ ∗ ⌜ to ≤ n ⌝ }
-    ensures { λ r. ⌜ Placed (multiplied limits (lain pa la (now (work .entry))) (lain pb lb (now (work .entry)))) to n (now (work .entry)) (now (work .exit)) r ⌝ }
+    ensures { λ r. ⌜ Placed (multiplied limits (lain pa la (now (work .entry))) (lain pb lb (now (work .entry)))) to n
+        (now (work .entry)) (now (work .exit)) r ⌝ }
 {
     let r = times_front(work, pa, la, pb, lb, n, limits, out);
     let z = shape_words::places::count_of(r);

@@ -19,7 +19,8 @@ ghost use Rattle.model.specs.Places.{index};
 ghost use Rattle.model.specs.Refusals.{zeroF, padded};
 ghost use Rattle.model.specs.Poly.{block};
 ghost use Rattle.model.specs.Add.{joinedBlock};
-ghost use Rattle.model.specs.Product.{isZero, justC, constantBlock, scaled, grown, raisedAt, raised, chosen, plainProduct, linearProduct, productOf, multiplied};
+ghost use Rattle.model.specs.Product.{isZero, justC, constantBlock, scaled, grown, raisedAt, raised, chosen};
+ghost use Rattle.model.specs.Product.{plainProduct, linearProduct, productOf, multiplied};
 ghost use Rattle.shape_words.specs.Lengths.{Lengths};
 ghost use Rattle.product.specs.Room.{lineWay, Raising, RaisesTo, linedAt, Plain, Joins, Room, LineRoom, Whole, LineWhole, Times, Put, Stands, Made};
 
@@ -221,7 +222,10 @@ pub fn product(
     out: &mut [f64],
 ) -> [usize; 4]
     requires { ⌜ Room (now work) pa ea la pb eb lb spare limits stage (length (now out)) ⌝ }
-    ensures { λ r. ⌜ Made (productOf stage limits (block la (part pa ea (now (work .entry)))) (block lb (part pb eb (now (work .entry))))) spare (now (work .entry)) (now (work .exit)) (now (out .exit)) r ⌝ }
+    ensures { λ r.
+        ⌜ Made (productOf stage limits (block la (part pa ea (now (work .entry))))
+        (block lb (part pb eb (now (work .entry))))) spare (now (work .entry))
+        (now (work .exit)) (now (out .exit)) r ⌝ }
 {
     let w = choose(&work[pa..ea], la, &work[pb..eb], lb, stage);
     let kind = w.kind;
@@ -249,7 +253,9 @@ fn linear_product(
     out: &mut [f64],
 ) -> [usize; 4]
     requires { ⌜ LineRoom (now work) p e n (line .variable) spare limits stage (length (now out)) ⌝ }
-    ensures { λ r. ⌜ Made (linearProduct (λ x. productOf (stage - 1) limits x (constantBlock (line .c))) limits line (block n (part p e (now (work .entry))))) spare (now (work .entry)) (now (work .exit)) (now (out .exit)) r ⌝ }
+    ensures { λ r.
+        ⌜ Made (linearProduct (λ x. productOf (stage - 1) limits x (constantBlock (line .c))) limits line
+        (block n (part p e (now (work .entry))))) spare (now (work .entry)) (now (work .exit)) (now (out .exit)) r ⌝ }
 {
     let r = raise_to(&work[p..e], n, line, limits, out);
     let c = line.c;
@@ -300,7 +306,10 @@ pub fn times(
     out: &mut [f64],
 ) -> [usize; 4]
     requires { ⌜ Room (now work) pa ea la pb eb lb spare limits 1 (length (now out)) ⌝ }
-    ensures { λ r. ⌜ Made (multiplied limits (block la (part pa ea (now (work .entry)))) (block lb (part pb eb (now (work .entry))))) spare (now (work .entry)) (now (work .exit)) (now (out .exit)) r ⌝ }
+    ensures { λ r.
+        ⌜ Made (multiplied limits (block la (part pa ea (now (work .entry))))
+        (block lb (part pb eb (now (work .entry))))) spare (now (work .entry))
+        (now (work .exit)) (now (out .exit)) r ⌝ }
 {
     if is_zero(&work[pa..ea], la) | is_zero(&work[pb..eb], lb) {
         return zero_to(out);
@@ -328,7 +337,9 @@ fn line_to(
     out: &mut [f64],
 ) -> [usize; 4]
     requires { ⌜ RaisesTo n (line .variable) limits (length (now a)) (length (now out)) ⌝ ∗ ⌜ 1 < count n ⌝ }
-    ensures { λ r. ⌜ Put (joinedBlock false (raised limits (line .variable) (line .m) (block n (now (a .entry)))) (scaled (line .c) (block n (now (a .entry))))) (now (out .entry)) (now (out .exit)) r ⌝ }
+    ensures { λ r.
+        ⌜ Put (joinedBlock false (raised limits (line .variable) (line .m) (block n (now (a .entry))))
+        (scaled (line .c) (block n (now (a .entry))))) (now (out .entry)) (now (out .exit)) r ⌝ }
 {
     let v = line.variable;
     let r = grown_to(limits, v, n);

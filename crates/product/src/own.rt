@@ -103,7 +103,8 @@ fn short_into(w: Way, a: &[f64], n: [usize; 4], to: &mut [f64])
 pub fn multiply_short(w: Way, ah: u64, a: &[f64], out: &mut [f64], scratch: &mut [f64]) -> Answer
     requires { ⌜ ShortRoom w (headerOf ah) (length (now a)) (length (now out)) (length (now scratch)) ⌝ }
     ensures answer { λ r. ⌜ r ≡ Done ah ⌝ }
-    ensures written { λ r. ⌜ now (out .exit) ≡ shortPlaces w (headerOf ah .lengths) (take (stored (headerOf ah)) (now (a .entry))) ++ drop (stored (headerOf ah)) (now (out .entry)) ⌝ }
+    ensures written { λ r. ⌜ now (out .exit) ≡ shortPlaces w (headerOf ah .lengths) (take (stored (headerOf ah)) (now (a .entry)))
+        ++ drop (stored (headerOf ah)) (now (out .entry)) ⌝ }
     ensures cleared { λ r. ⌜ now (scratch .exit) ≡ zeros (8 * stored (headerOf ah)) ++ drop (8 * stored (headerOf ah)) (now (scratch .entry)) ⌝ }
 {
     let x = header_of(ah);

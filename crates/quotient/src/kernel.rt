@@ -37,7 +37,9 @@ fn divide_by(c: f64, a: &[f64], to: &mut [f64])
 // The row k, with what the dividend stores in it added.
 fn add_dividend(xs: &[f64], lx: [usize; 4], r: [usize; 4], k: usize, row: &mut [f64])
     requires { ⌜ Adding lx r k (length (now xs)) (length (now row)) ⌝ }
-    ensures { λ _. ⌜ now (row .exit) ≡ table (inRow r 0) (λ i. joinAt false (getD (now (row .entry)) i nan) (block lx (now (xs .entry))) (index r (k * inRow r 0 + i))) ⌝ }
+    ensures { λ _. ⌜ now (row .exit) ≡ table (inRow r 0)
+        (λ i. joinAt false (getD (now (row .entry)) i nan) (block lx (now (xs .entry)))
+        (index r (k * inRow r 0 + i))) ⌝ }
 {
     if lx[0] <= k {
         return;
@@ -66,7 +68,10 @@ fn gather_first(
     row: &mut [f64],
 )
     requires { ⌜ Dividing ly sy r sr ⌝ ∗ ⌜ First lx r nx q ⌝ ∗ ⌜ RowRoom ly r 0 k p (p + count r) q b f (length (now work)) (length (now row)) ⌝ }
-    ensures { λ _. ⌜ Laid p (table (inRow r 0) (firstAt lx (take nx (now (work .entry))) ly r k (part q (q + k * inRow r 0) (now (work .entry))) (part b f (now (work .entry))))) (length (now (work .entry))) (now (work .entry)) (now (work .exit)) ⌝ }
+    ensures { λ _.
+        ⌜ Laid p (table (inRow r 0) (firstAt lx (take nx (now (work .entry))) ly r k
+        (part q (q + k * inRow r 0) (now (work .entry))) (part b f (now (work .entry))))) (length (now (work .entry)))
+        (now (work .entry)) (now (work .exit)) ⌝ }
 {
     let s = sr[0];
     let end = q + k * s;
@@ -92,7 +97,9 @@ fn each_first(
     row: &mut [f64],
 )
     requires { ⌜ Dividing ly sy r sr ⌝ ∗ ⌜ First lx r nx q ⌝ ∗ ⌜ Room ly r 0 p (p + count r) q b f (length (now work)) (length (now row)) ⌝ }
-    ensures { λ _. ⌜ Laid q (recurred (block lx (take nx (now (work .entry)))) (block ly (part b f (now (work .entry)))) r) p (now (work .entry)) (now (work .exit)) ⌝ }
+    ensures { λ _.
+        ⌜ Laid q (recurred (block lx (take nx (now (work .entry)))) (block ly (part b f (now (work .entry)))) r) p
+        (now (work .entry)) (now (work .exit)) ⌝ }
 {
     let n = r[0];
     let s = sr[0];
@@ -117,7 +124,8 @@ pub fn recur(
     out: &mut [f64],
 )
     requires { ⌜ Recurring lx ly r nx ny (length (now work)) (length (now out)) ⌝ }
-    ensures { λ _. ⌜ now (out .exit) ≡ recurred (block lx (take nx (now (work .entry)))) (block ly (part (length (now (out .entry))) (length (now (out .entry)) + ny) (now (work .entry)))) r ⌝ }
+    ensures { λ _. ⌜ now (out .exit) ≡ recurred (block lx (take nx (now (work .entry))))
+        (block ly (part (length (now (out .entry))) (length (now (out .entry)) + ny) (now (work .entry)))) r ⌝ }
 {
     let n = out.len();
     let sy = shape_words::places::strides_of(ly);

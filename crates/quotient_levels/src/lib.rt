@@ -86,7 +86,10 @@ fn gather(
     row: &mut [f64],
 )
     requires { ⌜ Dividing ly sy r sr ⌝ ∗ ⌜ RowRoom ly r v k p e q b f (length (now work)) (length (now row)) ⌝ }
-    ensures { λ _. ⌜ Laid e (table (inRow r v) (leftAt ly r v k (part q (q + k * inRow r v) (now (work .entry))) (part b f (now (work .entry))) (part p e (now (work .entry))))) (length (now (work .entry))) (now (work .entry)) (now (work .exit)) ⌝ }
+    ensures { λ _.
+        ⌜ Laid e (table (inRow r v) (leftAt ly r v k (part q (q + k * inRow r v) (now (work .entry)))
+        (part b f (now (work .entry))) (part p e (now (work .entry))))) (length (now (work .entry)))
+        (now (work .entry)) (now (work .exit)) ⌝ }
 {
     let at = k * sr[v];
     let end = q + at;

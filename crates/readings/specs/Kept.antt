@@ -34,7 +34,19 @@ unfolding span
 ones-keeps {h} x r =
     let g = r .rules in
     record {
-      regular = record { rules = record { few = g .few; v0 = ones-var (g .v0); v1 = ones-var (g .v1); v2 = ones-var (g .v2); v3 = ones-var (g .v3) }; ls = r .ls; ns = refl };
+      regular =
+          record {
+            rules =
+                record {
+                  few = g .few;
+                  v0 = ones-var (g .v0);
+                  v1 = ones-var (g .v1);
+                  v2 = ones-var (g .v2);
+                  v3 = ones-var (g .v3);
+                };
+            ls = r .ls;
+            ns = refl;
+          };
       under = record { vars = refl; limits = refl; most = λ k p. rw (at-four (λ k. 1) k p) (ruled-at g k p .pos) };
       full = refl;
     }

@@ -40,7 +40,8 @@ pub record Named (s : Step) (k : ℕ) (known starts : List ℕ) (mc at room : �
   pub b-known : s .b < length known
   pub b-starts : s .b < length starts
   pub ready : Ready s (headerOf (getD known (s .a) 0)) (headerOf (getD known (s .b) 0)) room
-  pub placed : Placed (headerOf (getD known (s .a) 0)) (ltb (s .a) k) (getD starts (s .a) 0) (headerOf (getD known (s .b) 0)) (ltb (s .b) k) (getD starts (s .b) 0) at mc
+  pub placed : Placed (headerOf (getD known (s .a) 0)) (ltb (s .a) k) (getD starts (s .a) 0)
+      (headerOf (getD known (s .b) 0)) (ltb (s .b) k) (getD starts (s .b) 0) at mc
 
 pub record StepIn (s : Step) (k : ℕ) (known starts : List ℕ) (mc at room : ℕ) : Type 0 where
   pub some : 1 ≤ room
@@ -61,7 +62,8 @@ pub record Begun (hs : List ℕ) (i : ℕ) (old starts : List ℕ) : Type 0 wher
 pub begun-none : {hs old : List ℕ} → Begun hs 0 old old
 begun-none = record { len = refl; from = λ q l. absurd (omega arith) }
 
-pub begun-more : {hs old starts : List ℕ} {i f : ℕ} → Begun hs i old starts → f ≡ total (take i (inputHeads hs)) → i < length old → Begun hs (i + 1) old (set starts i f)
+pub begun-more : {hs old starts : List ℕ} {i f : ℕ} → Begun hs i old starts → f ≡ total (take i (inputHeads hs))
+    → i < length old → Begun hs (i + 1) old (set starts i f)
 begun-more {hs} {old} {starts} {i} {f} b e l =
     record {
       len = length-set starts i f ∙ b .len;
@@ -117,7 +119,8 @@ length-source : (input : Bool) (cs before : List Float) → length (source input
 length-source true cs before = refl
 length-source false cs before = refl
 
-pub at-lies : {input : Bool} {from at : ℕ} {cs before : List Float} {v : Poly} → At input from cs before v → length before ≡ at → Lies (v .head) input from at (length cs)
+pub at-lies : {input : Bool} {from at : ℕ} {cs before : List Float} {v : Poly} → At input from cs before v
+    → length before ≡ at → Lies (v .head) input from at (length cs)
 at-lies {input} {cs = cs} {before} a e = record { ends = rw (← e, ← length-source input cs before) (a .ends) }
 
 -- a part of a front
@@ -132,27 +135,34 @@ front-part f c n l h =
     ap (λ (z : ℕ). take c (drop f (take z l))) e ∙ (ap (take c) (drop-take f (n - f) l) ∙ take-take c (n - f) (drop f l) (omega arith))
 
 -- what stands stays, where the pool grows behind it
-pub at-later : (input : Bool) {from n : ℕ} {cs before after : List Float} {v : Poly} → At input from cs before v → length before ≡ n → take n after ≡ before → n ≤ length after → At input from cs after v
+pub at-later : (input : Bool) {from n : ℕ} {cs before after : List Float} {v : Poly} → At input from cs before v
+    → length before ≡ n → take n after ≡ before → n ≤ length after → At input from cs after v
 at-later true a e f l = record { ends = a .ends; holds = a .holds }
 at-later false {from} {n} {after = after} {v = v} a e f l =
     record {
       ends = omega (arith, a .ends);
-      holds = a .holds ∙ (ap (λ (z : List Float). take (stored (v .head)) (drop from z)) (sym f) ∙ front-part from (stored (v .head)) n after (omega (arith, a .ends)));
+      holds =
+          a .holds ∙ (ap (λ (z : List Float). take (stored (v .head)) (drop from z)) (sym f)
+          ∙ front-part from (stored (v .head)) n after (omega (arith, a .ends)));
     }
 
 -- the value that was written last
-pub at-new : {at room : ℕ} (cs : List Float) {w w' : List Float} {v : Poly} → Kept at (at + room) (padded room (v .coeffs)) w w' → length (v .coeffs) ≡ stored (v .head) → stored (v .head) ≤ room
+pub at-new : {at room : ℕ} (cs : List Float) {w w' : List Float} {v : Poly}
+    → Kept at (at + room) (padded room (v .coeffs)) w w' → length (v .coeffs) ≡ stored (v .head)
+    → stored (v .head) ≤ room
     → at + room ≤ length w' → At false at cs (take (at + room) w') v
 at-new {at} {room} cs {w} {w'} {v} k full less fits =
     let c : ℕ = stored (v .head) in
     let z : at + room - at ≡ room = omega arith in
     let p : take c (drop at (take (at + room) w')) ≡ v .coeffs =
     front-part at c (at + room) w' (omega arith)
-    ∙ (sym (take-take c (at + room - at) (drop at w') (omega arith)) ∙ (ap (take c) (k .holds) ∙ take-at (v .coeffs) (zeros (room - length (v .coeffs))) c full)) in
+    ∙ (sym (take-take c (at + room - at) (drop at w') (omega arith))
+    ∙ (ap (take c) (k .holds) ∙ take-at (v .coeffs) (zeros (room - length (v .coeffs))) c full)) in
     record { ends = omega (arith, length-take-le (at + room) w' fits); holds = sym p }
 
 -- the inputs
-pub input-at : (hs : List ℕ) (cs : List Float) (q : ℕ) → q < length hs → total (inputHeads hs) ≤ length cs → At true (total (take q (inputHeads hs))) cs [] (valueAt (inputValues hs cs) q)
+pub input-at : (hs : List ℕ) (cs : List Float) (q : ℕ) → q < length hs → total (inputHeads hs) ≤ length cs
+    → At true (total (take q (inputHeads hs))) cs [] (valueAt (inputValues hs cs) q)
 unfolding inputValues total
 input-at [] cs q l full = absurd (omega arith)
 input-at (w ∷ ws) cs zero l full = record { ends = omega arith; holds = refl }

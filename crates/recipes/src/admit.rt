@@ -61,9 +61,14 @@ pub fn run_admitted(
     words: &mut [u64],
     scratch: &mut [f64],
 )
-    requires { ⌜ Admitted (now headers) (now coefficients) (now steps) (now known) (length (now pool)) (length (now scratch)) ⌝ ∗ ⌜ length (now steps) ≤ length (now words) ⌝ }
-    ensures values { λ _. ⌜ now (pool .exit) ≡ laid (announcedSteps (now (headers .entry)) (now (steps .entry))) (stepValues (now (headers .entry)) (now (coefficients .entry)) (now (steps .entry))) ++ drop (total (announcedSteps (now (headers .entry)) (now (steps .entry)))) (now (pool .entry)) ⌝ }
-    ensures words { λ _. ⌜ now (words .exit) ≡ map (λ v. wordOf (v .head)) (stepValues (now (headers .entry)) (now (coefficients .entry)) (now (steps .entry))) ++ drop (length (now (steps .entry))) (now (words .entry)) ⌝ }
+    requires { ⌜ Admitted (now headers) (now coefficients) (now steps) (now known) (length (now pool))
+        (length (now scratch)) ⌝ ∗ ⌜ length (now steps) ≤ length (now words) ⌝ }
+    ensures values { λ _. ⌜ now (pool .exit) ≡ laid (announcedSteps (now (headers .entry)) (now (steps .entry)))
+        (stepValues (now (headers .entry)) (now (coefficients .entry)) (now (steps .entry)))
+        ++ drop (total (announcedSteps (now (headers .entry)) (now (steps .entry)))) (now (pool .entry)) ⌝ }
+    ensures words { λ _. ⌜ now (words .exit) ≡ map (λ v. wordOf (v .head))
+        (stepValues (now (headers .entry)) (now (coefficients .entry)) (now (steps .entry)))
+        ++ drop (length (now (steps .entry))) (now (words .entry)) ⌝ }
     ensures cleared { λ _. ⌜ now (scratch .exit) ≡ cleared (largest (announcedSteps (now (headers .entry)) (now (steps .entry)))) (now (scratch .entry)) ⌝ }
 {
     let from = headers.len();

@@ -51,8 +51,15 @@ fn step_word(
     scratch: &mut [f64],
 ) -> u64
     requires { ⌜ StepIn s inputs (now known) (now starts) (length (now coefficients)) at room ⌝ ∗ ⌜ Lent room at (length (now pool)) (length (now scratch)) ⌝ }
-    ensures word { λ r. ⌜ r ≡ wordOf (valueOf s (lyingAt inputs (now (known .entry)) (now (starts .entry)) (now (coefficients .entry)) (take at (now (pool .entry))) (s .a)) (lyingAt inputs (now (known .entry)) (now (starts .entry)) (now (coefficients .entry)) (take at (now (pool .entry))) (s .b)) .head) ⌝ }
-    ensures kept { λ r. ⌜ Kept at (at + room) (padded room (valueOf s (lyingAt inputs (now (known .entry)) (now (starts .entry)) (now (coefficients .entry)) (take at (now (pool .entry))) (s .a)) (lyingAt inputs (now (known .entry)) (now (starts .entry)) (now (coefficients .entry)) (take at (now (pool .entry))) (s .b)) .coeffs)) (now (pool .entry)) (now (pool .exit)) ⌝ }
+    ensures word { λ r.
+        ⌜ r ≡ wordOf (valueOf s (lyingAt inputs (now (known .entry)) (now (starts .entry)) (now (coefficients .entry))
+        (take at (now (pool .entry))) (s .a)) (lyingAt inputs (now (known .entry)) (now (starts .entry))
+        (now (coefficients .entry)) (take at (now (pool .entry))) (s .b)) .head) ⌝ }
+    ensures kept { λ r. ⌜ Kept at (at + room)
+        (padded room (valueOf s (lyingAt inputs (now (known .entry)) (now (starts .entry)) (now (coefficients .entry))
+        (take at (now (pool .entry))) (s .a)) (lyingAt inputs (now (known .entry)) (now (starts .entry))
+        (now (coefficients .entry)) (take at (now (pool .entry))) (s .b)) .coeffs))
+        (now (pool .entry)) (now (pool .exit)) ⌝ }
 {
     if s.kind == 0 {
         constant_to(s.n, pool, at, room);
@@ -86,9 +93,16 @@ pub fn run_steps(
     pool: &mut [f64],
     scratch: &mut [f64],
 )
-    requires { ⌜ Admitted (now headers) (now coefficients) (now steps) (now known) (length (now pool)) (length (now scratch)) ⌝ ∗ ⌜ Running (now headers) (now coefficients) (now steps) (now known) (now pool) 0 0 (now known) (now starts) (now pool) ⌝ }
-    ensures words { λ _. ⌜ take (length (now (steps .entry))) (drop (length (now (headers .entry))) (now (known .exit))) ≡ map (λ v. wordOf (v .head)) (stepValues (now (headers .entry)) (now (coefficients .entry)) (now (steps .entry))) ⌝ }
-    ensures values { λ _. ⌜ now (pool .exit) ≡ laid (announcedSteps (now (headers .entry)) (now (steps .entry))) (stepValues (now (headers .entry)) (now (coefficients .entry)) (now (steps .entry))) ++ drop (total (announcedSteps (now (headers .entry)) (now (steps .entry)))) (now (pool .entry)) ⌝ }
+    requires { ⌜ Admitted (now headers) (now coefficients) (now steps) (now known) (length (now pool))
+        (length (now scratch)) ⌝
+        ∗ ⌜ Running (now headers) (now coefficients) (now steps) (now known) (now pool) 0 0 (now known)
+        (now starts) (now pool) ⌝ }
+    ensures words { λ _. ⌜ take (length (now (steps .entry))) (drop (length (now (headers .entry))) (now (known .exit)))
+        ≡ map (λ v. wordOf (v .head)) (stepValues (now (headers .entry)) (now (coefficients .entry))
+        (now (steps .entry))) ⌝ }
+    ensures values { λ _. ⌜ now (pool .exit) ≡ laid (announcedSteps (now (headers .entry)) (now (steps .entry)))
+        (stepValues (now (headers .entry)) (now (coefficients .entry)) (now (steps .entry)))
+        ++ drop (total (announcedSteps (now (headers .entry)) (now (steps .entry)))) (now (pool .entry)) ⌝ }
 {
     let inputs = headers.len();
     let mut at = 0;

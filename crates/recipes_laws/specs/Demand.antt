@@ -90,7 +90,8 @@ module _ (hs : List ℕ) (cs : List Float) (ss : List ℕ) (pool : List Float) (
 
   pub record Demand3 : Type 0 where
     -- the check accepts, and the buffers are as long as it says
-    pub finishes : (places most inputs : ℕ) → checkAnswer hs ss ≡ Accepted places most inputs → inputs ≤ length cs → places ≤ length pool → length ss ≤ length words
+    pub finishes : (places most inputs : ℕ) → checkAnswer hs ss ≡ Accepted places most inputs → inputs ≤ length cs
+        → places ≤ length pool → length ss ≤ length words
         → 8 * most ≤ length scratch → Finished
     -- with any buffers
     pub never-9 : (r : Refusal) → runAnswer hs cs ss pool words scratch ≡ Refused r → r .number ≡ 9 → ⊥

@@ -24,7 +24,10 @@ shift-wrong : {W : Type 0} (w x y : ℕ) → cond (lowers (stepOf w)) (ltb x y) 
 shift-wrong w x y e f =
     decide (lowers (stepOf w))
     (λ t.
-    f (record { from = leb-true _ _ (and-left (leb 7 (stepOf w .kind)) (leb (stepOf w .kind) 9) t); to = leb-true _ _ (and-right (leb 7 (stepOf w .kind)) (leb (stepOf w .kind) 9) t) })
+    f (record {
+      from = leb-true _ _ (and-left (leb 7 (stepOf w .kind)) (leb (stepOf w .kind) 9) t);
+      to = leb-true _ _ (and-right (leb 7 (stepOf w .kind)) (leb (stepOf w .kind) 9) t);
+    })
     (ltb-false x y (rw t at e)))
     (λ t. absurd (not-both true refl (rw t at e)))
 

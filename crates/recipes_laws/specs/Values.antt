@@ -46,4 +46,6 @@ module _ (hs : List ℕ) (cs : List Float) (ss : List ℕ) {m : ℕ} (none : che
 
   pub inputs-first : take (length hs) (values hs cs ss) ≡ inputValues hs cs
   unfolding values
-  inputs-first = chain-keeps stepValue (inputValues hs cs) ss (length hs) (omega (arith, count-inputs)) ∙ take-all (length hs) (inputValues hs cs) (omega (arith, count-inputs))
+  inputs-first =
+      chain-keeps stepValue (inputValues hs cs) ss (length hs) (omega (arith, count-inputs))
+      ∙ take-all (length hs) (inputValues hs cs) (omega (arith, count-inputs))

@@ -80,10 +80,12 @@ module _ {kind v n : ℕ} {h r : Header} {ma mt : ℕ} (g : Changing kind v n h 
       unfolding shiftDownPoly announced
       down-true a = refl
 
-      pub down-places : (a : List Float) {o : List Float} → o ≡ shiftDownPoly v n (poly h a) .coeffs → o ≡ padded (stored r) (changedPoly kind v n (poly h a) .coeffs)
+      pub down-places : (a : List Float) {o : List Float} → o ≡ shiftDownPoly v n (poly h a) .coeffs
+          → o ≡ padded (stored r) (changedPoly kind v n (poly h a) .coeffs)
       unfolding changedPoly
       down-places a {o} e =
-          let l : length (shiftDownPoly v n (poly h a) .coeffs) ≡ stored r = shift-down-keeps v n a (g .regular .rules) .full ∙ (rw lowered (ap stored (down-true a))) in
+          let l : length (shiftDownPoly v n (poly h a) .coeffs) ≡ stored r =
+          shift-down-keeps v n a (g .regular .rules) .full ∙ (rw lowered (ap stored (down-true a))) in
           rw (ne-eqb _ _ t, eq-eqb _ _ u) (e ∙ padded-full (shiftDownPoly v n (poly h a) .coeffs) l)
 
     module _ (u : kind ≡ 9 → ⊥) where

@@ -156,7 +156,9 @@ module _ {s : Step} {x y h : Header} {n : ℕ} (g : Making s x y h n) where
   module _ (t : pairTest (s .kind) ≡ true) where
     pair-is : familyOf s ≡ pairFamily (s .kind)
     unfolding families
-    pair-is = of-pair (λ k. getD (families s) k Constant ≡ pairFamily k) refl refl refl refl (s .kind) (pair-low (s .kind) (g .known .some) t) (pair-high (s .kind) t)
+    pair-is =
+        of-pair (λ k. getD (families s) k Constant ≡ pairFamily k) refl refl refl refl (s .kind)
+        (pair-low (s .kind) (g .known .some) t) (pair-high (s .kind) t)
 
     pub to-pair : Pairing (s .kind) x y h n
     to-pair = record { left = g .left; right = g .right; is = g .is ∙ ap (λ (f : Family). announced f x y) pair-is; most = g .most; all = g .all }
@@ -181,7 +183,8 @@ module _ {s : Step} {x y h : Header} {n : ℕ} (g : Making s x y h n) where
     change-is : announced (familyOf s) x y ≡ announced (changeFamily (s .kind) (s .variable) (s .n)) x noHeader
     unfolding announced families
     change-is =
-        of-change (λ k. announced (getD (families s) k Constant) x y ≡ announced (changeFamily k (s .variable) (s .n)) x noHeader) refl refl refl refl (s .kind) high low
+        of-change (λ k. announced (getD (families s) k Constant) x y
+        ≡ announced (changeFamily k (s .variable) (s .n)) x noHeader) refl refl refl refl (s .kind) high low
 
     pub to-change : Changing (s .kind) (s .variable) (s .n) x h (stored x) n
     to-change = record {
@@ -247,7 +250,8 @@ module _ {s : Step} {x y : Header} {room at mp ms : ℕ} (r : Ready s x y room) 
   announced-ruled = announced-regular (familyOf s) (r .left .regular) (r .right .regular) .rules
 
 -- ---- a constant, and +0.0 after it
-pub constant-kept : (at room : ℕ) (w : List Float) (v : Float) {w' : List Float} → 1 ≤ room → at + room ≤ length w → Kept (at + 1) (at + room) (zeros ((at + room) - (at + 1))) (set w at v) w'
+pub constant-kept : (at room : ℕ) (w : List Float) (v : Float) {w' : List Float} → 1 ≤ room → at + room ≤ length w
+    → Kept (at + 1) (at + room) (zeros ((at + room) - (at + 1))) (set w at v) w'
     → Kept at (at + room) (padded room (v ∷ [])) w w'
 constant-kept at room w v some fits q =
     let e : (at + room) - (at + 1) ≡ room - 1 = omega arith in

@@ -44,8 +44,13 @@ fn value_to(
     scratch: &mut [f64],
 ) -> Header
     requires { ⌜ Making s x y h n ⌝ ∗ ⌜ Placed x xi xf y yi yf at (length (now coefficients)) ⌝ ∗ ⌜ Lent n at (length (now pool)) (length (now scratch)) ⌝ }
-    ensures head { λ r. ⌜ r ≡ valueOf s (lying xi (now (coefficients .entry)) (take at (now (pool .entry))) xf x) (lying yi (now (coefficients .entry)) (take at (now (pool .entry))) yf y) .head ⌝ }
-    ensures kept { λ r. ⌜ Kept at (at + n) (padded n (valueOf s (lying xi (now (coefficients .entry)) (take at (now (pool .entry))) xf x) (lying yi (now (coefficients .entry)) (take at (now (pool .entry))) yf y) .coeffs)) (now (pool .entry)) (now (pool .exit)) ⌝ }
+    ensures head { λ r. ⌜ r ≡ valueOf s (lying xi (now (coefficients .entry)) (take at (now (pool .entry))) xf x)
+        (lying yi (now (coefficients .entry)) (take at (now (pool .entry))) yf y) .head ⌝ }
+    ensures kept { λ r.
+        ⌜ Kept at (at + n)
+        (padded n (valueOf s (lying xi (now (coefficients .entry)) (take at (now (pool .entry))) xf x)
+        (lying yi (now (coefficients .entry)) (take at (now (pool .entry))) yf y) .coeffs))
+        (now (pool .entry)) (now (pool .exit)) ⌝ }
 {
     let kind = s.kind;
     if kind == 6 {
@@ -117,9 +122,16 @@ pub fn perform(
     room: usize,
     scratch: &mut [f64],
 ) -> u64
-    requires { ⌜ Ready s (headerOf xw) (headerOf yw) room ⌝ ∗ ⌜ Placed (headerOf xw) xi xf (headerOf yw) yi yf at (length (now coefficients)) ⌝ ∗ ⌜ Lent room at (length (now pool)) (length (now scratch)) ⌝ }
-    ensures word { λ r. ⌜ r ≡ wordOf (valueOf s (lying xi (now (coefficients .entry)) (take at (now (pool .entry))) xf (headerOf xw)) (lying yi (now (coefficients .entry)) (take at (now (pool .entry))) yf (headerOf yw)) .head) ⌝ }
-    ensures kept { λ r. ⌜ Kept at (at + room) (padded room (valueOf s (lying xi (now (coefficients .entry)) (take at (now (pool .entry))) xf (headerOf xw)) (lying yi (now (coefficients .entry)) (take at (now (pool .entry))) yf (headerOf yw)) .coeffs)) (now (pool .entry)) (now (pool .exit)) ⌝ }
+    requires { ⌜ Ready s (headerOf xw) (headerOf yw) room ⌝
+        ∗ ⌜ Placed (headerOf xw) xi xf (headerOf yw) yi yf at (length (now coefficients)) ⌝
+        ∗ ⌜ Lent room at (length (now pool)) (length (now scratch)) ⌝ }
+    ensures word { λ r.
+        ⌜ r ≡ wordOf (valueOf s (lying xi (now (coefficients .entry)) (take at (now (pool .entry))) xf (headerOf xw))
+        (lying yi (now (coefficients .entry)) (take at (now (pool .entry))) yf (headerOf yw)) .head) ⌝ }
+    ensures kept { λ r. ⌜ Kept at (at + room)
+        (padded room (valueOf s (lying xi (now (coefficients .entry)) (take at (now (pool .entry))) xf (headerOf xw))
+        (lying yi (now (coefficients .entry)) (take at (now (pool .entry))) yf (headerOf yw)) .coeffs))
+        (now (pool .entry)) (now (pool .exit)) ⌝ }
 {
     let x = header_of(xw);
     let y = header_of(yw);

@@ -32,7 +32,9 @@ fn exp_row(
     row: &mut [f64],
 )
     requires { ⌜ Shaped lx sx r sr ⌝ ∗ ⌜ RowRoom lx r v k n e (length (now work)) (length (now row)) ⌝ }
-    ensures { λ _. ⌜ Kept (k * inRow r v) (k * inRow r v + inRow r v) (overWhole k (gathered false lx r v k 1 (min (k + 1) (at lx v)) (part n e (now (work .entry))) (take (k * inRow r v) (now (work .entry))))) (now (work .entry)) (now (work .exit)) ⌝ }
+    ensures { λ _. ⌜ Kept (k * inRow r v) (k * inRow r v + inRow r v)
+        (overWhole k (gathered false lx r v k 1 (min (k + 1) (at lx v)) (part n e (now (work .entry)))
+        (take (k * inRow r v) (now (work .entry))))) (now (work .entry)) (now (work .exit)) ⌝ }
 {
     let at = k * sr[v];
     let end = at + sr[v];
@@ -54,7 +56,8 @@ fn exp_rows(
     row: &mut [f64],
 )
     requires { ⌜ Shaped lx sx r sr ⌝ ∗ ⌜ Room lx r v n (length (now xs)) (length (now work)) (length (now row)) ⌝ ∗ ⌜ v < 4 ⌝ }
-    ensures { λ _. ⌜ take (span r (4 - v) v) (now (work .exit)) ≡ stack (at r v - 1) (nextRow lx r v (now (xs .entry))) (take (inRow r v) (now (work .entry))) ⌝ }
+    ensures { λ _. ⌜ take (span r (4 - v) v) (now (work .exit))
+        ≡ stack (at r v - 1) (nextRow lx r v (now (xs .entry))) (take (inRow r v) (now (work .entry))) ⌝ }
 {
     let t = sx[v];
     let s = sr[v];

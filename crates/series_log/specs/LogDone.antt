@@ -55,7 +55,8 @@ module _ {ax ar : List ℕ} {mx mw mr : ℕ} (d : Divisor ax ar mx mw mr) where
   }
 
   -- the dividend at the front of the work, the divisor behind it
-  pub divisor-is : (xs row w : List Float) {one two : List Float} {z y q : ℕ} → length xs ≡ mx → length row ≡ mr → length w ≡ mw → one ≡ take z row → z ≡ mr → two ≡ take y xs → y ≡ mx → q ≡ mx
+  pub divisor-is : (xs row w : List Float) {one two : List Float} {z y q : ℕ} → length xs ≡ mx → length row ≡ mr
+      → length w ≡ mw → one ≡ take z row → z ≡ mr → two ≡ take y xs → y ≡ mx → q ≡ mx
       → (take mr (putMid mr q (one ++ drop mr w) two) ≡ row) × (part mr (mr + mx) (putMid mr q (one ++ drop mr w) two) ≡ xs)
   divisor-is xs row w {one} {two} {z} {y} {q} lx lr lw a ez b ey eq =
       let g = d .less in
@@ -85,7 +86,8 @@ pub kept-same : {a e : ℕ} {xs ys w w' : List Float} → xs ≡ ys → Kept a e
 kept-same h k = record { below = k .below; holds = k .holds ∙ h; above = k .above }
 
 -- four writes, one after the other: two above 2 n, the row, the row times k
-pub rowed : {n a e k : ℕ} {xs w w1 w2 w3 w4 : List Float} → Below (2 * n) w w1 → Below (2 * n) w1 w2 → Kept a e xs w2 w3 → Kept (n + a) (n + e) (timesWhole k xs) w3 w4 → a ≤ e → e ≤ n → Rowed n a e k xs w w4
+pub rowed : {n a e k : ℕ} {xs w w1 w2 w3 w4 : List Float} → Below (2 * n) w w1 → Below (2 * n) w1 w2 → Kept a e xs w2 w3
+    → Kept (n + a) (n + e) (timesWhole k xs) w3 w4 → a ≤ e → e ≤ n → Rowed n a e k xs w w4
 rowed {n} {a} {e} {k} {xs} {w} {w1} {w2} {w3} {w4} b c r s h l =
     let d : Below (2 * n) w w2 = below-then b c in
     record {
@@ -130,7 +132,8 @@ module _ {lx sx r sr : List ℕ} (g : Shaped lx sx r sr) {v k n mx mw mr : ℕ} 
   -- the row as it was made and stored
   pub log-rowed : (w xs d : List Float) → length w ≡ mw → {w1 one two three copied scaled : List Float} {ax ar : List ℕ} {q1 q2 q3 z : ℕ}
       → one ≡ leftRow lx r v k xs (part n (n + k * inRow r v) w) → Below (2 * n) w w1 → ax ≡ after v lx → ar ≡ after v r
-      → two ≡ recurred (block ar one) (block ax (part 0 (at sx v) xs)) ar → length d ≡ 8 * at sr v → q1 ≡ 8 * at sr v → three ≡ overWhole k two → length three ≡ inRow r v
+      → two ≡ recurred (block ar one) (block ax (part 0 (at sx v) xs)) ar → length d ≡ 8 * at sr v → q1 ≡ 8 * at sr v
+      → three ≡ overWhole k two → length three ≡ inRow r v
       → copied ≡ take z three → z ≡ at sr v → q2 ≡ at sr v → scaled ≡ timesWhole k three → q3 ≡ at sr v
       → Rowed n (k * inRow r v) (k * inRow r v + inRow r v) k (dividedRow lx r v k xs (part n (n + k * inRow r v) w)) w
       (putMid (n + k * at sr v) q3 (putMid (k * at sr v) q2 (putMid (2 * n) q1 w1 d) copied) scaled)
@@ -142,7 +145,9 @@ module _ {lx sx r sr : List ℕ} (g : Shaped lx sx r sr) {v k n mx mw mr : ℕ} 
       let lw1 = b .len in
       let o : at sx v - 0 ≡ inRow lx v = rw wide (omega arith) in
       let zero-row : part 0 (at sx v) xs ≡ rowAt lx v 0 xs = rw (o, zero-mul (inRow lx v)) in
-      let step : recurred (block ar one) (block ax (part 0 (at sx v) xs)) ar ≡ recurred (block (after v r) (leftRow lx r v k xs (part n (n + k * s) w))) (block (after v lx) (rowAt lx v 0 xs)) (after v r) = rw (ex, er, e, zero-row) in
+      let step : recurred (block ar one) (block ax (part 0 (at sx v) xs)) ar
+      ≡ recurred (block (after v r) (leftRow lx r v k xs (part n (n + k * s) w)))
+      (block (after v lx) (rowAt lx v 0 xs)) (after v r) = rw (ex, er, e, zero-row) in
       let value : three ≡ dividedRow lx r v k xs (part n (n + k * s) w) = e3 ∙ ap (overWhole k) (e2 ∙ step) in
       let same : copied ≡ three = ec ∙ take-all z three (omega (arith, width)) in
       let d1 : 2 * n + 8 * at sr v - 2 * n ≡ 8 * at sr v = omega arith in
@@ -155,7 +160,9 @@ module _ {lx sx r sr : List ℕ} (g : Shaped lx sx r sr) {v k n mx mw mr : ℕ} 
       let w3 : List Float = putMid (k * s) q2 w2 copied in
       let lw3 = k2 .below .len in
       let d3 : n + (k * s + s) - (n + k * s) ≡ s = omega arith in
-      let k3 = kept-put (n + k * s) (n + (k * s + s)) w3 {xs = scaled} {q = q3} (ap length es ∙ (length-table _ _ ∙ (l3 ∙ sym d3))) (omega arith) (omega arith) (eq3 ∙ (width ∙ sym d3)) in
+      let k3 =
+      kept-put (n + k * s) (n + (k * s + s)) w3 {xs = scaled} {q = q3}
+      (ap length es ∙ (length-table _ _ ∙ (l3 ∙ sym d3))) (omega arith) (omega arith) (eq3 ∙ (width ∙ sym d3)) in
       let row-is = same ∙ value in
       let scaled-is = es ∙ ap (timesWhole k) value in
       rw width (rowed b (k1 .below) (kept-same row-is k2) (kept-same scaled-is k3) (omega arith) fits)

@@ -69,7 +69,9 @@ single-var (Order v n) = kept-var (Order v n) refl
 pub single-regular : (f : Family) {a : Header} → Ruled a → Regular (single f a)
 unfolding single
 single-regular f {a} g =
-    regular-four (a .vars) (λ k. limitAfter f k (limit a k)) (λ k. lengthAfter f k (limitAfter f k (limit a k)) 1 (len a k) 1) (g .few) (λ k h. single-var f (ruled-at g k h))
+    regular-four (a .vars) (λ k. limitAfter f k (limit a k))
+    (λ k. lengthAfter f k (limitAfter f k (limit a k)) 1 (len a k) 1) (g .few)
+    (λ k h. single-var f (ruled-at g k h))
 
 -- two operands
 
@@ -77,7 +79,9 @@ cut-length : {l x : ℕ} → 1 ≤ l → 1 ≤ x → Length l (min l x)
 cut-length p q = length (omega arith) (omega arith)
 
 paired-var : (f : Family) (p : ℕ) {a b : Header} → Ruled a → Ruled b → (k : ℕ) → k < 4
-    → GoodVar (max (a .vars) (b .vars)) k (at (minDegreesP1 a b) k) (lengthAfter f k (at (minDegreesP1 a b) k) p (min (at (minDegreesP1 a b) k) (len a k)) (min (at (minDegreesP1 a b) k) (len b k)))
+    → GoodVar (max (a .vars) (b .vars)) k (at (minDegreesP1 a b) k)
+    (lengthAfter f k (at (minDegreesP1 a b) k) p (min (at (minDegreesP1 a b) k) (len a k))
+    (min (at (minDegreesP1 a b) k) (len b k)))
 paired-var f p {a} {b} g h k lt =
     let r = min-degrees-range a b g h k lt in
     let n = length-after f k (at (minDegreesP1 a b) k) p _ _ (cut-length (r .lo) (ruled-at g k lt .pos)) (cut-length (r .lo) (ruled-at h k lt .pos)) in

@@ -33,7 +33,16 @@ cut-lengths l g p =
     let p1 = p 1 (lit< tt) in
     let p2 = p 2 (lit< tt) in
     let p3 = p 3 (lit< tt) in
-    record { p0 = omega (arith, g .p0); p1 = omega (arith, g .p1); p2 = omega (arith, g .p2); p3 = omega (arith, g .p3); m0 = omega (arith, g .m0); m1 = omega (arith, g .m1); m2 = omega (arith, g .m2); m3 = omega (arith, g .m3) }
+    record {
+      p0 = omega (arith, g .p0);
+      p1 = omega (arith, g .p1);
+      p2 = omega (arith, g .p2);
+      p3 = omega (arith, g .p3);
+      m0 = omega (arith, g .m0);
+      m1 = omega (arith, g .m1);
+      m2 = omega (arith, g .m2);
+      m3 = omega (arith, g .m3);
+    }
 
 -- what lies inside the cut lengths lies inside the lengths and the limits, and the other way round
 pub cut-inside : (l n : List ℕ) {i : List ℕ} → Inside (cutTo l n) i → Inside n i
@@ -80,7 +89,8 @@ module _ (l : List ℕ) (b : Block) where
   cut-full = length-table _ (count cutLengths)
 
 -- under limits that keep the rules the cut header keeps them
-pub cut-regular : (v : ℕ) (l : ℕ → ℕ) {h : Header} → v ≤ 4 → Ruled h → ((k : ℕ) → k < 4 → Range (l k)) → ((k : ℕ) → k < 4 → v ≤ k → l k ≡ 1) → Regular (header v (four l) (cutTo (four l) (h .lengths)))
+pub cut-regular : (v : ℕ) (l : ℕ → ℕ) {h : Header} → v ≤ 4 → Ruled h → ((k : ℕ) → k < 4 → Range (l k))
+    → ((k : ℕ) → k < 4 → v ≤ k → l k ≡ 1) → Regular (header v (four l) (cutTo (four l) (h .lengths)))
 unfolding cutTo
 cut-regular v l {h} few g r gone =
     regular-four v l (λ k. min (at (four l) k) (len h k)) few

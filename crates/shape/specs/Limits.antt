@@ -32,7 +32,9 @@ unfolding minDegreesP1
 min-degrees-at a b = each (λ k. at (minDegreesP1 a b) k ≡ minLimit (a .vars) (b .vars) k (limit a k) (limit b k)) refl refl refl refl
 
 pub min-degrees-range : (a b : Header) → Ruled a → Ruled b → (k : ℕ) → k < 4 → Range (at (minDegreesP1 a b) k)
-min-degrees-range a b g h k l = rw (min-degrees-at a b k l) (min-limit-range (a .vars) (b .vars) k (limit-range (ruled-at g k l)) (limit-range (ruled-at h k l)))
+min-degrees-range a b g h k l =
+    rw (min-degrees-at a b k l) (min-limit-range (a .vars) (b .vars) k (limit-range (ruled-at g k l))
+    (limit-range (ruled-at h k l)))
 
 pub min-limit-pos : (a b : Header) → Ruled a → Ruled b → (k : ℕ) → k < 4 → 1 ≤ at (minDegreesP1 a b) k
 min-limit-pos a b g h k l = min-degrees-range a b g h k l .lo

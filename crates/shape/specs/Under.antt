@@ -76,9 +76,13 @@ single-rises Sum k p m h = omega arith
 single-rises Product k p m h = omega arith
 single-rises Quotient k p m h = h
 single-rises Series k p m h = length-rises Series k (record { t1 = p; u1 = le-refl 1; most = m; qp = le-refl 1; ta = h; ub = le-refl 1 })
-single-rises (Power e) k {l} {t} {a} p m h = length-rises (Power e) k {l = l} (record { t1 = p; u1 = le-refl 1; most = m; qp = le-refl 1; ta = h; ub = le-refl 1 })
+single-rises (Power e) k {l} {t} {a} p m h =
+    length-rises (Power e) k {l =
+    l} (record { t1 = p; u1 = le-refl 1; most = m; qp = le-refl 1; ta = h; ub = le-refl 1 })
 single-rises (Shift v n) k p m h = of-each _≤_ (eqb k v) (omega arith) h
-single-rises (Substitution v) k {l} p m h = length-rises (Substitution v) k {l = l} (record { t1 = p; u1 = le-refl 1; most = m; qp = le-refl 1; ta = h; ub = le-refl 1 })
+single-rises (Substitution v) k {l} p m h =
+    length-rises (Substitution v) k {l =
+    l} (record { t1 = p; u1 = le-refl 1; most = m; qp = le-refl 1; ta = h; ub = le-refl 1 })
 single-rises (Term v) k p m h = of-each _≤_ (eqb k v) (le-refl 1) h
 single-rises (Order v n) k p m h = of-each _≤_ (eqb k v) (omega arith) h
 
@@ -88,7 +92,11 @@ single-under f {t} {a} g u =
     record {
       vars = u .vars;
       limits = simp (u .limits);
-      most = λ k h. rw (at-four (λ k. lengthAfter f k (limitAfter f k (limit t k)) 1 (len t k) 1) k h, at-four (λ k. lengthAfter f k (limitAfter f k (limit a k)) 1 (len a k) 1) k h)
+      most =
+          λ k h. rw (
+            at-four (λ k. lengthAfter f k (limitAfter f k (limit t k)) 1 (len t k) 1) k h,
+            at-four (λ k. lengthAfter f k (limitAfter f k (limit a k)) 1 (len a k) 1) k h,
+          )
           (rw (← u .limits) (single-rises f k (ruled-at g k h .pos) (ruled-at g k h .fit) (u .most k h)));
     }
 
@@ -106,8 +114,14 @@ paired-under f {q} {p} {t} {a} {u} {b} le g h x y =
     record {
       vars = simp (x .vars, y .vars);
       limits = e;
-      most = λ k lt. rw (at-four (λ k. lengthAfter f k (at (minDegreesP1 t u) k) q (min (at (minDegreesP1 t u) k) (len t k)) (min (at (minDegreesP1 t u) k) (len u k))) k lt, at-four (λ k. lengthAfter f k (at (minDegreesP1 a b) k) p (min (at (minDegreesP1 a b) k) (len a k)) (min (at (minDegreesP1 a b) k) (len b k))) k lt)
-          (rw (← e) (length-rises f k (cut-rise (min-degrees-range t u g h k lt .lo) (ruled-at g k lt .pos) (ruled-at h k lt .pos) le (x .most k lt) (y .most k lt))));
+      most =
+          λ k lt. rw (
+            at-four (λ k. lengthAfter f k (at (minDegreesP1 t u) k) q
+                (min (at (minDegreesP1 t u) k) (len t k)) (min (at (minDegreesP1 t u) k) (len u k))) k lt,
+            at-four (λ k. lengthAfter f k (at (minDegreesP1 a b) k) p (min (at (minDegreesP1 a b) k) (len a k)) (min (at (minDegreesP1 a b) k) (len b k))) k lt,
+          )
+          (rw (← e) (length-rises f k (cut-rise (min-degrees-range t u g h k lt .lo) (ruled-at g k lt .pos)
+          (ruled-at h k lt .pos) le (x .most k lt) (y .most k lt))));
     }
 
 -- two choices by one test

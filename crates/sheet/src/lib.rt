@@ -77,7 +77,8 @@ pub fn solve(
     pool: &mut [f64],
 ) -> Solved
     requires { ⌜ Buffers (length (now headers)) (length (now steps)) (length (now known)) (length (now pool)) ⌝ }
-    ensures { λ s. ⌜ Solves (now (text .entry)) (now (headers .entry)) (now (steps .entry)) (now (known .entry)) (now (pool .entry)) (now (headers .exit)) (now (steps .exit)) (now (known .exit)) (now (pool .exit)) s ⌝ }
+    ensures { λ s. ⌜ Solves (now (text .entry)) (now (headers .entry)) (now (steps .entry)) (now (known .entry))
+        (now (pool .entry)) (now (headers .exit)) (now (steps .exit)) (now (known .exit)) (now (pool .exit)) s ⌝ }
 {
     let refusal = read(text, headers);
     if refusal.number != 0 {

@@ -66,7 +66,8 @@ fn run_in(
     words: &mut [u64],
     scratch: &mut [f64],
 ) -> Solved
-    requires { ⌜ RunningIn (now text) (now headers) (now steps) from (length (now coefficients)) (length (now pool)) (length (now words)) (length (now scratch)) ⌝ }
+    requires { ⌜ RunningIn (now text) (now headers) (now steps) from (length (now coefficients)) (length (now pool))
+        (length (now words)) (length (now scratch)) ⌝ }
     ensures { λ s. ⌜ Ends (now (text .entry)) (now (headers .entry)) (now (steps .entry)) (now (pool .exit)) s ⌝ }
 {
     let n = steps.len();

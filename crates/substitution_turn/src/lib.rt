@@ -33,7 +33,9 @@ fn times_put(
     out: &mut [f64],
 ) -> [usize; 4]
     requires { ⌜ Room (now work) pa ea la pb eb lb spare limits 1 (length (now out)) ⌝ }
-    ensures { λ r. ⌜ Made (timesPut limits (block la (part pa ea (now (work .entry)))) (block lb (part pb eb (now (work .entry))))) spare (now (work .entry)) (now (work .exit)) (now (out .exit)) r ⌝ }
+    ensures { λ r.
+        ⌜ Made (timesPut limits (block la (part pa ea (now (work .entry)))) (block lb (part pb eb (now (work .entry)))))
+        spare (now (work .entry)) (now (work .exit)) (now (out .exit)) r ⌝ }
 {
     if is_zero(&work[pa..ea], la) {
         return zero_to(out);
@@ -44,7 +46,10 @@ fn times_put(
 // The block at the front of `out`, whose lengths are k, plus the row: the running value.
 fn plus_row(work: &mut [f64], n: usize, k: [usize; 4], c: [usize; 4], out: &mut [f64]) -> [usize; 4]
     requires { ⌜ Adding k c n (length (now out)) (length (now work)) ⌝ }
-    ensures { λ r. ⌜ Turned (joinedBlock false (block k (take (count k) (now (out .entry)))) (block c (part (2 * n) (2 * n + count c) (now (work .entry))))) n (now (work .entry)) (now (work .exit)) (now (out .exit)) r ⌝ }
+    ensures { λ r.
+        ⌜ Turned (joinedBlock false (block k (take (count k) (now (out .entry))))
+        (block c (part (2 * n) (2 * n + count c) (now (work .entry))))) n (now (work .entry))
+        (now (work .exit)) (now (out .exit)) r ⌝ }
 {
     let row = 2 * n;
     let spare = 3 * n;
@@ -81,7 +86,10 @@ pub fn turn(
 // The first turn, a zero of stored count 1 times what is put: it asks nothing of that.
 pub fn first_turn(work: &mut [f64], n: usize, c: [usize; 4], out: &mut [f64]) -> [usize; 4]
     requires { ⌜ Adding ones c n (length (now out)) (length (now work)) ⌝ }
-    ensures { λ r. ⌜ Turned (joinedBlock false (constantBlock zeroF) (block c (part (2 * n) (2 * n + count c) (now (work .entry))))) n (now (work .entry)) (now (work .exit)) (now (out .exit)) r ⌝ }
+    ensures { λ r.
+        ⌜ Turned (joinedBlock false (constantBlock zeroF)
+        (block c (part (2 * n) (2 * n + count c) (now (work .entry))))) n (now (work .entry))
+        (now (work .exit)) (now (out .exit)) r ⌝ }
 {
     let k = zero_to(out);
     plus_row(work, n, k, c, out)

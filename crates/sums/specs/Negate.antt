@@ -57,4 +57,6 @@ module _ (w : ℕ) (a out : List Float) {r : Refusal} (fit : w < 2 ^ 64) (e : r 
       rw (← e, h, k, t) (written-full m _ out (length-table (negatedAt (take m a)) m) ∙ leaves-yes r _ out z)
 
 pub negate-room : (w : ℕ) (a out : List Float) {n : ℕ} → OneReady Same w (length a) (length out) → n ≡ stored (headerOf w) → (n ≤ length a) × (n ≤ length out)
-negate-room w a out g k = let h : stored (announcedOne Same w) ≡ stored (headerOf w) = ap stored (same-header (g .good .regular)) in (omega (arith, g .full), omega (arith, g .room))
+negate-room w a out g k = let h : stored (announcedOne Same w) ≡ stored (headerOf w) =
+    ap stored (same-header (g .good .regular)) in
+    (omega (arith, g .full), omega (arith, g .room))

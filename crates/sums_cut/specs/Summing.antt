@@ -113,7 +113,8 @@ module _ {la lb l r : List ℕ} {n ma mb mo mw : ℕ} (s : Summing la lb l r n m
 -- The entry.
 
 -- the announced lengths are those of the joined block
-sum-lengths : (a b : Header) → maxShape (cutTo (announced Sum a b .limits) (a .lengths)) (cutTo (announced Sum a b .limits) (b .lengths)) ≡ announced Sum a b .lengths
+sum-lengths : (a b : Header) → maxShape (cutTo (announced Sum a b .limits) (a .lengths))
+    (cutTo (announced Sum a b .limits) (b .lengths)) ≡ announced Sum a b .lengths
 unfolding announced paired maxShape cutTo
 sum-lengths a b = refl
 
@@ -140,12 +141,14 @@ module _ {w u ma mb mo ms : ℕ} (g : PairReady Sum w ma u mb mo ms) where
       }
 
 -- the value
-module _ (minus : Bool) (w : ℕ) (a : List Float) (u : ℕ) (b : List Float) {x y h : Header} (ex : x ≡ headerOf w) (ey : y ≡ headerOf u) (eh : h ≡ announced Sum x y) where
+module _ (minus : Bool) (w : ℕ) (a : List Float) (u : ℕ) (b : List Float) {x y h : Header} (ex : x ≡ headerOf w)
+    (ey : y ≡ headerOf u) (eh : h ≡ announced Sum x y) where
   pub sum-head : h ≡ combined minus (held w a) (held u b) .head
   unfolding combined joinedBlock cut
   sum-head =
       let k : h ≡ announced Sum (headerOf w) (headerOf u) = eh ∙ (rw (ex, ey)) in
-      k ∙ ap (λ (n : List ℕ). header (announced Sum (headerOf w) (headerOf u) .vars) (announced Sum (headerOf w) (headerOf u) .limits) n) (sym (sum-lengths (headerOf w) (headerOf u)))
+      k ∙ ap (λ (n : List ℕ). header (announced Sum (headerOf w) (headerOf u) .vars)
+      (announced Sum (headerOf w) (headerOf u) .limits) n) (sym (sum-lengths (headerOf w) (headerOf u)))
 
   pub sum-coeffs : {na nb : ℕ} {o : List Float} → na ≡ stored x → nb ≡ stored y
       → o ≡ joinedBlock minus (cut (h .limits) (block (x .lengths) (take na a))) (cut (h .limits) (block (y .lengths) (take nb b))) .places

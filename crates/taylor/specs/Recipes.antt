@@ -51,7 +51,8 @@ module _ (r : Refusal) (few : r .number < 256) where
 -- ---- the entries
 
 pub check-back : (hs ss : List ℕ) (pool largest inputs : ℕ)
-    → checkFrom (wordOfCheck (checkAnswer hs ss)) (poolAfter (checkAnswer hs ss) pool) (largestAfter (checkAnswer hs ss) largest) (inputsAfter (checkAnswer hs ss) inputs)
+    → checkFrom (wordOfCheck (checkAnswer hs ss)) (poolAfter (checkAnswer hs ss) pool)
+    (largestAfter (checkAnswer hs ss) largest) (inputsAfter (checkAnswer hs ss) inputs)
     ≡ checkAnswer hs ss
 unfolding checkAnswer
 check-back hs ss pool largest inputs = by-check (checkRefusal hs ss) (omega (arith, check-small hs ss)) _ _ _ pool largest inputs

@@ -16,7 +16,9 @@ ghost use Rattle.model.specs.Refusals.{zeroF};
 ghost use Rattle.model.specs.Gates.{withGate, varWithGate, varHeader, varGate};
 ghost use Rattle.model.specs.Answers.{answered, outAfter};
 ghost use Rattle.model.specs.Constructed.{constant, wholeF, variable};
-ghost use Rattle.model.specs.Readings.{oneF, coefficientAnswer, constantTermAnswer, evaluateAllOneAnswer, extractLinearAnswer, taylorPolynomialAnswer, taylorPolynomialOut, coefficientsOfTermAnswer, coefficientsOfTermOut};
+ghost use Rattle.model.specs.Readings.{oneF, coefficientAnswer, constantTermAnswer, evaluateAllOneAnswer};
+ghost use Rattle.model.specs.Readings.{extractLinearAnswer, taylorPolynomialAnswer, taylorPolynomialOut};
+ghost use Rattle.model.specs.Readings.{coefficientsOfTermAnswer, coefficientsOfTermOut};
 ghost use Rattle.model.specs.Tail.{tailAnswer};
 ghost use Rattle.model.specs.Negate.{negateAnswer, negateOut};
 ghost use Rattle.model.specs.Add.{sumAnswer, sumOut, sumScratch};
@@ -28,7 +30,8 @@ ghost use Rattle.model.specs.Shifts.{derivativeAnswer, derivativeOut, expansion
 ghost use Rattle.model.specs.Substitute.{substituteAnswer, substituteOut, substituteScratch};
 ghost use Rattle.model_recipes.specs.Check.{checkAnswer};
 ghost use Rattle.model_recipes.specs.Run.{runAnswer, runPool, runWords, runScratch};
-ghost use Rattle.taylor.specs.Face.{fourOf, wordOfAnswer, wordOfReading, valueAfter, wordOfLinear, constantAfter, factorAfter, wordOfCheck, poolAfter, largestAfter, inputsAfter, wordOfRun};
+ghost use Rattle.taylor.specs.Face.{fourOf, wordOfAnswer, wordOfReading, valueAfter, wordOfLinear, constantAfter};
+ghost use Rattle.taylor.specs.Face.{factorAfter, wordOfCheck, poolAfter, largestAfter, inputsAfter, wordOfRun};
 
 // +0.0, with no variables: refusal 5.
 #[no_mangle]
@@ -52,7 +55,8 @@ pub extern "C" fn taylor_one(out: &mut [f64]) -> u64
 #[no_mangle]
 pub extern "C" fn taylor_from_u32(c: u32, out: &mut [f64]) -> u64
     ensures answer { λ r. ⌜ r ≡ wordOfAnswer (answered (withGate 0 ones (length (now (out .entry)))) (constant noHeader (wholeF c))) ⌝ }
-    ensures written { λ r. ⌜ now (out .exit) ≡ outAfter (withGate 0 ones (length (now (out .entry)))) noHeader (constant noHeader (wholeF c)) (now (out .entry)) ⌝ }
+    ensures written { λ r. ⌜ now (out .exit) ≡ outAfter (withGate 0 ones (length (now (out .entry)))) noHeader
+        (constant noHeader (wholeF c)) (now (out .entry)) ⌝ }
 {
     word_of(readings::from_u32(c, out))
 }
@@ -67,8 +71,11 @@ pub extern "C" fn taylor_zero_with(
     l3: u64,
     out: &mut [f64],
 ) -> u64
-    ensures answer { λ r. ⌜ r ≡ wordOfAnswer (answered (withGate vars (fourOf l0 l1 l2 l3) (length (now (out .entry)))) (constant (zeroWith vars (fourOf l0 l1 l2 l3)) zeroF)) ⌝ }
-    ensures written { λ r. ⌜ now (out .exit) ≡ outAfter (withGate vars (fourOf l0 l1 l2 l3) (length (now (out .entry)))) (zeroWith vars (fourOf l0 l1 l2 l3)) (constant (zeroWith vars (fourOf l0 l1 l2 l3)) zeroF) (now (out .entry)) ⌝ }
+    ensures answer { λ r. ⌜ r ≡ wordOfAnswer (answered (withGate vars (fourOf l0 l1 l2 l3) (length (now (out .entry))))
+        (constant (zeroWith vars (fourOf l0 l1 l2 l3)) zeroF)) ⌝ }
+    ensures written { λ r. ⌜ now (out .exit) ≡ outAfter (withGate vars (fourOf l0 l1 l2 l3) (length (now (out .entry))))
+        (zeroWith vars (fourOf l0 l1 l2 l3)) (constant (zeroWith vars (fourOf l0 l1 l2 l3)) zeroF)
+        (now (out .entry)) ⌝ }
 {
     word_of(readings::zero_with(
         vars as usize,
@@ -88,8 +95,11 @@ pub extern "C" fn taylor_from_u32_with(
     l3: u64,
     out: &mut [f64],
 ) -> u64
-    ensures answer { λ r. ⌜ r ≡ wordOfAnswer (answered (withGate vars (fourOf l0 l1 l2 l3) (length (now (out .entry)))) (constant (zeroWith vars (fourOf l0 l1 l2 l3)) (wholeF c))) ⌝ }
-    ensures written { λ r. ⌜ now (out .exit) ≡ outAfter (withGate vars (fourOf l0 l1 l2 l3) (length (now (out .entry)))) (zeroWith vars (fourOf l0 l1 l2 l3)) (constant (zeroWith vars (fourOf l0 l1 l2 l3)) (wholeF c)) (now (out .entry)) ⌝ }
+    ensures answer { λ r. ⌜ r ≡ wordOfAnswer (answered (withGate vars (fourOf l0 l1 l2 l3) (length (now (out .entry))))
+        (constant (zeroWith vars (fourOf l0 l1 l2 l3)) (wholeF c))) ⌝ }
+    ensures written { λ r. ⌜ now (out .exit) ≡ outAfter (withGate vars (fourOf l0 l1 l2 l3) (length (now (out .entry))))
+        (zeroWith vars (fourOf l0 l1 l2 l3)) (constant (zeroWith vars (fourOf l0 l1 l2 l3)) (wholeF c))
+        (now (out .entry)) ⌝ }
 {
     word_of(readings::from_u32_with(
         c,
@@ -111,8 +121,10 @@ pub extern "C" fn taylor_var_with_degrees_p1(
     l3: u64,
     out: &mut [f64],
 ) -> u64
-    ensures answer { λ r. ⌜ r ≡ wordOfAnswer (answered (varWithGate v vars (fourOf l0 l1 l2 l3) (length (now (out .entry)))) (variable (varWith v vars (fourOf l0 l1 l2 l3)) x)) ⌝ }
-    ensures written { λ r. ⌜ now (out .exit) ≡ outAfter (varWithGate v vars (fourOf l0 l1 l2 l3) (length (now (out .entry)))) (varWith v vars (fourOf l0 l1 l2 l3)) (variable (varWith v vars (fourOf l0 l1 l2 l3)) x) (now (out .entry)) ⌝ }
+    ensures answer { λ r. ⌜ r ≡ wordOfAnswer (answered (varWithGate v vars (fourOf l0 l1 l2 l3) (length (now (out .entry))))
+        (variable (varWith v vars (fourOf l0 l1 l2 l3)) x)) ⌝ }
+    ensures written { λ r. ⌜ now (out .exit) ≡ outAfter (varWithGate v vars (fourOf l0 l1 l2 l3) (length (now (out .entry))))
+        (varWith v vars (fourOf l0 l1 l2 l3)) (variable (varWith v vars (fourOf l0 l1 l2 l3)) x) (now (out .entry)) ⌝ }
 {
     word_of(readings::var_with_degrees_p1(
         v as usize,
@@ -127,7 +139,8 @@ pub extern "C" fn taylor_var_with_degrees_p1(
 #[no_mangle]
 pub extern "C" fn taylor_var(v: u64, x: f64, limit: u64, out: &mut [f64]) -> u64
     ensures answer { λ r. ⌜ r ≡ wordOfAnswer (answered (varGate v limit (length (now (out .entry)))) (variable (varHeader v limit) x)) ⌝ }
-    ensures written { λ r. ⌜ now (out .exit) ≡ outAfter (varGate v limit (length (now (out .entry)))) (varHeader v limit) (variable (varHeader v limit) x) (now (out .entry)) ⌝ }
+    ensures written { λ r. ⌜ now (out .exit) ≡ outAfter (varGate v limit (length (now (out .entry)))) (varHeader v limit)
+        (variable (varHeader v limit) x) (now (out .entry)) ⌝ }
 {
     word_of(readings::var(v as usize, x, limit as usize, out))
 }
@@ -136,7 +149,8 @@ pub extern "C" fn taylor_var(v: u64, x: f64, limit: u64, out: &mut [f64]) -> u64
 #[no_mangle]
 pub extern "C" fn taylor_var_at_zero(v: u64, limit: u64, out: &mut [f64]) -> u64
     ensures answer { λ r. ⌜ r ≡ wordOfAnswer (answered (varGate v limit (length (now (out .entry)))) (variable (varHeader v limit) zeroF)) ⌝ }
-    ensures written { λ r. ⌜ now (out .exit) ≡ outAfter (varGate v limit (length (now (out .entry)))) (varHeader v limit) (variable (varHeader v limit) zeroF) (now (out .entry)) ⌝ }
+    ensures written { λ r. ⌜ now (out .exit) ≡ outAfter (varGate v limit (length (now (out .entry)))) (varHeader v limit)
+        (variable (varHeader v limit) zeroF) (now (out .entry)) ⌝ }
 {
     word_of(readings::var_at_zero(v as usize, limit as usize, out))
 }
@@ -437,10 +451,14 @@ pub extern "C" fn taylor_run(
     words: &mut [u64],
     scratch: &mut [f64],
 ) -> u64
-    ensures answer { λ r. ⌜ r ≡ wordOfRun (runAnswer (now (headers .entry)) (now (coefficients .entry)) (now (steps .entry)) (now (pool .entry)) (now (words .entry)) (now (scratch .entry))) ⌝ }
-    ensures values { λ r. ⌜ now (pool .exit) ≡ runPool (now (headers .entry)) (now (coefficients .entry)) (now (steps .entry)) (now (pool .entry)) (now (words .entry)) (now (scratch .entry)) ⌝ }
-    ensures heads { λ r. ⌜ now (words .exit) ≡ runWords (now (headers .entry)) (now (coefficients .entry)) (now (steps .entry)) (now (pool .entry)) (now (words .entry)) (now (scratch .entry)) ⌝ }
-    ensures cleared { λ r. ⌜ now (scratch .exit) ≡ runScratch (now (headers .entry)) (now (coefficients .entry)) (now (steps .entry)) (now (pool .entry)) (now (words .entry)) (now (scratch .entry)) ⌝ }
+    ensures answer { λ r. ⌜ r ≡ wordOfRun (runAnswer (now (headers .entry)) (now (coefficients .entry)) (now (steps .entry))
+        (now (pool .entry)) (now (words .entry)) (now (scratch .entry))) ⌝ }
+    ensures values { λ r. ⌜ now (pool .exit) ≡ runPool (now (headers .entry)) (now (coefficients .entry)) (now (steps .entry))
+        (now (pool .entry)) (now (words .entry)) (now (scratch .entry)) ⌝ }
+    ensures heads { λ r. ⌜ now (words .exit) ≡ runWords (now (headers .entry)) (now (coefficients .entry))
+        (now (steps .entry)) (now (pool .entry)) (now (words .entry)) (now (scratch .entry)) ⌝ }
+    ensures cleared { λ r. ⌜ now (scratch .exit) ≡ runScratch (now (headers .entry)) (now (coefficients .entry))
+        (now (steps .entry)) (now (pool .entry)) (now (words .entry)) (now (scratch .entry)) ⌝ }
 {
     word_of_run(recipes::run(headers, coefficients, steps, pool, words, scratch))
 }

@@ -21,7 +21,8 @@ returns : tie.Need-returns
 returns c =
     let start = c .before .before .before .before .before .before .before .before in
     let a = start .args in
-    c .before .before .first-joined .ensures ∙ way-left _ (a .r) (block (a .n) (a .a .now)) (block (a .m) (a .b .now)) (sym (start .pre .full-b) ∙ c .before .before .before .before .if1 .taken)
+    c .before .before .first-joined .ensures ∙ way-left _ (a .r) (block (a .n) (a .a .now)) (block (a .m) (a .b .now))
+    (sym (start .pre .full-b) ∙ c .before .before .before .before .if1 .taken)
 
 turned-joined-requires : tie.Need-turned-joined-requires
 turned-joined-requires c κs =
@@ -33,7 +34,10 @@ returns-2 c =
     let start = c .before .before .before .before .before .before .before .before .before in
     let a' = start .args in
     let p = start .pre in
-    c .before .before .turned-joined .ensures ∙ way-right _ (a' .r) (block (a' .n) (a' .a .now)) (block (a' .m) (a' .b .now)) (λ e. c .before .before .before .before .before .if1 .left (p .full-b ∙ e)) (sym (p .full-a) ∙ c .before .before .before .before .if2 .taken)
+    c .before .before .turned-joined .ensures
+    ∙ way-right _ (a' .r) (block (a' .n) (a' .a .now)) (block (a' .m) (a' .b .now))
+    (λ e. c .before .before .before .before .before .if1 .left (p .full-b ∙ e))
+    (sym (p .full-a) ∙ c .before .before .before .before .if2 .taken)
 
 join-both-requires : tie.Need-join-both-requires
 join-both-requires c κs = (c .before .before .before .before .before .before) .pre
@@ -43,7 +47,9 @@ returns-3 c =
     let start = c .before .before .before .before .before .before .before .before .before in
     let a = start .args in
     let p = start .pre in
-    c .before .before .join-both .ensures ∙ way-both (a .minus) (a .r) (block (a .n) (a .a .now)) (block (a .m) (a .b .now)) (λ e. c .before .before .before .before .before .if1 .left (p .full-b ∙ e)) (λ e. c .before .before .before .before .if2 .left (p .full-a ∙ e))
+    c .before .before .join-both .ensures ∙ way-both (a .minus) (a .r) (block (a .n) (a .a .now))
+    (block (a .m) (a .b .now)) (λ e. c .before .before .before .before .before .if1 .left (p .full-b ∙ e))
+    (λ e. c .before .before .before .before .if2 .left (p .full-a ∙ e))
 
 pub combine-spec : {M : Type 1} → statement M
 combine-spec =

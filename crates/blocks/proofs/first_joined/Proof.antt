@@ -2,7 +2,8 @@ use native.Mathlib.Omega.{arith}
 use mathlib.Core.Path.{_≡_, refl, sym, ap, _∙_}
 use lib.ListN.{length}
 use Rattle.model.specs.Poly.{block}
-use Rattle.blocks.specs.Combine.{combine-left, combine-right, combine-some, joining-left, joining-right, way-left, way-right, way-both, first-set, turned-yes, turned-no}
+use Rattle.blocks.specs.Combine.{combine-left, combine-right, combine-some, joining-left, joining-right}
+use Rattle.blocks.specs.Combine.{way-left, way-right, way-both, first-set, turned-yes, turned-no}
 use borrow.Author.Needs.{needs}
 use Rattle.blocks.proofs.first_joined.Statement.{statement}
 use Rattle.blocks.proofs.first_joined.Tie as tie

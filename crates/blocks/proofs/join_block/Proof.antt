@@ -21,7 +21,9 @@ same-length c = search needs
 returns : tie.Need-returns
 returns c =
     let start = c .before .before .before .before .before .before .before .before .before in
-    let a = start .args in c .before .before .join-rows .ensures ∙ join-merged (c .before .before .before .before .before .before .longest-rows .ensures) (a .minus) (a .a .now) (a .to .now)
+    let a = start .args in
+    c .before .before .join-rows .ensures ∙ join-merged
+    (c .before .before .before .before .before .before .longest-rows .ensures) (a .minus) (a .a .now) (a .to .now)
 
 pub join-block-spec : {M : Type 1} → statement M
 join-block-spec = tie.close (tie.spec longest-rows-requires join-rows-requires same-length returns)

@@ -26,8 +26,15 @@ loop-holds c = (omega arith, (refl, filled-none))
 loop-again : tie.Need-loop-again Inv-loop μ-loop
 loop-again c =
     let c4 = c .before .before .before .before in
-    let a = (c .before .before .before .before .before .before .before) .args in
-    (omega arith, (c4 .loop .inv .1 .0, filled-more (c4 .loop .inv .1 .1) (c .joined .ensures ∙ line-more (a .minus) (a .with .now) (a .to .now) (c4 .loop .k) (filled-here nan (c4 .loop .inv .1 .1) (omega arith)) (omega arith)) (omega arith)))
+    let a = (c .before .before .before .before .before .before .before) .args in (
+      omega arith,
+      (
+        c4 .loop .inv .1 .0,
+        filled-more (c4 .loop .inv .1 .1) (c .joined .ensures
+            ∙ line-more (a .minus) (a .with .now) (a .to .now) (c4 .loop .k)
+            (filled-here nan (c4 .loop .inv .1 .1) (omega arith)) (omega arith)) (omega arith),
+      ),
+    )
 
 same-length : tie.Need-same-length Inv-loop μ-loop
 same-length c = c .before .loop .inv .1 .1 .len

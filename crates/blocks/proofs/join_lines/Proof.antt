@@ -28,8 +28,15 @@ loop-again c =
     let c5 = c .before .before .before .before .before in
     let start = c5 .before .before .before .before in
     let a = start .args in
-    let k : ℕ = c5 .loop .k in
-    (omega arith, (refl, filled-more (c5 .loop .inv .1 .1) (c .joined2 .ensures ∙ ap (λ (x : Float). join (a .minus) x (getD (a .b .now) k nan)) (c .before .before .joined .ensures)) (omega arith)))
+    let k : ℕ = c5 .loop .k in (
+      omega arith,
+      (
+        refl,
+        filled-more (c5 .loop .inv .1 .1) (c .joined2 .ensures
+            ∙ ap (λ (x : Float). join (a .minus) x (getD (a .b .now) k nan)) (c .before .before .joined .ensures))
+            (omega arith),
+      ),
+    )
 
 same-length : tie.Need-same-length Inv-loop μ-loop
 same-length c = c .before .loop .inv .1 .1 .len

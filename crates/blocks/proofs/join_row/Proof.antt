@@ -35,7 +35,9 @@ fits c =
 
 part-is : (c : tie.After-place-of) →
     let start = c .before .before .before .before .before in
-    take (c .place-of .result + at (start .args .t3) 3 - c .place-of .result) (drop (c .place-of .result) (start .args .a .now)) ≡ take (at (start .args .t3) 3) (drop (place (start .args .t3) (start .args .i)) (start .args .a .now))
+    take (c .place-of .result + at (start .args .t3) 3 - c .place-of .result)
+    (drop (c .place-of .result) (start .args .a .now))
+    ≡ take (at (start .args .t3) 3) (drop (place (start .args .t3) (start .args .i)) (start .args .a .now))
 part-is c =
     let a = (c .before .before .before .before .before) .args in
     let e : c .place-of .result + at (a .t3) 3 - c .place-of .result ≡ at (a .t3) 3 = omega arith in rw (e, c .place-of .ensures)
@@ -60,7 +62,11 @@ returns c =
     let start = c .before .before .before .before .before .before .before .before .before .before in
     let a = start .args in
     let p = start .pre in
-    row-joined (a .minus) (a .t3) (a .a .now) (a .to .now) (a .i) (p .1 .1) (p .0) (within (c .before .before .before .before .before .before)) (p .1 .0 .0) (c .before .before .join-line .ensures ∙ ap (λ (l : List Float). table (length (a .to .now)) (lineJoined (a .minus) l (a .to .now))) (part-is (c .before .before .before .before .before)))
+    row-joined (a .minus) (a .t3) (a .a .now) (a .to .now) (a .i) (p .1 .1) (p .0)
+    (within (c .before .before .before .before .before .before)) (p .1 .0 .0)
+    (c .before .before .join-line .ensures ∙ ap
+    (λ (l : List Float). table (length (a .to .now)) (lineJoined (a .minus) l (a .to .now)))
+    (part-is (c .before .before .before .before .before)))
 
 returns-2 : tie.Need-returns-2
 returns-2 c =

@@ -43,7 +43,13 @@ to-fits c =
     by-fits (p .to) (p .full) (c .before .loop .inv .1) (more c)
 
 rowed : (c : tie.After-join-row Inv-loop μ-loop)
-    → c .join-row .last .1 .1 .1 .1 .0 ≡ table (at ((c .before .before .before .before .before .before) .args .t4) 3) (λ k. joinAt ((c .before .before .before .before .before .before) .args .minus) (getD (take (at ((c .before .before .before .before .before .before) .args .t4) 3) (drop (c .before .before .before .loop .at) (c .before .before .before .loop .to))) k nan) (block ((c .before .before .before .before .before .before) .args .n) ((c .before .before .before .before .before .before) .args .a .now)) (alongRow (c .before .before .before .loop .i) k))
+    → c .join-row .last .1 .1 .1 .1 .0 ≡ table (at ((c .before .before .before .before .before .before) .args .t4) 3)
+    (λ k. joinAt ((c .before .before .before .before .before .before) .args .minus)
+    (getD (take (at ((c .before .before .before .before .before .before) .args .t4) 3)
+    (drop (c .before .before .before .loop .at) (c .before .before .before .loop .to))) k nan)
+    (block ((c .before .before .before .before .before .before) .args .n)
+    ((c .before .before .before .before .before .before) .args .a .now))
+    (alongRow (c .before .before .before .loop .i) k))
 rowed c =
     let c3 = c .before .before .before in
     let w : ℕ = at (c .before .before .before .before .before .before .args .t4) 3 in
@@ -70,8 +76,16 @@ join-row-requires : tie.Need-join-row-requires Inv-loop μ-loop
 join-row-requires c κs =
     let start = c .before .before .before .before .before in
     let a = start .args in
-    let p' = start .pre in
-    (p' .from, ((p' .room, (let p = to-fits (c .before) in let q = p' .inner .c3 in simp (length-take, length-drop) (omega arith))), join-begins (a .minus) (a .n) (a .t4) (a .a .now) (a .to .now) (p') (c .before .before .loop .inv .1) (more (c .before)) .begins))
+    let p' = start .pre in (
+      p' .from,
+      (
+        (
+          p' .room,
+          (let p = to-fits (c .before) in let q = p' .inner .c3 in simp (length-take, length-drop) (omega arith)),
+        ),
+        join-begins (a .minus) (a .n) (a .t4) (a .a .now) (a .to .now) (p') (c .before .before .loop .inv .1) (more (c .before)) .begins,
+      ),
+    )
 
 add-at : tie.Need-add-at Inv-loop μ-loop
 add-at c = omega (arith, to-fits (c .before .before .before .before))
@@ -80,8 +94,11 @@ next-row-requires : tie.Need-next-row-requires Inv-loop μ-loop
 next-row-requires c κs =
     let start = c .before .before .before .before .before .before .before .before in
     let a = start .args in
-    let p = start .pre in
-    (p .to, join-begins (a .minus) (a .n) (a .t4) (a .a .now) (a .to .now) (p) (c .before .before .before .before .before .loop .inv .1) (more (c .before .before .before .before)))
+    let p = start .pre in (
+      p .to,
+      join-begins (a .minus) (a .n) (a .t4) (a .a .now) (a .to .now) (p)
+          (c .before .before .before .before .before .loop .inv .1) (more (c .before .before .before .before)),
+    )
 
 loop-less : tie.Need-loop-less Inv-loop μ-loop
 loop-less c =
@@ -95,8 +112,13 @@ loop-again c =
     let c6 = c5 .before in
     let start = c6 .before .before .before in
     let a = start .args in
-    let p = start .pre in
-    (refl, by-put (p .to) (p .full) (c6 .loop .inv .1) (more c5) (let e : c6 .loop .at + at (a .t4) 3 - c6 .loop .at ≡ at (a .t4) 3 = omega arith in e) (joined-row (a .minus) (a .n) (a .t4) (a .a .now) (a .to .now) (p) (c6 .loop .inv .1) (more c5) (rowed (c .before .before .before))) (c .next-row .ensures))
+    let p = start .pre in (
+      refl,
+      by-put (p .to) (p .full) (c6 .loop .inv .1) (more c5)
+          (let e : c6 .loop .at + at (a .t4) 3 - c6 .loop .at ≡ at (a .t4) 3 = omega arith in e)
+          (joined-row (a .minus) (a .n) (a .t4) (a .a .now) (a .to .now) (p) (c6 .loop .inv .1) (more c5)
+          (rowed (c .before .before .before))) (c .next-row .ensures),
+    )
 
 same-length : tie.Need-same-length Inv-loop μ-loop
 same-length c =

@@ -53,7 +53,8 @@ from-fits c =
 
 copied : (c : tie.After-copy Inv-loop μ-loop) →
     let start = c .before .before .before .before .before .before .before .before in
-    c .copy .last .1 .0 ≡ take (at (start .args .t3) 3) (drop (place (start .args .n) (c .before .before .before .before .before .loop .i)) (start .args .a .now))
+    c .copy .last .1 .0 ≡ take (at (start .args .t3) 3)
+    (drop (place (start .args .n) (c .before .before .before .before .before .loop .i)) (start .args .a .now))
 copied c =
     let c3 = c .before .before .before in
     let c5 = c3 .before .before in
@@ -104,8 +105,12 @@ next-row-requires : tie.Need-next-row-requires Inv-loop μ-loop
 next-row-requires c κs =
     let start = c .before .before .before .before .before .before .before .before .before .before in
     let a = start .args in
-    let p = start .pre in
-    (p .to, cut-begins (a .n) (a .t3) (a .a .now) (a .to .now) (p) (c .before .before .before .before .before .before .before .loop .inv .1) (more (c .before .before .before .before .before .before)))
+    let p = start .pre in (
+      p .to,
+      cut-begins (a .n) (a .t3) (a .a .now) (a .to .now) (p)
+          (c .before .before .before .before .before .before .before .loop .inv .1)
+          (more (c .before .before .before .before .before .before)),
+    )
 
 loop-less : tie.Need-loop-less Inv-loop μ-loop
 loop-less c =
@@ -119,8 +124,13 @@ loop-again c =
     let c8 = c7 .before in
     let start = c8 .before .before .before in
     let a = start .args in
-    let p = start .pre in
-    (refl, by-put (p .to) (p .full) (c8 .loop .inv .1) (more c7) (let e : c8 .loop .at + at (a .t3) 3 - c8 .loop .at ≡ at (a .t3) 3 = omega arith in e) (cut-row (a .n) (a .t3) (a .a .now) (a .to .now) (p) (c8 .loop .inv .1) (more c7) (copied (c .before .before .before))) (c .next-row .ensures))
+    let p = start .pre in (
+      refl,
+      by-put (p .to) (p .full) (c8 .loop .inv .1) (more c7)
+          (let e : c8 .loop .at + at (a .t3) 3 - c8 .loop .at ≡ at (a .t3) 3 = omega arith in e)
+          (cut-row (a .n) (a .t3) (a .a .now) (a .to .now) (p) (c8 .loop .inv .1) (more c7)
+          (copied (c .before .before .before))) (c .next-row .ensures),
+    )
 
 same-length : tie.Need-same-length Inv-loop μ-loop
 same-length c =

@@ -30,7 +30,10 @@ returns c =
     let c9 = c .before .before .before .before .before .before .before .before .before in
     let start = c9 .before .before .before .before in
     let a = start .args in
-    two-held (a .la) (a .ca) (a .lb) (a .cb) (a .n + c .before .before .before .before .count-of2 .result - a .n) (a .a .now) (a .b .now) (a .work .now) (start .pre) (c .before .before .before .before .before .before .before .load .ensures) (c .before .before .load2 .ensures) (c9 .count-of .ensures)
+    two-held (a .la) (a .ca) (a .lb) (a .cb) (a .n + c .before .before .before .before .count-of2 .result - a .n)
+    (a .a .now) (a .b .now) (a .work .now) (start .pre)
+    (c .before .before .before .before .before .before .before .load .ensures)
+    (c .before .before .load2 .ensures) (c9 .count-of .ensures)
 
 pub load-two-spec : {M : Type 1} → statement M
 load-two-spec =

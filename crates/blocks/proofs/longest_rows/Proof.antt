@@ -24,8 +24,10 @@ loop-holds c = merged-none (c .pre .0) (c .pre .1)
 
 tested : (c : tie.In-loop Inv-loop μ-loop) → (0 < c .before .loop .left) × (at (c .before .loop .m) 3 ≡ at (c .before .loop .d) 3)
 tested c =
-    let h = c .loop-test .taken in
-    (ltb-true _ _ (and-left (ltb 0 (c .before .loop .left)) _ h), eqb-true _ _ (and-right (ltb 0 (c .before .loop .left)) (eqb (at (c .before .loop .m) 3) (at (c .before .loop .d) 3)) h))
+    let h = c .loop-test .taken in (
+      ltb-true _ _ (and-left (ltb 0 (c .before .loop .left)) _ h),
+      eqb-true _ _ (and-right (ltb 0 (c .before .loop .left)) (eqb (at (c .before .loop .m) 3) (at (c .before .loop .d) 3)) h),
+    )
 
 merged-requires : tie.Need-merged-requires Inv-loop μ-loop
 merged-requires c κs = c .before .loop .inv .from

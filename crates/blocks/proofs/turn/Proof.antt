@@ -22,7 +22,13 @@ loop-holds : tie.Need-loop-holds Inv-loop μ-loop
 loop-holds c = (omega arith, (refl, filled-none))
 
 loop-again : tie.Need-loop-again Inv-loop μ-loop
-loop-again c = (omega arith, (c .before .before .loop .inv .1 .0, filled-more (c .before .before .loop .inv .1 .1) (ap neg (filled-here nan (c .before .before .loop .inv .1 .1) (omega arith))) (omega arith)))
+loop-again c = (
+  omega arith,
+  (
+    c .before .before .loop .inv .1 .0,
+    filled-more (c .before .before .loop .inv .1 .1) (ap neg (filled-here nan (c .before .before .loop .inv .1 .1) (omega arith))) (omega arith),
+  ),
+)
 
 same-length : tie.Need-same-length Inv-loop μ-loop
 same-length c = c .before .loop .inv .1 .1 .len

@@ -13,7 +13,8 @@ same-length c = search needs
 returns : tie.Need-returns
 returns c =
     let start = c .before .before .before .before .before .before .before in
-    put-plain (start .args .factor) (length (start .args .to .now)) (start .args .a .now) (c .before .before .before .before .if1 .taken) (start .pre) (c .before .before .copy .ensures)
+    put-plain (start .args .factor) (length (start .args .to .now)) (start .args .a .now)
+    (c .before .before .before .before .if1 .taken) (start .pre) (c .before .before .copy .ensures)
 
 scale-row-requires : tie.Need-scale-row-requires
 scale-row-requires c κs = search needs
@@ -24,7 +25,8 @@ same-length-2 c = search needs
 returns-2 : tie.Need-returns-2
 returns-2 c =
     let start = c .before .before .before .before .before .before .before in
-    put-scaled (start .args .factor) (length (start .args .to .now)) (start .args .a .now) (c .before .before .before .before .if1 .left) (c .before .before .scale-row .ensures)
+    put-scaled (start .args .factor) (length (start .args .to .now)) (start .args .a .now)
+    (c .before .before .before .before .if1 .left) (c .before .before .scale-row .ensures)
 
 pub put-row-spec : {M : Type 1} → statement M
 put-row-spec =

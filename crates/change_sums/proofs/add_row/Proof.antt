@@ -19,8 +19,15 @@ loop-holds c = (omega arith, (refl, filled-none))
 
 loop-again : tie.Need-loop-again Inv-loop μ-loop
 loop-again c =
-    let c3 = c .before .before .before in
-    (omega arith, (c3 .loop .inv .1 .0, filled-more (c3 .loop .inv .1 .1) (ap (λ (x : Float). add binary64 x (getD (c .before .before .before .before .args .row .now) (c3 .loop .k) nan)) (filled-here nan (c3 .loop .inv .1 .1) (omega arith))) (omega arith)))
+    let c3 = c .before .before .before in (
+      omega arith,
+      (
+        c3 .loop .inv .1 .0,
+        filled-more (c3 .loop .inv .1 .1)
+            (ap (λ (x : Float). add binary64 x (getD (c .before .before .before .before .args .row .now)
+            (c3 .loop .k) nan)) (filled-here nan (c3 .loop .inv .1 .1) (omega arith))) (omega arith),
+      ),
+    )
 
 same-length : tie.Need-same-length Inv-loop μ-loop
 same-length c = c .before .loop .inv .1 .1 .len

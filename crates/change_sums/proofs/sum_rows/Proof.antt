@@ -27,7 +27,13 @@ clear-requires : tie.Need-clear-requires Inv-loop μ-loop
 clear-requires c κs = tt
 
 loop-holds : tie.Need-loop-holds Inv-loop μ-loop
-loop-holds c = (omega arith, (omega arith, sum-none (c .before .before .before .before .before .before .args .a .now) (c .before .before .clear .ensures) (sym (c .before .before .clear .kept .0))))
+loop-holds c = (
+  omega arith,
+  (
+    omega arith,
+    sum-none (c .before .before .before .before .before .before .args .a .now) (c .before .before .clear .ensures) (sym (c .before .before .clear .kept .0)),
+  ),
+)
 
 add-add-row : tie.Need-add-add-row Inv-loop μ-loop
 add-add-row c = omega (arith, fits (c))
@@ -39,7 +45,9 @@ part-add-row-end : tie.Need-part-add-row-end Inv-loop μ-loop
 part-add-row-end c = omega (arith, fits (c))
 
 add-row-requires : tie.Need-add-row-requires Inv-loop μ-loop
-add-row-requires c κs = let f = fits (c .before .before) in let l = c .before .before .before .loop .inv .1 .1 .len in simp (length-take, length-drop) (omega arith)
+add-row-requires c κs = let f = fits (c .before .before) in
+    let l = c .before .before .before .loop .inv .1 .1 .len in
+    simp (length-take, length-drop) (omega arith)
 
 add-at : tie.Need-add-at Inv-loop μ-loop
 add-at c = omega (arith, fits (c .before .before .before .before .before))
@@ -48,7 +56,14 @@ loop-again : tie.Need-loop-again Inv-loop μ-loop
 loop-again c =
     let c6 = c .before .before .before .before .before .before in
     let c9 = c6 .before .before .before in
-    let e : c6 .loop .at + length (c9 .clear .last .0) - c6 .loop .at ≡ length (c9 .clear .last .0) = omega arith in (omega arith, (omega (arith, c6 .loop .inv .1 .0), sum-more (c6 .loop .at + length (c9 .clear .last .0) - c6 .loop .at) _ (c6 .loop .inv .1 .1) (c6 .loop .inv .1 .0) refl e (c6 .loop .inv .1 .1 .len) (c .before .before .add-row .ensures)))
+    let e : c6 .loop .at + length (c9 .clear .last .0) - c6 .loop .at ≡ length (c9 .clear .last .0) = omega arith in (
+      omega arith,
+      (
+        omega (arith, c6 .loop .inv .1 .0),
+        sum-more (c6 .loop .at + length (c9 .clear .last .0) - c6 .loop .at) _ (c6 .loop .inv .1 .1)
+            (c6 .loop .inv .1 .0) refl e (c6 .loop .inv .1 .1 .len) (c .before .before .add-row .ensures),
+      ),
+    )
 
 same-length : tie.Need-same-length Inv-loop μ-loop
 same-length c = c .before .loop .inv .1 .1 .len ∙ whole (c .before .before .before .before)
@@ -56,7 +71,9 @@ same-length c = c .before .loop .inv .1 .1 .len ∙ whole (c .before .before .be
 returns : tie.Need-returns Inv-loop μ-loop
 returns c =
     let start = c .before .before .before .before .before .before .before .before in
-    let j : c .before .loop .j ≡ start .args .m = omega arith in let w = whole (c .before .before .before .before) in (c .before .loop .inv .1 .0 ∙ (rw (j, w)), c .before .loop .inv .1 .1 .is ∙ (rw (j, w)))
+    let j : c .before .loop .j ≡ start .args .m = omega arith in
+    let w = whole (c .before .before .before .before) in
+    (c .before .loop .inv .1 .0 ∙ (rw (j, w)), c .before .loop .inv .1 .1 .is ∙ (rw (j, w)))
 
 pub sum-rows-spec : {M : Type 1} → statement M
 sum-rows-spec =

@@ -34,7 +34,10 @@ returns-2 : tie.Need-returns-2
 unfolding inGate
 returns-2 c =
     let start = c .before .before .before .before .before .before .before in
-    (simp (le-ltb _ _ (rw (c .before .before .before .header-of .ensures) at (c .before .if2 .taken))) (c .by .ensures)) ∙ read-on (start .args .word) (start .args .given) _ (c .before .before .before .before .before .before .read-gate .ensures) (c .before .before .before .before .if1 .left)
+    (simp (le-ltb _ _ (rw (c .before .before .before .header-of .ensures) at (c .before .if2 .taken))) (c .by .ensures))
+    ∙ read-on (start .args .word) (start .args .given) _
+    (c .before .before .before .before .before .before .read-gate .ensures)
+    (c .before .before .before .before .if1 .left)
 
 mul-if3 : tie.Need-mul-if3
 mul-if3 c = omega (arith, few (c .before))
@@ -47,10 +50,18 @@ unfolding inGate
 returns-3 c =
     let c8 = c .before .before .before .before .before .before .before .before in
     let start = c8 .before in
-    (simp (lt-ltb _ _ (known (c .before .before .before)), le-ltb _ _ (rw (c .before .before .before .before .before .header-of .ensures) at (c .before .if3 .taken))) (c .by2 .ensures)) ∙ read-on (start .args .word) (start .args .given) _ (c8 .read-gate .ensures) (c .before .before .before .before .before .before .if1 .left)
+    (simp (
+      lt-ltb _ _ (known (c .before .before .before)),
+      le-ltb _ _ (rw (c .before .before .before .before .before .header-of .ensures) at (c .before .if3 .taken)),
+    ) (c .by2 .ensures)) ∙ read-on (start .args .word) (start .args .given) _ (c8 .read-gate .ensures)
+    (c .before .before .before .before .before .before .if1 .left)
 
 announced-of-requires : tie.Need-announced-of-requires
-announced-of-requires c κs = (rw (c .before .before .before .before .before .header-of .ensures) (ready (c .before .before .before .before .before .before) .good .regular .rules), rw (c .none .ensures) (none-regular .rules))
+announced-of-requires c κs = (
+  rw (c .before .before .before .before .before .header-of .ensures)
+      (ready (c .before .before .before .before .before .before) .good .regular .rules),
+  rw (c .none .ensures) (none-regular .rules),
+)
 
 fits-gate-requires : tie.Need-fits-gate-requires
 fits-gate-requires c κs = rw (is-announced c) (one-announced _ _ (ready (c .before .before .before .before .before .before .before) .word) .rules)
@@ -61,7 +72,10 @@ returns-4 c =
     let c8 = c .before .before .before .before .before .before .before .before in
     let c10 = c8 .before .before in
     let start = c10 .before in
-    (simp (lt-ltb _ _ (known (c .before .before .before .before .before)), lt-ltb _ _ (rw (c .before .before .before .before .before .before .before .header-of .ensures) at (c .before .before .before .if3 .left))) (rw (is-announced (c .before)) at (c .fits-gate .ensures))) ∙ read-on (start .args .word) (start .args .given) _ (c10 .read-gate .ensures) (c8 .if1 .left)
+    (simp (
+      lt-ltb _ _ (known (c .before .before .before .before .before)),
+      lt-ltb _ _ (rw (c .before .before .before .before .before .before .before .header-of .ensures) at (c .before .before .before .if3 .left)),
+    ) (rw (is-announced (c .before)) at (c .fits-gate .ensures))) ∙ read-on (start .args .word) (start .args .given) _ (c10 .read-gate .ensures) (c8 .if1 .left)
 
 pub in-gate-spec : {M : Type 1} → statement M
 in-gate-spec =

@@ -28,7 +28,10 @@ returns-2 : tie.Need-returns-2
 unfolding oneGate
 returns-2 c =
     let start = c .before .before .before .before .before .before .before in
-    (rw (is-announced (c .before)) at (c .fits-gate .ensures)) ∙ read-on (start .args .word) (start .args .given) _ (c .before .before .before .before .before .before .read-gate .ensures) (c .before .before .before .before .if1 .left)
+    (rw (is-announced (c .before)) at (c .fits-gate .ensures))
+    ∙ read-on (start .args .word) (start .args .given) _
+    (c .before .before .before .before .before .before .read-gate .ensures)
+    (c .before .before .before .before .if1 .left)
 
 pub one-gate-spec : {M : Type 1} → statement M
 one-gate-spec =

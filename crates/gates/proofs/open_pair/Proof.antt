@@ -36,12 +36,18 @@ ruled-b c = good-word _ (word-b c) .regular .rules
 is-announced : (c : tie.After-announced-of) →
     let start = c .before .before .before .before .before .before .before .before .before in
     c .announced-of .result ≡ announcedPair (start .args .f) (start .args .ah) (start .args .bh)
-is-announced c = simp (c .before .before .before .before .before .header-of .ensures, c .before .before .before .before .header-of2 .ensures) at (c .announced-of .ensures)
+is-announced c =
+    simp (
+      c .before .before .before .before .before .header-of .ensures,
+      c .before .before .before .before .header-of2 .ensures,
+    ) at (c .announced-of .ensures)
 
 returns : tie.Need-returns
 returns c =
     let start = c .before .before .before .before .before in
-    bad-word _ _ _ _ _ _ _ (not-true (goodWord (start .args .ah) && goodWord (start .args .bh)) (rw (c .before .before .before .before .is-good .ensures, c .before .before .before .is-good2 .ensures) at (c .before .before .if1 .taken))) (c .before .by .ensures) (c .refused .ensures)
+    bad-word _ _ _ _ _ _ _ (not-true (goodWord (start .args .ah) && goodWord (start .args .bh))
+    (rw (c .before .before .before .before .is-good .ensures, c .before .before .before .is-good2 .ensures) at
+    (c .before .before .if1 .taken))) (c .before .by .ensures) (c .refused .ensures)
 
 is-full-requires : tie.Need-is-full-requires
 is-full-requires c κs = rw (c .before .header-of .ensures) (ruled-a (c .before .before))
@@ -52,7 +58,14 @@ is-full-requires-2 c κs = rw (c .before .header-of2 .ensures) (ruled-b (c .befo
 returns-2 : tie.Need-returns-2
 returns-2 c =
     let start = c .before .before .before .before .before .before .before .before .before .before in
-    not-full _ _ _ _ _ _ _ (words (c .before .before .before .before .before .before .before)) (not-true (full (start .args .ah) (start .args .am) && full (start .args .bh) (start .args .bm)) (rw (c .before .before .before .before .is-full .ensures, c .before .before .before .is-full2 .ensures, c .before .before .before .before .before .before .header-of .ensures, c .before .before .before .before .before .header-of2 .ensures) at (c .before .before .if2 .taken))) (c .before .by2 .ensures) (c .refused2 .ensures)
+    not-full _ _ _ _ _ _ _ (words (c .before .before .before .before .before .before .before))
+    (not-true (full (start .args .ah) (start .args .am) && full (start .args .bh) (start .args .bm))
+    (rw (
+      c .before .before .before .before .is-full .ensures,
+      c .before .before .before .is-full2 .ensures,
+      c .before .before .before .before .before .before .header-of .ensures,
+      c .before .before .before .before .before .header-of2 .ensures,
+    ) at (c .before .before .if2 .taken))) (c .before .by2 .ensures) (c .refused2 .ensures)
 
 announced-of-requires : tie.Need-announced-of-requires
 announced-of-requires c κs =
@@ -61,15 +74,24 @@ announced-of-requires c κs =
 
 open-room-requires : tie.Need-open-room-requires
 open-room-requires c κs =
-    let c6 = c .before .before .before .before .before .before in
-    (rw (c .before .before .before .before .before .header-of .ensures) (ruled-a c6), (rw (c .before .before .before .before .header-of2 .ensures) (ruled-b c6), rw (is-announced c) (pair-announced _ _ _ (word-a c6) (word-b c6) .rules)))
+    let c6 = c .before .before .before .before .before .before in (
+      rw (c .before .before .before .before .before .header-of .ensures) (ruled-a c6),
+      (rw (c .before .before .before .before .header-of2 .ensures) (ruled-b c6), rw (is-announced c) (pair-announced _ _ _ (word-a c6) (word-b c6) .rules)),
+    )
 
 returns-3 : tie.Need-returns-3
 returns-3 c =
     let c5 = c .before .before .before .before .before in
     let c6 = c5 .before in
     let start = c6 .before .before .before .before in
-    passed-on _ _ _ _ _ _ _ (words (c .before .before .before .before .before .before .before)) (not-false (full (start .args .ah) (start .args .am) && full (start .args .bh) (start .args .bm)) (rw (c .before .before .before .before .is-full .ensures, c .before .before .before .is-full2 .ensures, c6 .header-of .ensures, c5 .header-of2 .ensures) at (c .before .before .if2 .left))) (c6 .header-of .ensures) (c5 .header-of2 .ensures) (is-announced (c .before)) (c .open-room .ensures)
+    passed-on _ _ _ _ _ _ _ (words (c .before .before .before .before .before .before .before))
+    (not-false (full (start .args .ah) (start .args .am) && full (start .args .bh) (start .args .bm))
+    (rw (
+      c .before .before .before .before .is-full .ensures,
+      c .before .before .before .is-full2 .ensures,
+      c6 .header-of .ensures,
+      c5 .header-of2 .ensures,
+    ) at (c .before .before .if2 .left))) (c6 .header-of .ensures) (c5 .header-of2 .ensures) (is-announced (c .before)) (c .open-room .ensures)
 
 pub open-pair-spec : {M : Type 1} → statement M
 open-pair-spec =

@@ -18,7 +18,9 @@ header c = rw (add-one ((c .before .before .before .before) .args .v)) at (c .va
 
 returns : tie.Need-returns
 unfolding varGate
-returns c = simp (not-true (goodLimit ((c .before .before .before) .args .limit)) (rw (c .before .before .good-limit .ensures) at (c .before .if1 .taken))) (c .by .ensures)
+returns c =
+    simp (not-true (goodLimit ((c .before .before .before) .args .limit))
+    (rw (c .before .before .good-limit .ensures) at (c .before .if1 .taken))) (c .by .ensures)
 
 returns-2 : tie.Need-returns-2
 unfolding varGate

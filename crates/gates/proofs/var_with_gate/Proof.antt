@@ -14,7 +14,8 @@ returns : tie.Need-returns
 unfolding varWithGate
 returns c =
     let start = c .before .before .before in
-    simp (not-true (goodLimits (start .args .vars) (start .args .limits)) (rw (c .before .before .good-limits .ensures) at (c .before .if1 .taken))) (c .by .ensures)
+    simp (not-true (goodLimits (start .args .vars) (start .args .limits))
+    (rw (c .before .before .good-limits .ensures) at (c .before .if1 .taken))) (c .by .ensures)
 
 returns-2 : tie.Need-returns-2
 unfolding varWithGate
@@ -25,7 +26,9 @@ fits-gate-requires c κs = rw (c .var-with-degrees-p1 .ensures) (var-regular (go
 
 returns-3 : tie.Need-returns-3
 unfolding varWithGate
-returns-3 c = simp (limits (c .before .before .before), lt-ltb _ _ (c .before .before .if2 .left)) (rw (c .before .var-with-degrees-p1 .ensures) at (c .fits-gate .ensures))
+returns-3 c =
+    simp (limits (c .before .before .before), lt-ltb _ _ (c .before .before .if2 .left))
+    (rw (c .before .var-with-degrees-p1 .ensures) at (c .fits-gate .ensures))
 
 pub var-with-gate-spec : {M : Type 1} → statement M
 var-with-gate-spec =

@@ -14,7 +14,8 @@ returns : tie.Need-returns
 unfolding withGate
 returns c =
     let start = c .before .before .before in
-    simp (not-true (goodLimits (start .args .vars) (start .args .limits)) (rw (c .before .before .good-limits .ensures) at (c .before .if1 .taken))) (c .by .ensures)
+    simp (not-true (goodLimits (start .args .vars) (start .args .limits))
+    (rw (c .before .before .good-limits .ensures) at (c .before .if1 .taken))) (c .by .ensures)
 
 fits-gate-requires : tie.Need-fits-gate-requires
 fits-gate-requires c κs = rw (c .zero-with .ensures) (zero-regular (good-limits _ _ (limits (c .before))) .rules)

@@ -42,14 +42,21 @@ unfolding workGate
 returns-2 c =
     let c8 = c .before .before .before .before .before .before .before .before in
     let start = c8 .before in
-    (simp (not-true (roomy (announcedOne (start .args .f) (start .args .word)) (start .args .scratch)) (rw (c .before .before .is-roomy .ensures, is-announced (c .before .before .before)) at (c .before .if2 .taken))) (c .by .ensures)) ∙ one-on (start .args .f) (start .args .word) (start .args .given) (start .args .lent) _ (c8 .one-gate .ensures) (c .before .before .before .before .before .before .if1 .left)
+    (simp (not-true (roomy (announcedOne (start .args .f) (start .args .word)) (start .args .scratch))
+    (rw (c .before .before .is-roomy .ensures, is-announced (c .before .before .before)) at
+    (c .before .if2 .taken))) (c .by .ensures))
+    ∙ one-on (start .args .f) (start .args .word) (start .args .given) (start .args .lent) _ (c8 .one-gate .ensures)
+    (c .before .before .before .before .before .before .if1 .left)
 
 returns-3 : tie.Need-returns-3
 unfolding workGate
 returns-3 c =
     let c8 = c .before .before .before .before .before .before .before .before in
     let start = c8 .before in
-    (simp (not-false (roomy (announcedOne (start .args .f) (start .args .word)) (start .args .scratch)) (rw (c .before .before .is-roomy .ensures, is-announced (c .before .before .before)) at (c .before .if2 .left))) (c .none2 .ensures)) ∙ one-on (start .args .f) (start .args .word) (start .args .given) (start .args .lent) _ (c8 .one-gate .ensures) (c .before .before .before .before .before .before .if1 .left)
+    (simp (not-false (roomy (announcedOne (start .args .f) (start .args .word)) (start .args .scratch))
+    (rw (c .before .before .is-roomy .ensures, is-announced (c .before .before .before)) at (c .before .if2 .left)))
+    (c .none2 .ensures)) ∙ one-on (start .args .f) (start .args .word) (start .args .given) (start .args .lent) _
+    (c8 .one-gate .ensures) (c .before .before .before .before .before .before .if1 .left)
 
 pub work-gate-spec : {M : Type 1} → statement M
 work-gate-spec =

@@ -13,7 +13,14 @@ returns c =
     let c4 = c .before .before .before .before in
     let c9 = c4 .before .before .before .before .before in
     let start = c9 .before .before .before .before .before in
-    let s = (c9 .short-way .ensures (c .before .before .before .before .before .before .before .if1 .taken)) in (c4 .multiply-short .ensures .0 ∙ short-answer s (omega (arith, start .fits .ah)) (start .args .out .now) (start .args .scratch .now) refl refl, (c4 .multiply-short .ensures .1 .0 ∙ short-out s (start .args .out .now) (start .args .scratch .now) refl refl, c4 .multiply-short .ensures .1 .1 ∙ short-scratch s (start .args .out .now) (start .args .scratch .now) refl refl))
+    let s = (c9 .short-way .ensures (c .before .before .before .before .before .before .before .if1 .taken)) in (
+      c4 .multiply-short .ensures .0 ∙ short-answer s (omega (arith, start .fits .ah)) (start .args .out .now)
+          (start .args .scratch .now) refl refl,
+      (
+        c4 .multiply-short .ensures .1 .0 ∙ short-out s (start .args .out .now) (start .args .scratch .now) refl refl,
+        c4 .multiply-short .ensures .1 .1 ∙ short-scratch s (start .args .out .now) (start .args .scratch .now) refl refl,
+      ),
+    )
 
 pub multiply-spec : {M : Type 1} → statement M
 multiply-spec =

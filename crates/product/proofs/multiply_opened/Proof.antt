@@ -30,7 +30,8 @@ head c =
     let c14 = c11 .before .before .before in
     let start = c14 .before .before .before .before .before in
     let t = c14 .open-product .ensures .tells (c11 .if1 .left) in
-    entry-head (start .args .ah) (start .args .a .now) (start .args .bh) (start .args .b .now) (t .left) (t .right) (told-by Product t) (t .count-a) (t .count-b) (c .multiply-into .ensures .0)
+    entry-head (start .args .ah) (start .args .a .now) (start .args .bh) (start .args .b .now) (t .left) (t .right)
+    (told-by Product t) (t .count-a) (t .count-b) (c .multiply-into .ensures .0)
 
 used : (c : tie.After-multiply-into) →
     let c12 = c .before .before .before .before .before .before .before .before .before .before .before .before in
@@ -45,14 +46,24 @@ rooms : (c : tie.After-multiply-into) →
     let c12 = c .before .before .before .before .before .before .before .before .before .before .before .before in
     let c14 = c12 .before .before in
     let start = c14 .before .before .before .before .before in
-    8 * c14 .open-product .result .n ≤ length (c .multiply-into .last .1 .1 .1 .1 .1 .1 .1 .0 ++ drop (8 * c14 .open-product .result .n) (start .args .scratch .now))
+    8 * c14 .open-product .result .n ≤ length
+    (c .multiply-into .last .1 .1 .1 .1 .1 .1 .1 .0
+    ++ drop (8 * c14 .open-product .result .n) (start .args .scratch .now))
 rooms c = simp length-append (omega (arith, used c))
 
 returns : tie.Need-returns
 unfolding productAnswer productOut productScratch
 returns c =
     let start = c .before .before .before .before .before .before .before .before in
-    let e = c .before .before .before .open-product .ensures .refusal in let n = c .if1 .taken in (refused-answer e (announcedPair Product (start .args .ah) (start .args .bh)) (value start) n, (refused-out e (announcedPair Product (start .args .ah) (start .args .bh)) (value start) n (start .args .out .now), refused-scratch e (announcedPair Product (start .args .ah) (start .args .bh)) (value start) n (start .args .scratch .now)))
+    let e = c .before .before .before .open-product .ensures .refusal in
+    let n = c .if1 .taken in (
+      refused-answer e (announcedPair Product (start .args .ah) (start .args .bh)) (value start) n,
+      (
+        refused-out e (announcedPair Product (start .args .ah) (start .args .bh)) (value start) n
+            (start .args .out .now),
+        refused-scratch e (announcedPair Product (start .args .ah) (start .args .bh)) (value start) n (start .args .scratch .now),
+      ),
+    )
 
 mul-room : tie.Need-mul-room
 mul-room c =
@@ -99,7 +110,11 @@ multiply-into-requires : tie.Need-multiply-into-requires
 multiply-into-requires c κs =
     let c10 = c .before .before .before .before .before .before .before .before .before .before in
     let c13 = c10 .before .before .before in
-    let f = opened-fits (c13 .open-product .ensures) (c10 .if1 .left) in let t = c13 .open-product .ensures .tells (c10 .if1 .left) in entry-times (opened-ready (c13 .open-product .ensures) (c10 .if1 .left)) (t .left) (t .right) (told-by Product t) (t .count-a) (t .count-b) (t .count) (length-take-le _ _ (f .0)) (length-take-le _ _ (f .1)) (length-take-le _ _ (f .2)) (length-take-le _ _ (f .3))
+    let f = opened-fits (c13 .open-product .ensures) (c10 .if1 .left) in
+    let t = c13 .open-product .ensures .tells (c10 .if1 .left) in
+    entry-times (opened-ready (c13 .open-product .ensures) (c10 .if1 .left)) (t .left) (t .right)
+    (told-by Product t) (t .count-a) (t .count-b) (t .count) (length-take-le _ _ (f .0)) (length-take-le _ _ (f .1))
+    (length-take-le _ _ (f .2)) (length-take-le _ _ (f .3))
 
 slice-relend-prefix-clear : tie.Need-slice-relend-prefix-clear
 slice-relend-prefix-clear c = rooms (c .before .before .before .before)
@@ -122,7 +137,22 @@ returns-2 c =
     let c20 = c9 .before .before .before .before .before .before .before .before .before .before .before in
     let c23 = c20 .before .before .before in
     let start = c23 .before .before .before .before .before in
-    let e = c23 .open-product .ensures .refusal in let z = c20 .if1 .left in let n = (opened-count (c23 .open-product .ensures) (c20 .if1 .left)) in let t = c23 .open-product .ensures .tells (c20 .if1 .left) in (done-answer e (announcedPair Product (start .args .ah) (start .args .bh)) (value start) z (c .pack .ensures ∙ ap wordOf (head c9)), (done-out e (announcedPair Product (start .args .ah) (start .args .bh)) (value start) z (start .args .out .now) n (entry-out (start .args .ah) (start .args .a .now) (start .args .bh) (start .args .b .now) (t .left) (t .right) (told-by Product t) (t .count-a) (t .count-b) (c23 .open-product .result .n) (c9 .multiply-into .ensures .1)), done-scratch e (announcedPair Product (start .args .ah) (start .args .bh)) (value start) z (start .args .scratch .now) (c9 .multiply-into .last .1 .1 .1 .1 .1 .1 .1 .0) (ap (λ (k : ℕ). 8 * k) n) (used c9) (c .before .before .before .clear .ensures) (length-take-le _ _ (rooms c9))))
+    let e = c23 .open-product .ensures .refusal in
+    let z = c20 .if1 .left in
+    let n = (opened-count (c23 .open-product .ensures) (c20 .if1 .left)) in
+    let t = c23 .open-product .ensures .tells (c20 .if1 .left) in (
+      done-answer e (announcedPair Product (start .args .ah) (start .args .bh)) (value start) z
+          (c .pack .ensures ∙ ap wordOf (head c9)),
+      (
+        done-out e (announcedPair Product (start .args .ah) (start .args .bh)) (value start) z (start .args .out .now) n
+            (entry-out (start .args .ah) (start .args .a .now) (start .args .bh) (start .args .b .now) (t .left)
+            (t .right) (told-by Product t) (t .count-a) (t .count-b) (c23 .open-product .result .n)
+            (c9 .multiply-into .ensures .1)),
+        done-scratch e (announcedPair Product (start .args .ah) (start .args .bh)) (value start) z
+            (start .args .scratch .now) (c9 .multiply-into .last .1 .1 .1 .1 .1 .1 .1 .0) (ap (λ (k : ℕ). 8 * k) n)
+            (used c9) (c .before .before .before .clear .ensures) (length-take-le _ _ (rooms c9)),
+      ),
+    )
 
 pub multiply-opened-spec : {M : Type 1} → statement M
 multiply-opened-spec =

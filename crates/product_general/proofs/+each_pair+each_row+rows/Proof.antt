@@ -66,7 +66,9 @@ abbrev rows-below : ℕ → In 3 rows-kinds.ps
 rows-below t = and 3 rows-kinds.ps (falls 3 rows-kinds.ps _<_ μ-rows t) rows.Pre
 
 abbrev each-pair-Inv-loop : each-pair-lts.InvT-loop
-each-pair-Inv-loop xs ys r sr v k row₀ lx sx ly sy w tx ty lo hi j₀ row j = (j - lo ≤ hi - lo) × Paired (inRow r v) (λ q. stepAt lx ly r (index r q) v k (at sx v) (at sy v) xs ys) lo j row₀ row
+each-pair-Inv-loop xs ys r sr v k row₀ lx sx ly sy w tx ty lo hi j₀ row j =
+    (j - lo ≤ hi - lo) × Paired (inRow r v) (λ q. stepAt lx ly r (index r q) v k (at sx v) (at sy v) xs ys) lo j row₀
+    row
 
 abbrev each-pair-μ-loop : each-pair-lts.MeasureT-loop
 each-pair-μ-loop xs ys r sr v k row₀ lx sx ly sy w tx ty lo hi j₀ row j = hi - j
@@ -85,7 +87,8 @@ turned : (t : ℕ) (c : each-pair-lts.In-loop (each-pair-claims t) (each-pair-at
     Turn (at (start .args .t2) (start .args .v)) (at (start .args .t5) (start .args .v)) (start .args .k) (c .before .loop .j)
 turned t c =
     let start = c .before .before .before .before .before .before .before in
-    turn (lengths-pos (start .pre .1 .0 .right) _ (start .pre .1 .1 .some)) (c .before .before .before .from .ensures) (c .before .before .upto .ensures) (c .before .loop .inv .1 .from) (c .loop-test .taken)
+    turn (lengths-pos (start .pre .1 .0 .right) _ (start .pre .1 .1 .some)) (c .before .before .before .from .ensures)
+    (c .before .before .upto .ensures) (c .before .loop .inv .1 .from) (c .loop-test .taken)
 
 each-pair-add-w : (t : ℕ) → each-pair-lts.Need-add-w (each-pair-claims t) (each-pair-at t) each-pair.Post each-pair-Inv-loop each-pair-μ-loop
 each-pair-add-w t c = let h = (c .before .before .before) .pre .1 .1 .some in omega arith
@@ -105,7 +108,8 @@ each-pair-array-read-ty t c = (c .before .before .before) .pre .1 .1 .some
 each-pair-mul-from : (t : ℕ) → each-pair-lts.Need-mul-from (each-pair-claims t) (each-pair-at t) each-pair.Post each-pair-Inv-loop each-pair-μ-loop
 each-pair-mul-from t c = in-array ((c .before .before .before) .pre .1 .1 .some)
 
-each-pair-array-read-from : (t : ℕ) → each-pair-lts.Need-array-read-from (each-pair-claims t) (each-pair-at t) each-pair.Post each-pair-Inv-loop each-pair-μ-loop
+each-pair-array-read-from : (t : ℕ) → each-pair-lts.Need-array-read-from (each-pair-claims t)
+    (each-pair-at t) each-pair.Post each-pair-Inv-loop each-pair-μ-loop
 each-pair-array-read-from t c = (c .before .before .before) .pre .1 .1 .some
 
 each-pair-from-requires : (t : ℕ) → each-pair-lts.Need-from-requires (each-pair-claims t) (each-pair-at t) each-pair.Post each-pair-Inv-loop each-pair-μ-loop
@@ -114,7 +118,8 @@ each-pair-from-requires t c κs = let g = (c .before .before .before) .pre in ro
 each-pair-mul-upto : (t : ℕ) → each-pair-lts.Need-mul-upto (each-pair-claims t) (each-pair-at t) each-pair.Post each-pair-Inv-loop each-pair-μ-loop
 each-pair-mul-upto t c = in-array ((c .before .before .before .before) .pre .1 .1 .some)
 
-each-pair-array-read-upto : (t : ℕ) → each-pair-lts.Need-array-read-upto (each-pair-claims t) (each-pair-at t) each-pair.Post each-pair-Inv-loop each-pair-μ-loop
+each-pair-array-read-upto : (t : ℕ) → each-pair-lts.Need-array-read-upto (each-pair-claims t)
+    (each-pair-at t) each-pair.Post each-pair-Inv-loop each-pair-μ-loop
 each-pair-array-read-upto t c = (c .before .before .before .before) .pre .1 .1 .some
 
 each-pair-upto-requires : (t : ℕ) → each-pair-lts.Need-upto-requires (each-pair-claims t) (each-pair-at t) each-pair.Post each-pair-Inv-loop each-pair-μ-loop
@@ -146,7 +151,8 @@ each-pair-sub-rows t c =
     let start = c .before .before .before .before .before .before .before in
     omega (arith, left-in (start .pre .1 .0) (start .pre .1 .1) (turned t c))
 
-each-pair-part-rows-start : (t : ℕ) → each-pair-lts.Need-part-rows-start (each-pair-claims t) (each-pair-at t) each-pair.Post each-pair-Inv-loop each-pair-μ-loop
+each-pair-part-rows-start : (t : ℕ) → each-pair-lts.Need-part-rows-start (each-pair-claims t)
+    (each-pair-at t) each-pair.Post each-pair-Inv-loop each-pair-μ-loop
 each-pair-part-rows-start t c =
     let start = c .before .before .before .before .before .before .before in
     omega (arith, left-in (start .pre .1 .0) (start .pre .1 .1) (turned t c))
@@ -164,12 +170,14 @@ each-pair-sub-rows-2 t c =
     let start = c .before .before .before .before .before .before .before .before in
     omega (arith, right-in (start .pre .1 .0) (start .pre .1 .1) (turned t (c .before)))
 
-each-pair-part-rows-start-2 : (t : ℕ) → each-pair-lts.Need-part-rows-start-2 (each-pair-claims t) (each-pair-at t) each-pair.Post each-pair-Inv-loop each-pair-μ-loop
+each-pair-part-rows-start-2 : (t : ℕ) → each-pair-lts.Need-part-rows-start-2 (each-pair-claims t)
+    (each-pair-at t) each-pair.Post each-pair-Inv-loop each-pair-μ-loop
 each-pair-part-rows-start-2 t c =
     let start = c .before .before .before .before .before .before .before .before in
     omega (arith, right-in (start .pre .1 .0) (start .pre .1 .1) (turned t (c .before)))
 
-each-pair-part-rows-end-2 : (t : ℕ) → each-pair-lts.Need-part-rows-end-2 (each-pair-claims t) (each-pair-at t) each-pair.Post each-pair-Inv-loop each-pair-μ-loop
+each-pair-part-rows-end-2 : (t : ℕ) → each-pair-lts.Need-part-rows-end-2 (each-pair-claims t)
+    (each-pair-at t) each-pair.Post each-pair-Inv-loop each-pair-μ-loop
 each-pair-part-rows-end-2 t c = omega arith
 
 each-pair-rows-requires : (t : ℕ) → each-pair-lts.Need-rows-requires (each-pair-claims t) (each-pair-at t) each-pair.Post each-pair-Inv-loop each-pair-μ-loop
@@ -177,14 +185,24 @@ each-pair-rows-requires t c κs =
     let start = c .before .before .before .before .before .before .before .before .before .before in
     let a = start .args in
     let g = start .pre in
-    let h = g .1 .1 .some in
-    (omega (arith, g .0), (g .1 .0, rowing-next (g .1 .0) (a .xs .now) (a .ys .now) (g .1 .1) (turned t (c .before .before .before)) (c .before .before .before .before .loop .inv .1 .len)))
+    let h = g .1 .1 .some in (
+      omega (arith, g .0),
+      (
+        g .1 .0,
+        rowing-next (g .1 .0) (a .xs .now) (a .ys .now) (g .1 .1) (turned t (c .before .before .before)) (c .before .before .before .before .loop .inv .1 .len),
+      ),
+    )
 
 each-pair-add-j : (t : ℕ) → each-pair-lts.Need-add-j (each-pair-claims t) (each-pair-at t) each-pair.Post each-pair-Inv-loop each-pair-μ-loop
 each-pair-add-j t c =
     let c12 = c .before .before .before .before .before .before .before .before .before .before .before .before in
     let start = c12 .before in
-    let g = start .pre in omega (arith, turned t (c .before .before .before .before .before .before) .below, row-small (g .1 .0 .result) (g .1 .1 .some) (g .1 .1 .row))
+    let g = start .pre in
+    omega (
+      arith,
+      turned t (c .before .before .before .before .before .before) .below,
+      row-small (g .1 .0 .result) (g .1 .1 .some) (g .1 .1 .row),
+    )
 
 each-pair-loop-less : (t : ℕ) → each-pair-lts.Need-loop-less (each-pair-claims t) (each-pair-at t) each-pair.Post each-pair-Inv-loop each-pair-μ-loop
 each-pair-loop-less t c = omega (arith, c .before .before .before .before .before .before .loop-test .taken)
@@ -195,8 +213,11 @@ each-pair-loop-again t c =
     let start = c12 .before in
     let a = start .args in
     let l = c .before .before .before .before .before .before .before .loop in
-    let f = l .inv .1 .from in
-    (omega (arith, c .before .before .before .before .before .before .loop-test .taken), paired-more (l .inv .1) (rows-step (a .t2) (a .t5) (a .r) (a .v) (a .k) (at (a .t3) (a .v)) (at (a .t6) (a .v)) (l .j) (a .xs .now) (a .ys .now) (l .row) (c .before .before .rows .ensures)))
+    let f = l .inv .1 .from in (
+      omega (arith, c .before .before .before .before .before .before .loop-test .taken),
+      paired-more (l .inv .1) (rows-step (a .t2) (a .t5) (a .r) (a .v) (a .k) (at (a .t3) (a .v)) (at (a .t6) (a .v))
+          (l .j) (a .xs .now) (a .ys .now) (l .row) (c .before .before .rows .ensures)),
+    )
 
 each-pair-same-length : (t : ℕ) → each-pair-lts.Need-same-length (each-pair-claims t) (each-pair-at t) each-pair.Post each-pair-Inv-loop each-pair-μ-loop
 each-pair-same-length t c = c .before .loop .inv .1 .len ∙ sym ((c .before .before .before .before .before .before .before) .pre .1 .1 .full)
@@ -207,7 +228,8 @@ each-pair-returns t c =
     let a = (c .before .before .before .before .before .before .before) .args in
     let l = c .before .loop in
     let f = l .inv .1 .from in
-    let e : l .j ≡ c3 .from .result + steps (at (a .t2) (a .v)) (at (a .t5) (a .v)) (a .k) = omega (arith, c3 .from .ensures, c .before .before .upto .ensures, l .inv .0, c .loop-test .left) in
+    let e : l .j ≡ c3 .from .result + steps (at (a .t2) (a .v)) (at (a .t5) (a .v)) (a .k) =
+    omega (arith, c3 .from .ensures, c .before .before .upto .ensures, l .inv .0, c .loop-test .left) in
     pairs-end (a .t2) (a .t5) (a .r) (a .v) (a .k) (at (a .t3) (a .v)) (at (a .t6) (a .v)) (a .xs .now) (a .ys .now) (l .inv .1) (c3 .from .ensures) e
 
 abbrev each-row-Inv-loop : each-row-lts.InvT-loop
@@ -252,7 +274,8 @@ each-row-mul-each-pair t c = omega (arith, row-fits t (c))
 each-row-sub-each-pair : (t : ℕ) → each-row-lts.Need-sub-each-pair (each-row-claims t) (each-row-at t) each-row.Post each-row-Inv-loop each-row-μ-loop
 each-row-sub-each-pair t c = omega (arith, row-fits t (c))
 
-each-row-part-each-pair-start : (t : ℕ) → each-row-lts.Need-part-each-pair-start (each-row-claims t) (each-row-at t) each-row.Post each-row-Inv-loop each-row-μ-loop
+each-row-part-each-pair-start : (t : ℕ) → each-row-lts.Need-part-each-pair-start (each-row-claims t)
+    (each-row-at t) each-row.Post each-row-Inv-loop each-row-μ-loop
 each-row-part-each-pair-start t c = omega (arith, row-fits t (c))
 
 each-row-part-each-pair-end : (t : ℕ) → each-row-lts.Need-part-each-pair-end (each-row-claims t) (each-row-at t) each-row.Post each-row-Inv-loop each-row-μ-loop
@@ -264,8 +287,13 @@ each-row-each-pair-requires t c κs =
     let g = start .pre in
     let a = start .args in
     let s : ℕ = at (a .t8) (a .v) in
-    let e : c .before .before .loop .k * s + s - c .before .before .loop .k * s ≡ s = omega arith in
-    (omega (arith, g .0), (g .1 .0, pairing-of (g .1 .0) (g .1 .1 .0) (g .1 .1 .1) (c .before .loop-test .taken) (c .before .before .loop .res) (c .before .before .loop .inv .1 .len) e))
+    let e : c .before .before .loop .k * s + s - c .before .before .loop .k * s ≡ s = omega arith in (
+      omega (arith, g .0),
+      (
+        g .1 .0,
+        pairing-of (g .1 .0) (g .1 .1 .0) (g .1 .1 .1) (c .before .loop-test .taken) (c .before .before .loop .res) (c .before .before .loop .inv .1 .len) e,
+      ),
+    )
 
 each-row-add-k : (t : ℕ) → each-row-lts.Need-add-k (each-row-claims t) (each-row-at t) each-row.Post each-row-Inv-loop each-row-μ-loop
 each-row-add-k t c =
@@ -284,8 +312,13 @@ each-row-loop-again t c =
     let l = c .before .before .before .before .before .loop in
     let s : ℕ = at (a .t8) (a .v) in
     let h = g .1 .1 .1 .some in
-    let e : l .k * s + s - l .k * s ≡ s = omega arith in
-    (omega (arith, c4 .loop-test .taken), row-next (a .lx) (a .ly) (a .t7) (g .1 .0 .result) (a .v) (g .1 .1 .1) (a .xs .now) (a .ys .now) (l .inv .1) (c4 .loop-test .taken) (stride-at (a .t7) (g .1 .0 .by-r) h) e (stride-at (a .lx) (g .1 .0 .by-x) h) (stride-at (a .ly) (g .1 .0 .by-y) h) (c .before .before .each-pair .ensures) (result-in (g .1 .0) (g .1 .1 .0) (g .1 .1 .1) (c4 .loop-test .taken)))
+    let e : l .k * s + s - l .k * s ≡ s = omega arith in (
+      omega (arith, c4 .loop-test .taken),
+      row-next (a .lx) (a .ly) (a .t7) (g .1 .0 .result) (a .v) (g .1 .1 .1) (a .xs .now) (a .ys .now) (l .inv .1)
+          (c4 .loop-test .taken) (stride-at (a .t7) (g .1 .0 .by-r) h) e (stride-at (a .lx) (g .1 .0 .by-x) h)
+          (stride-at (a .ly) (g .1 .0 .by-y) h) (c .before .before .each-pair .ensures)
+          (result-in (g .1 .0) (g .1 .1 .0) (g .1 .1 .1) (c4 .loop-test .taken)),
+    )
 
 each-row-same-length : (t : ℕ) → each-row-lts.Need-same-length (each-row-claims t) (each-row-at t) each-row.Post each-row-Inv-loop each-row-μ-loop
 each-row-same-length t c = c .before .loop .inv .1 .len
@@ -297,7 +330,8 @@ each-row-returns t c =
     let a = start .args in
     let l = c .before .loop in
     let h = g .1 .1 .1 .some in
-    rows-end (a .lx) (a .ly) (a .t7) (a .v) (a .xs .now) (a .ys .now) (l .inv .1) h (stride-at (a .t7) (g .1 .0 .by-r) h) (omega (arith, l .inv .0, c .loop-test .left)) (g .1 .1 .0 .full)
+    rows-end (a .lx) (a .ly) (a .t7) (a .v) (a .xs .now) (a .ys .now) (l .inv .1) h
+    (stride-at (a .t7) (g .1 .0 .by-r) h) (omega (arith, l .inv .0, c .loop-test .left)) (g .1 .1 .0 .full)
 
 some : (t : ℕ) (c : rows-lts.Start (rows-claims t) (rows-at t) rows.Post) → (c .args .v ≡ 4 → ⊥) → c .args .v < 4
 some t c h = omega (arith, c .pre .1 .1 .within)
@@ -342,7 +376,9 @@ rows-same-length t c = simp length-set
 rows-returns : (t : ℕ) → rows-lts.Need-returns (rows-claims t) (rows-at t) rows.Post
 rows-returns t c =
     let start = c .before .before .before .before .before .before .before in
-    let a = start .args in rows-none (a .t2) (a .t5) (a .t7) (a .xs .now) (a .ys .now) (a .res .now) (c .before .before .before .if1 .taken) (start .pre .1 .1 .full)
+    let a = start .args in
+    rows-none (a .t2) (a .t5) (a .t7) (a .xs .now) (a .ys .now) (a .res .now)
+    (c .before .before .before .if1 .taken) (start .pre .1 .1 .full)
 
 rows-mul-if2 : (t : ℕ) → rows-lts.Need-mul-if2 (rows-claims t) (rows-at t) rows.Post
 rows-mul-if2 t c = in-array (some t (c .before .before .before .before) (c .if1 .left))
@@ -390,7 +426,8 @@ rows-returns-2 t c =
     let g = start .pre in
     let a = start .args in
     let h = some t start (c .before .before .before .before .before .if1 .left) in
-    rows-lined (a .t2) (a .t5) (a .t7) (a .v) (a .xs .now) (a .ys .now) (a .res .now) (g .1 .0 .result) h (one-long t (c .before .before .before .before)) (g .1 .1 .full) (c .before .before .each-line .ensures)
+    rows-lined (a .t2) (a .t5) (a .t7) (a .v) (a .xs .now) (a .ys .now) (a .res .now) (g .1 .0 .result) h
+    (one-long t (c .before .before .before .before)) (g .1 .1 .full) (c .before .before .each-line .ensures)
 
 rows-add-w : (t : ℕ) → rows-lts.Need-add-w (rows-claims t) (rows-at t) rows.Post
 rows-add-w t c = omega (arith, some t (c .before .before .before .before .before) (c .before .if1 .left))
@@ -417,18 +454,25 @@ rows-two-long-requires t c κs =
 rows-same-length-3 : (t : ℕ) → rows-lts.Need-same-length-3 (rows-claims t) (rows-at t) rows.Post
 rows-same-length-3 t c =
     let start = c .before .before .before .before .before .before .before .before .before .before .before in
-    let a = start .args in ap length (c .before .before .two-long .ensures) ∙ (rows-length (a .t2) (a .t5) (a .t7) (a .v) (a .xs .now) (a .ys .now) (a .res .now) ∙ sym (start .pre .1 .1 .full))
+    let a = start .args in
+    ap length (c .before .before .two-long .ensures)
+    ∙ (rows-length (a .t2) (a .t5) (a .t7) (a .v) (a .xs .now) (a .ys .now) (a .res .now)
+    ∙ sym (start .pre .1 .1 .full))
 
 rows-returns-3 : (t : ℕ) → rows-lts.Need-returns-3 (rows-claims t) (rows-at t) rows.Post
 rows-returns-3 t c = c .before .before .two-long .ensures
 
 rows-each-row-requires : (t : ℕ) → rows-lts.Need-each-row-requires (rows-claims t) (rows-at t) rows.Post
-rows-each-row-requires t c κs = let g = (c .before .before .before .before .before .before .before) .pre in (omega (arith, g .0), (g .1 .0, (g .1 .1, several t (c .before .before))))
+rows-each-row-requires t c κs = let g = (c .before .before .before .before .before .before .before) .pre in
+    (omega (arith, g .0), (g .1 .0, (g .1 .1, several t (c .before .before))))
 
 rows-same-length-4 : (t : ℕ) → rows-lts.Need-same-length-4 (rows-claims t) (rows-at t) rows.Post
 rows-same-length-4 t c =
     let start = c .before .before .before .before .before .before .before .before .before .before in
-    let a = start .args in ap length (c .before .before .each-row .ensures) ∙ (rows-length (a .t2) (a .t5) (a .t7) (a .v) (a .xs .now) (a .ys .now) (a .res .now) ∙ sym (start .pre .1 .1 .full))
+    let a = start .args in
+    ap length (c .before .before .each-row .ensures)
+    ∙ (rows-length (a .t2) (a .t5) (a .t7) (a .v) (a .xs .now) (a .ys .now) (a .res .now)
+    ∙ sym (start .pre .1 .1 .full))
 
 rows-returns-4 : (t : ℕ) → rows-lts.Need-returns-4 (rows-claims t) (rows-at t) rows.Post
 rows-returns-4 t c = c .before .before .each-row .ensures

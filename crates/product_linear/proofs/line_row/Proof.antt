@@ -31,7 +31,9 @@ returns c =
     let l1 = part-length 0 (a .s) (a .to .now) (omega arith) (omega arith) in
     let m1 = mid-length 0 (a .s - 0) (a .to .now) (c12 .line-first .last .1 .1 .0) (omega arith) (c12 .line-first .kept .1 .1 .0 ∙ l1) in
     let l2 = part-length (a .s) (length (a .a .now)) _ small (reach-in m1 reach) in
-    let m2 = mid-length (a .s) (length (a .a .now) - a .s) _ (c7 .line-middle .last .1 .1 .1 .1 .0) (mid-in m1 small reach) (c7 .line-middle .kept .1 .1 .1 .1 .0 ∙ l2) in
+    let m2 =
+    mid-length (a .s) (length (a .a .now) - a .s) _ (c7 .line-middle .last .1 .1 .1 .1 .0) (mid-in m1 small reach)
+    (c7 .line-middle .kept .1 .1 .1 .1 .0 ∙ l2) in
     let l3 = part-length (length (a .a .now)) (length (a .to .now)) _ reach (end-in (m2 ∙ m1)) in
     row-lined (a .c) (a .m) (a .s) (a .a .now) (a .to .now) p q1 refl refl
     (first-is (a .c) (a .m) (a .s) (a .a .now) small (c12 .line-first .ensures) (l1 ∙ q1))

@@ -45,7 +45,15 @@ part-line-row-end-2 c = omega (arith, fits (c .before), c .before .before .loop 
 line-row-requires : tie.Need-line-row-requires Inv-loop μ-loop
 line-row-requires c κs =
     let start = c .before .before .before .before .before .before in
-    let l = c .before .before .before .loop .inv .1 .1 .len in let f = fits (c .before .before) in let p = start .pre .0 in let q = start .pre .1 in record { small = simp (length-take, length-drop) (omega (arith, q)); reach = simp (length-take, length-drop) (omega (arith, q)); most = simp (length-take, length-drop) (omega (arith, p .most)) }
+    let l = c .before .before .before .loop .inv .1 .1 .len in
+    let f = fits (c .before .before) in
+    let p = start .pre .0 in
+    let q = start .pre .1 in
+    record {
+      small = simp (length-take, length-drop) (omega (arith, q));
+      reach = simp (length-take, length-drop) (omega (arith, q));
+      most = simp (length-take, length-drop) (omega (arith, p .most));
+    }
 
 add-from : tie.Need-add-from Inv-loop μ-loop
 add-from c = omega (arith, fits (c .before .before .before .before .before))
@@ -62,12 +70,17 @@ loop-again : tie.Need-loop-again Inv-loop μ-loop
 loop-again c =
     let c6 = c .before .before .before .before .before .before in
     let start = c6 .before .before .before in
-    let l = c6 .loop .inv .1 .1 .len in let f = fits (c .before .before .before .before .before) in let ew : c6 .loop .from + start .args .width - c6 .loop .from ≡ start .args .width = omega arith in let es : c6 .loop .at + start .args .step - c6 .loop .at ≡ start .args .step = omega arith in (
+    let l = c6 .loop .inv .1 .1 .len in
+    let f = fits (c .before .before .before .before .before) in
+    let ew : c6 .loop .from + start .args .width - c6 .loop .from ≡ start .args .width = omega arith in
+    let es : c6 .loop .at + start .args .step - c6 .loop .at ≡ start .args .step = omega arith in (
       along-next (c6 .loop .inv .0),
       (
         f .1,
         rows-more (start .args .step) (c6 .loop .at + start .args .step - c6 .loop .at) (c6 .loop .inv .1 .1)
-            (lined-row-is (start .pre .0) (c6 .loop .inv .0) (start .args .c) (start .args .m) (start .args .a .now) (f .0) refl ew (c .before .before .line-row .ensures) (simp (length-take, length-drop) (omega (arith, l, f)))) (f .1) es,
+            (lined-row-is (start .pre .0) (c6 .loop .inv .0) (start .args .c) (start .args .m) (start .args .a .now)
+            (f .0) refl ew (c .before .before .line-row .ensures)
+            (simp (length-take, length-drop) (omega (arith, l, f)))) (f .1) es,
       ),
     )
 

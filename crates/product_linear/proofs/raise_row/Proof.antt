@@ -22,7 +22,10 @@ whole : (c : tie.After-slice-known2 Inv-loop μ-loop) →
     length (c .before .before .clear .last .0 ++ drop (start .args .s) (start .args .to .now)) ≡ length (start .args .to .now)
 whole c =
     let start = c .before .before .before .before .before .before in
-    simp (length-append, length-drop) (omega (arith, c .before .before .clear .kept .0, start .pre, length-take-le (start .args .s) (start .args .to .now) (start .pre .0)))
+    simp (
+      length-append,
+      length-drop,
+    ) (omega (arith, c .before .before .clear .kept .0, start .pre, length-take-le (start .args .s) (start .args .to .now) (start .pre .0)))
 
 slice-relend-prefix-clear : tie.Need-slice-relend-prefix-clear Inv-loop μ-loop
 slice-relend-prefix-clear c = c .before .before .pre .0
@@ -37,8 +40,18 @@ clear-requires c κs = tt
 
 loop-holds : tie.Need-loop-holds Inv-loop μ-loop
 loop-holds c =
-    let start = c .before .before .before .before .before .before in
-    (omega arith, (omega (arith, whole c, start .pre), (refl, row-start (start .args .m) (start .args .s) (start .args .a .now) (start .args .to .now) (c .before .before .clear .ensures) (length-take-le _ (start .args .to .now) (start .pre .0)) (start .pre .0))))
+    let start = c .before .before .before .before .before .before in (
+      omega arith,
+      (
+        omega (arith, whole c, start .pre),
+        (
+          refl,
+          row-start (start .args .m) (start .args .s) (start .args .a .now) (start .args .to .now)
+              (c .before .before .clear .ensures) (length-take-le _ (start .args .to .now) (start .pre .0))
+              (start .pre .0),
+        ),
+      ),
+    )
 
 sub-to : tie.Need-sub-to Inv-loop μ-loop
 sub-to c = omega (arith, c .before .loop .inv .0)
@@ -51,7 +64,14 @@ mul-to c =
 shared-slice-read-to : tie.Need-shared-slice-read-to Inv-loop μ-loop
 shared-slice-read-to c =
     let start = c .before .before .before .before .before .before .before .before .before in
-    omega (arith, c .before .before .loop .inv .0, c .before .before .loop .inv .1 .1 .0, c .before .before .loop .inv .1 .0, whole (c .before .before .before), start .pre)
+    omega (
+      arith,
+      c .before .before .loop .inv .0,
+      c .before .before .loop .inv .1 .1 .0,
+      c .before .before .loop .inv .1 .0,
+      whole (c .before .before .before),
+      start .pre,
+    )
 
 mul-to-2 : tie.Need-mul-to-2 Inv-loop μ-loop
 mul-to-2 c =
@@ -63,8 +83,18 @@ slice-write-to c = omega (arith, c .before .before .loop .inv .1 .1 .1 .len, c .
 
 loop-again : tie.Need-loop-again Inv-loop μ-loop
 loop-again c =
-    let start = c .before .before .before .before .before .before .before .before .before in
-    (omega (arith, c .before .before .loop .inv .0), (omega arith, (c .before .before .loop .inv .1 .1 .0, filled-more (c .before .before .loop .inv .1 .1 .1) (row-more (start .args .m) (start .args .s) (start .args .a .now) (c .before .before .loop .k) (c .before .before .loop .inv .0)) (omega (arith, c .before .before .loop .inv .1 .1 .0)))))
+    let start = c .before .before .before .before .before .before .before .before .before in (
+      omega (arith, c .before .before .loop .inv .0),
+      (
+        omega arith,
+        (
+          c .before .before .loop .inv .1 .1 .0,
+          filled-more (c .before .before .loop .inv .1 .1 .1)
+              (row-more (start .args .m) (start .args .s) (start .args .a .now) (c .before .before .loop .k)
+              (c .before .before .loop .inv .0)) (omega (arith, c .before .before .loop .inv .1 .1 .0)),
+        ),
+      ),
+    )
 
 same-length : tie.Need-same-length Inv-loop μ-loop
 same-length c = c .before .loop .inv .1 .1 .1 .len ∙ whole ((c .before .before))
@@ -72,7 +102,11 @@ same-length c = c .before .loop .inv .1 .1 .1 .len ∙ whole ((c .before .before
 returns : tie.Need-returns Inv-loop μ-loop
 returns c =
     let start = c .before .before .before .before .before .before .before .before in
-    filled-all (c .before .loop .inv .1 .1 .1) (omega (arith, c .before .loop .inv .1 .1 .0, c .before .loop .inv .1 .0)) (omega (arith, c .before .loop .inv .1 .1 .0, c .loop-test .left)) ∙ ap (λ (k : ℕ). table k (raisedRow (start .args .m) (start .args .s) (start .args .a .now))) (whole (c .before .before))
+    filled-all (c .before .loop .inv .1 .1 .1)
+    (omega (arith, c .before .loop .inv .1 .1 .0, c .before .loop .inv .1 .0))
+    (omega (arith, c .before .loop .inv .1 .1 .0, c .loop-test .left))
+    ∙ ap (λ (k : ℕ). table k (raisedRow (start .args .m) (start .args .s) (start .args .a .now)))
+    (whole (c .before .before))
 
 pub raise-row-spec : {M : Type 1} → statement M
 raise-row-spec =

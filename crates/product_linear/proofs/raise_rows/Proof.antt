@@ -43,7 +43,12 @@ part-raise-row-end-2 : tie.Need-part-raise-row-end-2 Inv-loop μ-loop
 part-raise-row-end-2 c = omega (arith, fits ((c .before)), c .before .before .loop .inv .1 .1 .len)
 
 raise-row-requires : tie.Need-raise-row-requires Inv-loop μ-loop
-raise-row-requires c κs = let l = c .before .before .before .loop .inv .1 .1 .len in let f = fits ((c .before .before)) in let p = c .before .before .before .before .before .before .pre in (simp (length-take, length-drop) (omega (arith, p .small)), simp (length-take, length-drop) (omega (arith, p .most)))
+raise-row-requires c κs = let l = c .before .before .before .loop .inv .1 .1 .len in
+    let f = fits ((c .before .before)) in
+    let p = c .before .before .before .before .before .before .pre in (
+      simp (length-take, length-drop) (omega (arith, p .small)),
+      simp (length-take, length-drop) (omega (arith, p .most)),
+    )
 
 add-from : tie.Need-add-from Inv-loop μ-loop
 add-from c = omega (arith, fits ((c .before .before .before .before .before)))
@@ -60,7 +65,18 @@ loop-again : tie.Need-loop-again Inv-loop μ-loop
 loop-again c =
     let c6 = c .before .before .before .before .before .before in
     let start = c6 .before .before .before in
-    let l = c6 .loop .inv .1 .1 .len in let f = fits (c .before .before .before .before .before) in let ew : c6 .loop .from + start .args .width - c6 .loop .from ≡ start .args .width = omega arith in let es : c6 .loop .at + start .args .step - c6 .loop .at ≡ start .args .step = omega arith in (along-next (c6 .loop .inv .0), (f .1, rows-more (start .args .step) (c6 .loop .at + start .args .step - c6 .loop .at) (c6 .loop .inv .1 .1) (row-is (start .pre) (c6 .loop .inv .0) (start .args .m) (start .args .a .now) refl ew (c .before .before .raise-row .ensures) (simp (length-take, length-drop) (omega (arith, l, f)))) (f .1) es))
+    let l = c6 .loop .inv .1 .1 .len in
+    let f = fits (c .before .before .before .before .before) in
+    let ew : c6 .loop .from + start .args .width - c6 .loop .from ≡ start .args .width = omega arith in
+    let es : c6 .loop .at + start .args .step - c6 .loop .at ≡ start .args .step = omega arith in (
+      along-next (c6 .loop .inv .0),
+      (
+        f .1,
+        rows-more (start .args .step) (c6 .loop .at + start .args .step - c6 .loop .at) (c6 .loop .inv .1 .1)
+            (row-is (start .pre) (c6 .loop .inv .0) (start .args .m) (start .args .a .now) refl ew
+            (c .before .before .raise-row .ensures) (simp (length-take, length-drop) (omega (arith, l, f)))) (f .1) es,
+      ),
+    )
 
 same-length : tie.Need-same-length Inv-loop μ-loop
 same-length c = c .before .loop .inv .1 .1 .len

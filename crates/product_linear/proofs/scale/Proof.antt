@@ -35,7 +35,10 @@ same-length : tie.Need-same-length Inv-loop μ-loop
 same-length c = c .before .loop .inv .1 .len
 
 returns : tie.Need-returns Inv-loop μ-loop
-returns c = filled-all (c .before .loop .inv .1) (c .before .loop .inv .0) (omega (arith, c .loop-test .left)) ∙ ap (λ (n : ℕ). table n (scaledAt (c .before .before .args .c) (c .before .before .args .a .now))) (c .before .before .pre)
+returns c =
+    filled-all (c .before .loop .inv .1) (c .before .loop .inv .0) (omega (arith, c .loop-test .left))
+    ∙ ap (λ (n : ℕ). table n (scaledAt (c .before .before .args .c) (c .before .before .args .a .now)))
+    (c .before .before .pre)
 
 pub scale-spec : {M : Type 1} → statement M
 scale-spec =

@@ -111,7 +111,13 @@ returns c =
     let c11 = c10 .before in
     let c12 = c11 .before in
     let start = c12 .before .before .before in
-    let a = start .args in four-lines (start .pre) (a .xs .now) (a .ys .now) (c6 .four-on .result) (c12 .from .ensures) (c11 .sum-on .ensures) (c10 .from2 .ensures) (c9 .sum-on2 .ensures) (c8 .from3 .ensures) (c .before .before .before .before .before .before .before .sum-on3 .ensures) (c6 .four-on .ensures) (c .before .before .before .before .before .upto .ensures) (c .before .before .before .before .sum-on4 .ensures) (c .before .before .before .upto2 .ensures) (c .before .before .sum-on5 .ensures) (c .before .upto3 .ensures) (c .sum-on6 .ensures)
+    let a = start .args in
+    four-lines (start .pre) (a .xs .now) (a .ys .now) (c6 .four-on .result) (c12 .from .ensures)
+    (c11 .sum-on .ensures) (c10 .from2 .ensures) (c9 .sum-on2 .ensures) (c8 .from3 .ensures)
+    (c .before .before .before .before .before .before .before .sum-on3 .ensures) (c6 .four-on .ensures)
+    (c .before .before .before .before .before .upto .ensures) (c .before .before .before .before .sum-on4 .ensures)
+    (c .before .before .before .upto2 .ensures) (c .before .before .sum-on5 .ensures)
+    (c .before .upto3 .ensures) (c .sum-on6 .ensures)
 
 pub four-by-spec : {M : Type 1} → statement M
 four-by-spec =

@@ -14,7 +14,9 @@ abbrev μ-loop : tie.MeasureT-loop
 turn : (c : tie.In-loop Inv-loop μ-loop) →
     let start = c .before .before .before .before in
     Near (start .args .k) (c .before .loop .j) (length (start .args .xs .now)) (length (start .args .ys .now))
-turn c = let f = c .before .loop .inv .1 .w0 .from in let t = c .loop-test .taken in near (omega arith) (omega arith) (omega arith) ((c .before .before .before .before) .pre .small)
+turn c = let f = c .before .loop .inv .1 .w0 .from in
+    let t = c .loop-test .taken in
+    near (omega arith) (omega arith) (omega arith) ((c .before .before .before .before) .pre .small)
 
 loop-holds : tie.Need-loop-holds Inv-loop μ-loop
 loop-holds c = let a = (c .before .before) .args in ((c .before .before) .pre .ordered, walking-none (a .xs .now) (a .ys .now) (a .k) (a .a) _ _ _ _)
@@ -101,10 +103,13 @@ four-more-requires c κs = let f = c .before .before .loop .inv .1 .w0 .from in 
 returns : tie.Need-returns Inv-loop μ-loop
 returns c =
     let c3 = c .before .before .before in
-    let f = c3 .loop .inv .1 .w0 .from in walking-last (c .before .before .before .before .before .before .args .t6) (c3 .loop .inv .1) (c .four-more .ensures) (omega arith)
+    let f = c3 .loop .inv .1 .w0 .from in
+    walking-last (c .before .before .before .before .before .before .args .t6) (c3 .loop .inv .1)
+    (c .four-more .ensures) (omega arith)
 
 returns-2 : tie.Need-returns-2 Inv-loop μ-loop
-returns-2 c = let f = c .before .before .loop .inv .1 .w0 .from in walking-end ((c .before .before .before .before .before) .args .t6) (c .before .before .loop .inv .1) (omega arith)
+returns-2 c = let f = c .before .before .loop .inv .1 .w0 .from in
+    walking-end ((c .before .before .before .before .before) .args .t6) (c .before .before .loop .inv .1) (omega arith)
 
 pub four-on-spec : {M : Type 1} → statement M
 four-on-spec =

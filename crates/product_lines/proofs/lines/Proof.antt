@@ -26,8 +26,13 @@ add-four-requires c κs = let l = c .before .before .before .before .loop .inv .
 loop-again : tie.Need-loop-again Inv-loop μ-loop
 loop-again c =
     let start = c .before .before .before .before .before .before .before .before .before .before .before in
-    let a = start .args in
-    (omega arith, rw (c .before .before .add-four .ensures) (four-more (a .xs .now) (a .ys .now) (a .nx) (a .ny) (c .before .before .before .before .before .before .before .loop .inv .1) (omega arith) (c .before .before .before .four-at .ensures)))
+    let a = start .args in (
+      omega arith,
+      rw (c .before .before .add-four .ensures)
+          (four-more (a .xs .now) (a .ys .now) (a .nx) (a .ny)
+          (c .before .before .before .before .before .before .before .loop .inv .1) (omega arith)
+          (c .before .before .before .four-at .ensures)),
+    )
 
 slice-read-res : tie.Need-slice-read-res Inv-loop μ-loop
 slice-read-res c = let l = c .before .before .before .loop .inv .1 .len in omega arith
@@ -42,8 +47,10 @@ loop-again-2 : tie.Need-loop-again-2 Inv-loop μ-loop
 loop-again-2 c =
     let c4 = c .before .before .before .before in
     let start = c4 .before .before .before .before in
-    let a = start .args in
-    (omega arith, filled-more (c4 .loop .inv .1) (line-more (a .xs .now) (a .ys .now) (a .nx) (a .ny) (c4 .loop .inv .1) (omega arith) (c .line-at .ensures)) (omega arith))
+    let a = start .args in (
+      omega arith,
+      filled-more (c4 .loop .inv .1) (line-more (a .xs .now) (a .ys .now) (a .nx) (a .ny) (c4 .loop .inv .1) (omega arith) (c .line-at .ensures)) (omega arith),
+    )
 
 same-length : tie.Need-same-length Inv-loop μ-loop
 same-length c = c .before .loop .inv .1 .len

@@ -42,7 +42,8 @@ loop-again c =
     let f = c3 .loop .inv .1 .from in (omega arith, walked-more (c3 .loop .inv .1) refl)
 
 returns : tie.Need-returns Inv-loop μ-loop
-returns c = let f = c .before .loop .inv .1 .from in walked-end ((c .before .before) .args .b - (c .before .before) .args .a) (c .before .loop .inv .1) (omega arith)
+returns c = let f = c .before .loop .inv .1 .from in
+    walked-end ((c .before .before) .args .b - (c .before .before) .args .a) (c .before .loop .inv .1) (omega arith)
 
 pub sum-on-spec : {M : Type 1} → statement M
 sum-on-spec =

@@ -39,7 +39,15 @@ returns : tie.Need-returns
 unfolding quotientAnswer quotientOut quotientScratch
 returns c =
     let start = c .before .before .before .before .before .before .before .before in
-    let e = c .before .before .before .open-pair .ensures .refusal in let n = c .if1 .taken in (refused-answer e (announcedPair Quotient (start .args .ah) (start .args .bh)) (value start) n, (refused-out e (announcedPair Quotient (start .args .ah) (start .args .bh)) (value start) n (start .args .out .now), refused-scratch e (announcedPair Quotient (start .args .ah) (start .args .bh)) (value start) n (start .args .scratch .now)))
+    let e = c .before .before .before .open-pair .ensures .refusal in
+    let n = c .if1 .taken in (
+      refused-answer e (announcedPair Quotient (start .args .ah) (start .args .bh)) (value start) n,
+      (
+        refused-out e (announcedPair Quotient (start .args .ah) (start .args .bh)) (value start) n
+            (start .args .out .now),
+        refused-scratch e (announcedPair Quotient (start .args .ah) (start .args .bh)) (value start) n (start .args .scratch .now),
+      ),
+    )
 
 mul-room : tie.Need-mul-room
 mul-room c =
@@ -87,7 +95,11 @@ divide-into-requires : tie.Need-divide-into-requires
 divide-into-requires c κs =
     let c11 = c .before .before .before .before .before .before .before .before .before .before .before in
     let c14 = c11 .before .before .before in
-    let f = opened-fits (c14 .open-pair .ensures) (c11 .if1 .left) in let t = c14 .open-pair .ensures .tells (c11 .if1 .left) in entry-divides (opened-ready (c14 .open-pair .ensures) (c11 .if1 .left)) (t .left) (t .right) (told-by Quotient t) (t .count-a) (t .count-b) (t .count) (length-take-le _ _ (f .0)) (length-take-le _ _ (f .1)) (length-take-le _ _ (f .2)) (length-take-le _ _ (f .3))
+    let f = opened-fits (c14 .open-pair .ensures) (c11 .if1 .left) in
+    let t = c14 .open-pair .ensures .tells (c11 .if1 .left) in
+    entry-divides (opened-ready (c14 .open-pair .ensures) (c11 .if1 .left)) (t .left) (t .right)
+    (told-by Quotient t) (t .count-a) (t .count-b) (t .count) (length-take-le _ _ (f .0))
+    (length-take-le _ _ (f .1)) (length-take-le _ _ (f .2)) (length-take-le _ _ (f .3))
 
 slice-relend-prefix-clear : tie.Need-slice-relend-prefix-clear
 slice-relend-prefix-clear c = rooms (c .before .before .before .before)
@@ -100,7 +112,8 @@ pack-requires c κs =
     let c12 = c .before .before .before .before .before .before .before .before .before .before .before .before in
     let c20 = c12 .before .before .before .before .before .before .before .before in
     let c23 = c20 .before .before .before in
-    let t = c23 .open-pair .ensures .tells (c20 .if1 .left) in entry-ruled (opened-ready (c23 .open-pair .ensures) (c20 .if1 .left)) (t .left) (t .right) (told-by Quotient t)
+    let t = c23 .open-pair .ensures .tells (c20 .if1 .left) in
+    entry-ruled (opened-ready (c23 .open-pair .ensures) (c20 .if1 .left)) (t .left) (t .right) (told-by Quotient t)
 
 returns-2 : tie.Need-returns-2
 unfolding quotientAnswer quotientOut quotientScratch
@@ -109,7 +122,27 @@ returns-2 c =
     let c21 = c9 .before .before .before .before .before .before .before .before .before .before .before .before in
     let c24 = c21 .before .before .before in
     let start = c24 .before .before .before .before .before in
-    let e = c24 .open-pair .ensures .refusal in let z = c21 .if1 .left in let n = (opened-count (c24 .open-pair .ensures) (c21 .if1 .left)) in let t = c24 .open-pair .ensures .tells (c21 .if1 .left) in (done-answer e (announcedPair Quotient (start .args .ah) (start .args .bh)) (value start) z (c .pack .ensures ∙ ap wordOf (entry-head (opened-ready (c24 .open-pair .ensures) (c21 .if1 .left)) (t .left) (t .right) (told-by Quotient t) (start .args .a .now) (start .args .b .now) (t .count-a) (t .count-b) (entry-divides (opened-ready (c24 .open-pair .ensures) (c21 .if1 .left)) (t .left) (t .right) (told-by Quotient t) (t .count-a) (t .count-b) (t .count) refl refl refl refl))), (done-full e (announcedPair Quotient (start .args .ah) (start .args .bh)) (value start) z (start .args .out .now) n (entry-places (opened-ready (c24 .open-pair .ensures) (c21 .if1 .left)) (t .left) (t .right) (told-by Quotient t) (start .args .a .now) (start .args .b .now) (t .count-a) (t .count-b) (c9 .divide-into .ensures)) (c9 .divide-into .kept .1 .1 .1 .1 .1 .1 .0 ∙ length-take-le _ _ (opened-fits (c24 .open-pair .ensures) (c21 .if1 .left) .2)), done-scratch e (announcedPair Quotient (start .args .ah) (start .args .bh)) (value start) z (start .args .scratch .now) (c9 .divide-into .last .1 .1 .1 .1 .1 .1 .1 .0) (ap (λ (k : ℕ). 8 * k) n) (used c9) (c .before .before .before .clear .ensures) (length-take-le _ _ (rooms c9))))
+    let e = c24 .open-pair .ensures .refusal in
+    let z = c21 .if1 .left in
+    let n = (opened-count (c24 .open-pair .ensures) (c21 .if1 .left)) in
+    let t = c24 .open-pair .ensures .tells (c21 .if1 .left) in (
+      done-answer e (announcedPair Quotient (start .args .ah) (start .args .bh)) (value start) z
+          (c .pack .ensures
+          ∙ ap wordOf (entry-head (opened-ready (c24 .open-pair .ensures) (c21 .if1 .left)) (t .left) (t .right)
+          (told-by Quotient t) (start .args .a .now) (start .args .b .now) (t .count-a) (t .count-b)
+          (entry-divides (opened-ready (c24 .open-pair .ensures) (c21 .if1 .left)) (t .left) (t .right)
+          (told-by Quotient t) (t .count-a) (t .count-b) (t .count) refl refl refl refl))),
+      (
+        done-full e (announcedPair Quotient (start .args .ah) (start .args .bh)) (value start) z
+            (start .args .out .now) n (entry-places (opened-ready (c24 .open-pair .ensures) (c21 .if1 .left)) (t .left)
+            (t .right) (told-by Quotient t) (start .args .a .now) (start .args .b .now) (t .count-a) (t .count-b)
+            (c9 .divide-into .ensures)) (c9 .divide-into .kept .1 .1 .1 .1 .1 .1 .0
+            ∙ length-take-le _ _ (opened-fits (c24 .open-pair .ensures) (c21 .if1 .left) .2)),
+        done-scratch e (announcedPair Quotient (start .args .ah) (start .args .bh)) (value start) z
+            (start .args .scratch .now) (c9 .divide-into .last .1 .1 .1 .1 .1 .1 .1 .0) (ap (λ (k : ℕ). 8 * k) n)
+            (used c9) (c .before .before .before .clear .ensures) (length-take-le _ _ (rooms c9)),
+      ),
+    )
 
 pub divide-spec : {M : Type 1} → statement M
 divide-spec =

@@ -16,7 +16,9 @@ abbrev μ-loop : tie.MeasureT-loop
 
 lies : (c : tie.In-loop Inv-loop μ-loop) →
     let start = c .before .before .before in
-    (start .args .f ≤ length (c .before .loop .work)) × (start .args .q + c .before .loop .k < length (c .before .loop .work)) × (start .args .p + c .before .loop .k < length (c .before .loop .work)) × (start .args .b < start .args .f)
+    (start .args .f ≤ length (c .before .loop .work))
+    × (start .args .q + c .before .loop .k < length (c .before .loop .work))
+    × (start .args .p + c .before .loop .k < length (c .before .loop .work)) × (start .args .b < start .args .f)
 lies c =
     let start = c .before .before .before in
     line-in (start .args .work .now) (start .pre) (c .loop-test .taken) (c .before .loop .inv .1)
@@ -66,7 +68,8 @@ part-sum-on-end-2 c = let i = lies (c .before .before .before) in omega (arith, 
 sum-on-requires : tie.Need-sum-on-requires Inv-loop μ-loop
 sum-on-requires c κs =
     let start = c .before .before .before .before .before .before .before in
-    line-summing (start .args .work .now) (start .pre) (c .before .before .before .before .loop-test .taken) (c .before .before .before .before .before .loop .inv .1) (c .before .before .before .from .ensures)
+    line-summing (start .args .work .now) (start .pre) (c .before .before .before .before .loop-test .taken)
+    (c .before .before .before .before .before .loop .inv .1) (c .before .before .before .from .ensures)
 
 add-through : tie.Need-add-through Inv-loop μ-loop
 add-through c = let i = lies (c .before .before .before .before .before) in omega (arith, i .0, i .1, i .2, i .3)
@@ -109,8 +112,12 @@ loop-again : tie.Need-loop-again Inv-loop μ-loop
 loop-again c =
     let c8 = c .before .before .before .before .before .before .before .before in
     let c9 = c8 .before in
-    let start = c9 .before .before in
-    (omega (arith, c8 .loop-test .taken), line-more (start .args .work .now) (start .pre) (c8 .loop-test .taken) (c9 .loop .inv .1) (c .before .before .before .before .before .before .before .from .ensures) (c .before .before .before .sum-on .ensures) (c .before .through .ensures))
+    let start = c9 .before .before in (
+      omega (arith, c8 .loop-test .taken),
+      line-more (start .args .work .now) (start .pre) (c8 .loop-test .taken) (c9 .loop .inv .1)
+          (c .before .before .before .before .before .before .before .from .ensures)
+          (c .before .before .before .sum-on .ensures) (c .before .through .ensures),
+    )
 
 same-length : tie.Need-same-length Inv-loop μ-loop
 same-length c = c .before .loop .inv .1 .len

@@ -16,7 +16,9 @@ use Rattle.quotient_levels.proofs.taken_by_rows.Statement.{statement}
 use Rattle.quotient_levels.proofs.taken_by_rows.Tie as tie
 
 abbrev Inv-loop : tie.InvT-loop
-Inv-loop done ys r v k row₀ ly sy sr w s t lo j₀ row j = (j - lo ≤ k - lo) × Paired (inRow r v) (λ q. stepAt r ly r (index r q) v k (at sr v) (at sy v) done ys) lo j row₀ row
+Inv-loop done ys r v k row₀ ly sy sr w s t lo j₀ row j =
+    (j - lo ≤ k - lo) × Paired (inRow r v) (λ q. stepAt r ly r (index r q) v k (at sr v) (at sy v) done ys) lo j row₀
+    row
 
 abbrev μ-loop : tie.MeasureT-loop
 μ-loop done ys r v k row₀ ly sy sr w s t lo j₀ row j = k - j
@@ -101,14 +103,22 @@ part-rows-start-2 c = omega (arith, right (c .before))
 rows-requires : tie.Need-rows-requires Inv-loop μ-loop
 rows-requires c κs =
     let c3 = c .before .before .before in
-    let start = c3 .before .before .before .before .before .before .before .before .before .before in
-    (start .pre .0, taking-rows (start .pre .0) (start .args .done .now) (start .args .ys .now) (start .pre .1) (begun c3) (c3 .loop-test .taken) (c .before .before .before .before .loop .inv .1 .len))
+    let start = c3 .before .before .before .before .before .before .before .before .before .before in (
+      start .pre .0,
+      taking-rows (start .pre .0) (start .args .done .now) (start .args .ys .now) (start .pre .1) (begun c3)
+          (c3 .loop-test .taken) (c .before .before .before .before .loop .inv .1 .len),
+    )
 
 add-j : tie.Need-add-j Inv-loop μ-loop
 add-j c =
     let c12 = c .before .before .before .before .before .before .before .before .before .before .before .before in
     let start = c12 .before .before .before .before in
-    let t = start .pre .1 in omega (arith, c .before .before .before .before .before .before .loop-test .taken, row-small (start .pre .0 .result) (t .some) (t .row))
+    let t = start .pre .1 in
+    omega (
+      arith,
+      c .before .before .before .before .before .before .loop-test .taken,
+      row-small (start .pre .0 .result) (t .some) (t .row),
+    )
 
 loop-less : tie.Need-loop-less Inv-loop μ-loop
 loop-less c = omega (arith, c .before .before .before .before .before .before .loop-test .taken)
@@ -117,7 +127,16 @@ loop-again : tie.Need-loop-again Inv-loop μ-loop
 loop-again c =
     let c12 = c .before .before .before .before .before .before .before .before .before .before .before .before in
     let start = c12 .before .before .before .before in
-    let a = start .args in let l = c .before .before .before .before .before .before .before .loop in let f = l .inv .1 .from in (omega (arith, c .before .before .before .before .before .before .loop-test .taken), paired-more {f = λ q. stepAt (a .r) (a .t3) (a .r) (index (a .r) q) (a .v) (a .k) (at (a .t6) (a .v)) (at (a .t4) (a .v)) (a .done .now) (a .ys .now)} (l .inv .1) (rows-step (a .r) (a .t3) (a .r) (a .v) (a .k) (at (a .t6) (a .v)) (at (a .t4) (a .v)) (l .j) (a .done .now) (a .ys .now) (l .row) (c .before .before .rows .ensures)))
+    let a = start .args in
+    let l = c .before .before .before .before .before .before .before .loop in
+    let f = l .inv .1 .from in (
+      omega (arith, c .before .before .before .before .before .before .loop-test .taken),
+      paired-more {f =
+          λ q. stepAt (a .r) (a .t3) (a .r) (index (a .r) q) (a .v) (a .k) (at (a .t6) (a .v)) (at (a .t4) (a .v))
+          (a .done .now) (a .ys .now)} (l .inv .1)
+          (rows-step (a .r) (a .t3) (a .r) (a .v) (a .k) (at (a .t6) (a .v)) (at (a .t4) (a .v)) (l .j) (a .done .now)
+          (a .ys .now) (l .row) (c .before .before .rows .ensures)),
+    )
 
 same-length : tie.Need-same-length Inv-loop μ-loop
 same-length c =
@@ -127,7 +146,15 @@ same-length c =
 returns : tie.Need-returns Inv-loop μ-loop
 returns c =
     let start = c .before .before .before .before .before .before .before .before .before .before in
-    let a = start .args in let g = start .pre .0 in let t = start .pre .1 in let l = c .before .loop in let f = l .inv .1 .from in taken-end (a .t3) (a .r) (a .v) (a .k) (a .done .now) (a .ys .now) (l .inv .1) (c .before .before .before .before .before .clear .ensures) (t .full) (stride-at (a .r) (g .by-r) (t .some)) (stride-at (a .t3) (g .by-y) (t .some)) (c .before .before .from .ensures) (omega (arith, l .inv .0, c .loop-test .left))
+    let a = start .args in
+    let g = start .pre .0 in
+    let t = start .pre .1 in
+    let l = c .before .loop in
+    let f = l .inv .1 .from in
+    taken-end (a .t3) (a .r) (a .v) (a .k) (a .done .now) (a .ys .now) (l .inv .1)
+    (c .before .before .before .before .before .clear .ensures) (t .full) (stride-at (a .r) (g .by-r) (t .some))
+    (stride-at (a .t3) (g .by-y) (t .some)) (c .before .before .from .ensures)
+    (omega (arith, l .inv .0, c .loop-test .left))
 
 pub taken-by-rows-spec : {M : Type 1} → statement M
 taken-by-rows-spec =

@@ -33,7 +33,10 @@ sum-on-requires c κs =
 slice-write-row : tie.Need-slice-write-row
 slice-write-row c =
     let start = c .before .before .before .before .before .before in
-    let a = start .args in let t = start .pre .1 in let h = t .some in omega (arith, t .full, span-pos {v = a .v + 1} (start .pre .0 .strided .result) (omega arith))
+    let a = start .args in
+    let t = start .pre .1 in
+    let h = t .some in
+    omega (arith, t .full, span-pos {v = a .v + 1} (start .pre .0 .strided .result) (omega arith))
 
 same-length : tie.Need-same-length
 same-length c = simp length-set
@@ -41,7 +44,8 @@ same-length c = simp length-set
 returns : tie.Need-returns
 returns c =
     let start = c .before .before .before .before .before .before in
-    one-taken (start .pre .0) (start .args .done .now) (start .args .ys .now) (start .pre .1) (c .before .before .if1 .taken) (start .args .row .now) refl (c .before .from .ensures) (c .sum-on .ensures)
+    one-taken (start .pre .0) (start .args .done .now) (start .args .ys .now) (start .pre .1)
+    (c .before .before .if1 .taken) (start .args .row .now) refl (c .before .from .ensures) (c .sum-on .ensures)
 
 taken-by-rows-requires : tie.Need-taken-by-rows-requires
 taken-by-rows-requires c κs =

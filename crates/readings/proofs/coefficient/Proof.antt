@@ -35,7 +35,8 @@ low : (c : tie.After-place-of) →
     c .place-of .result < length (start .args .a .now)
 low c =
     let start = c .before .before .before .before .before .before .before .before .before in
-    rw (placed c) (read-place (start .args .head) (start .args .a .now) (start .args .index) (ready (c .before .before .before .before .before) .read) (there (c .before)))
+    rw (placed c) (read-place (start .args .head) (start .args .a .now) (start .args .index)
+    (ready (c .before .before .before .before .before) .read) (there (c .before)))
 
 returns : tie.Need-returns
 unfolding coefficientAnswer
@@ -45,10 +46,16 @@ returns-2 : tie.Need-returns-2
 unfolding coefficientAnswer
 returns-2 c =
     let start = c .before .before .before .before .before .before .before .before in
-    read-done (c .before .before .before .before .before .before .index-gate .ensures) (c .before .before .before .before .if1 .left) (coefficient-past (start .args .head) (start .args .a .now) (start .args .index) (not-true _ (rw (c .before .is-inside .ensures, c .before .before .before .header-of .ensures) at (c .if2 .taken))))
+    read-done (c .before .before .before .before .before .before .index-gate .ensures)
+    (c .before .before .before .before .if1 .left)
+    (coefficient-past (start .args .head) (start .args .a .now) (start .args .index)
+    (not-true _ (rw (c .before .is-inside .ensures, c .before .before .before .header-of .ensures) at
+    (c .if2 .taken))))
 
 place-of-requires : tie.Need-place-of-requires
-place-of-requires c κs = rw (c .before .before .before .header-of .ensures) (sizes-of (read-lengths (ready (c .before .before .before .before) .read)), inside-is _ _ (there c))
+place-of-requires c κs =
+    rw (c .before .before .before .header-of .ensures)
+    (sizes-of (read-lengths (ready (c .before .before .before .before) .read)), inside-is _ _ (there c))
 
 mul-t8 : tie.Need-mul-t8
 mul-t8 c = omega (arith, low c)
@@ -61,7 +68,9 @@ unfolding coefficientAnswer
 returns-3 c =
     let c8 = c .before .before .before .before .before .before .before .before in
     let start = c8 .before .before in
-    read-done (c8 .index-gate .ensures) (c .before .before .before .before .before .before .if1 .left) (ap (λ k. getD (start .args .a .now) k nan) (placed (c .before)) ∙ coefficient-stored (start .args .head) (start .args .a .now) (start .args .index) (there (c .before .before)))
+    read-done (c8 .index-gate .ensures) (c .before .before .before .before .before .before .if1 .left)
+    (ap (λ k. getD (start .args .a .now) k nan) (placed (c .before))
+    ∙ coefficient-stored (start .args .head) (start .args .a .now) (start .args .index) (there (c .before .before)))
 
 pub coefficient-spec : {M : Type 1} → statement M
 coefficient-spec =

@@ -28,7 +28,10 @@ sum-to-requires c κs = rw (counted c) (ready (c .before .before) .full)
 
 returns-2 : tie.Need-returns-2
 unfolding evaluateAllOneAnswer
-returns-2 c = read-done (c .before .before .before .before .before .read-gate .ensures) (c .before .before .before .if1 .left) (c .sum-to .ensures ∙ ap (sumTo ((c .before .before .before .before .before .before .before) .args .a .now)) (counted (c .before)))
+returns-2 c =
+    read-done (c .before .before .before .before .before .read-gate .ensures) (c .before .before .before .if1 .left)
+    (c .sum-to .ensures ∙ ap (sumTo ((c .before .before .before .before .before .before .before) .args .a .now))
+    (counted (c .before)))
 
 pub evaluate-all-one-spec : {M : Type 1} → statement M
 evaluate-all-one-spec =

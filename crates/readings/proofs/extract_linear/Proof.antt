@@ -33,12 +33,18 @@ slice-aggregate-linear-of c =
 linear-of-requires : tie.Need-linear-of-requires
 linear-of-requires c κs =
     let c4 = c .before .before .before .before in
-    let start = c4 .before .before .before .before in
-    (rw (c .before .before .before .header-of .ensures) (read-lengths (ready c4)), length-take-le _ (start .args .a .now) (rw (counted (c .before .before)) (ready c4 .full)) ∙ c .before .before .stored-of .ensures)
+    let start = c4 .before .before .before .before in (
+      rw (c .before .before .before .header-of .ensures) (read-lengths (ready c4)),
+      length-take-le _ (start .args .a .now) (rw (counted (c .before .before)) (ready c4 .full)) ∙ c .before .before .stored-of .ensures,
+    )
 
 returns-2 : tie.Need-returns-2
 unfolding extractLinearAnswer
-returns-2 c = line-done (c .before .before .before .before .before .before .before .read-gate .ensures) (c .before .before .before .before .before .if1 .left) (c .linear-of .ensures ∙ (rw (counted (c .before .before .before), c .before .before .before .before .header-of .ensures)))
+returns-2 c =
+    line-done (c .before .before .before .before .before .before .before .read-gate .ensures)
+    (c .before .before .before .before .before .if1 .left)
+    (c .linear-of .ensures
+    ∙ (rw (counted (c .before .before .before), c .before .before .before .before .header-of .ensures)))
 
 pub extract-linear-spec : {M : Type 1} → statement M
 extract-linear-spec =

@@ -37,7 +37,9 @@ returns-2 : tie.Need-returns-2
 unfolding tailAnswer tailOf
 returns-2 c =
     let start = c .before .before .before .before .before .before .before .before in
-    read-done (c .before .before .before .before .before .before .tail-gate .ensures) (c .before .before .before .before .if1 .left) (ap (sub binary64 oneF) (c .sum-to .ensures ∙ ap (sumTo (start .args .a .now)) (many (c .before))))
+    read-done (c .before .before .before .before .before .before .tail-gate .ensures)
+    (c .before .before .before .before .if1 .left)
+    (ap (sub binary64 oneF) (c .sum-to .ensures ∙ ap (sumTo (start .args .a .now)) (many (c .before))))
 
 pub tail-spec : {M : Type 1} → statement M
 tail-spec =

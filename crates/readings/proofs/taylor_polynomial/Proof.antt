@@ -18,7 +18,8 @@ use Rattle.readings.proofs.taylor_polynomial.Tie as tie
 
 ready : (c : tie.Else1) →
     let start = c .before .before .before .before .before in
-    InReady (Order (start .args .v) (start .args .order)) (start .args .v) (start .args .order) (start .args .head) (length (start .args .a .now)) (length (start .args .out .now))
+    InReady (Order (start .args .v) (start .args .order)) (start .args .v) (start .args .order) (start .args .head)
+    (length (start .args .a .now)) (length (start .args .out .now))
 ready c = in-ready _ _ _ _ _ _ (ap (λ r. r .number) (sym (c .before .before .in-gate .ensures)) ∙ c .if1 .left)
 
 is-announced : (c : tie.After-announced-of) →
@@ -40,10 +41,16 @@ returns : tie.Need-returns
 unfolding taylorPolynomialAnswer taylorPolynomialOut
 returns c =
     let start = c .before .before .before .before .before in
-    entry-refused (c .before .before .in-gate .ensures) (c .if1 .taken) (announcedOne (Order (start .args .v) (start .args .order)) (start .args .head)) (taylorPolynomial (start .args .v) (start .args .order) (held (start .args .head) (start .args .a .now))) (start .args .out .now)
+    entry-refused (c .before .before .in-gate .ensures) (c .if1 .taken)
+    (announcedOne (Order (start .args .v) (start .args .order)) (start .args .head))
+    (taylorPolynomial (start .args .v) (start .args .order) (held (start .args .head) (start .args .a .now)))
+    (start .args .out .now)
 
 announced-of-requires : tie.Need-announced-of-requires
-announced-of-requires c κs = (rw (c .before .header-of .ensures) (ready (c .before .before) .one .good .regular .rules), rw (c .none .ensures) (none-regular .rules))
+announced-of-requires c κs = (
+  rw (c .before .header-of .ensures) (ready (c .before .before) .one .good .regular .rules),
+  rw (c .none .ensures) (none-regular .rules),
+)
 
 stored-of-requires : tie.Need-stored-of-requires
 stored-of-requires c κs = rw (c .before .before .header-of .ensures) (ready (c .before .before .before) .one .good .regular .rules)
@@ -76,7 +83,11 @@ load-requires c κs =
     let c8 = c6 .before .before in
     let c9 = c8 .before in
     let start = c9 .before .before .before .before .before in
-    order-cutting (start .args .v) (start .args .order) {h = c8 .header-of .result} {r = c6 .announced-of .result} (rw (c8 .header-of .ensures) (ready c9 .one .good .regular .rules)) (rw (c8 .header-of .ensures) (is-announced c6)) (length-take-le _ (start .args .a .now) (rw (given c5) (ready c9 .one .full)) ∙ c5 .stored-of .ensures) (length-take-le _ (start .args .out .now) (rw (count c4) (ready c9 .one .room)) ∙ c4 .stored-of2 .ensures)
+    order-cutting (start .args .v) (start .args .order) {h = c8 .header-of .result} {r = c6 .announced-of .result}
+    (rw (c8 .header-of .ensures) (ready c9 .one .good .regular .rules))
+    (rw (c8 .header-of .ensures) (is-announced c6))
+    (length-take-le _ (start .args .a .now) (rw (given c5) (ready c9 .one .full)) ∙ c5 .stored-of .ensures)
+    (length-take-le _ (start .args .out .now) (rw (count c4) (ready c9 .one .room)) ∙ c4 .stored-of2 .ensures)
 
 pack-requires : tie.Need-pack-requires
 pack-requires c κs =
@@ -94,7 +105,17 @@ returns-2 c =
     let c13 = c12 .before in
     let c15 = c13 .before .before in
     let start = c15 .before .before .before in
-    entry-done (c15 .in-gate .ensures) (c13 .if1 .left) (announcedOne (Order (start .args .v) (start .args .order)) (start .args .head)) (taylorPolynomial (start .args .v) (start .args .order) (held (start .args .head) (start .args .a .now))) (start .args .out .now) (ap Done (c .pack .ensures ∙ ap wordOf (is-announced c10))) (rw (count c8) (part-written (stored (announcedOne (Order (start .args .v) (start .args .order)) (start .args .head))) (taylorPolynomial (start .args .v) (start .args .order) (held (start .args .head) (start .args .a .now)) .coeffs) (start .args .out .now) ((rw (c12 .header-of .ensures, given c9, is-announced c10) at (c .before .before .before .load .ensures)) ∙ padded-full _ (length-table _ (stored (announcedOne (Order (start .args .v) (start .args .order)) (start .args .head)))))))
+    entry-done (c15 .in-gate .ensures) (c13 .if1 .left)
+    (announcedOne (Order (start .args .v) (start .args .order)) (start .args .head))
+    (taylorPolynomial (start .args .v) (start .args .order) (held (start .args .head) (start .args .a .now)))
+    (start .args .out .now) (ap Done (c .pack .ensures ∙ ap wordOf (is-announced c10)))
+    (rw (count c8)
+    (part-written (stored (announcedOne (Order (start .args .v) (start .args .order)) (start .args .head)))
+    (taylorPolynomial (start .args .v) (start .args .order)
+    (held (start .args .head) (start .args .a .now)) .coeffs) (start .args .out .now)
+    ((rw (c12 .header-of .ensures, given c9, is-announced c10) at (c .before .before .before .load .ensures))
+    ∙ padded-full _
+    (length-table _ (stored (announcedOne (Order (start .args .v) (start .args .order)) (start .args .head)))))))
 
 pub taylor-polynomial-spec : {M : Type 1} → statement M
 taylor-polynomial-spec =

@@ -24,7 +24,9 @@ header c = rw (add-one ((c .before .before .before .before .before) .args .v)) a
 returns : tie.Need-returns
 returns c =
     let start = c .before .before .before .before in
-    entry-refused (c .before .before .var-gate .ensures) (c .if1 .taken) (varHeader (start .args .v) (start .args .limit)) (variable (varHeader (start .args .v) (start .args .limit)) (start .args .x)) (start .args .out .now)
+    entry-refused (c .before .before .var-gate .ensures) (c .if1 .taken)
+    (varHeader (start .args .v) (start .args .limit))
+    (variable (varHeader (start .args .v) (start .args .limit)) (start .args .x)) (start .args .out .now)
 
 add-var-with-degrees-p1 : tie.Need-add-var-with-degrees-p1
 add-var-with-degrees-p1 c = omega (arith, ready (c) .known)
@@ -32,13 +34,20 @@ add-var-with-degrees-p1 c = omega (arith, ready (c) .known)
 write-short-requires : tie.Need-write-short-requires
 write-short-requires c κs =
     let start = c .before .before .before .before .before .before in
-    rw (header (c .before)) (ready (c .before .before) .header, var-count _ (four (λ k. start .args .limit)) (start .args .v) (omega (arith, ready (c .before .before) .known)))
+    rw (header (c .before)) (
+      ready (c .before .before) .header,
+      var-count _ (four (λ k. start .args .limit)) (start .args .v) (omega (arith, ready (c .before .before) .known)),
+    )
 
 returns-2 : tie.Need-returns-2
 returns-2 c =
     let c4 = c .before .before .before .before in
     let start = c4 .before .before .before .before .before in
-    entry-done (c .before .before .before .before .before .before .before .var-gate .ensures) (c .before .before .before .before .before .if1 .left) (varHeader (start .args .v) (start .args .limit)) (variable (varHeader (start .args .v) (start .args .limit)) (start .args .x)) (start .args .out .now) (rw (header c4) at (c .before .before .write-short .ensures .0)) (rw (header c4) at (c .before .before .write-short .ensures .1))
+    entry-done (c .before .before .before .before .before .before .before .var-gate .ensures)
+    (c .before .before .before .before .before .if1 .left) (varHeader (start .args .v) (start .args .limit))
+    (variable (varHeader (start .args .v) (start .args .limit)) (start .args .x)) (start .args .out .now)
+    (rw (header c4) at (c .before .before .write-short .ensures .0))
+    (rw (header c4) at (c .before .before .write-short .ensures .1))
 
 pub var-spec : {M : Type 1} → statement M
 var-spec =

@@ -17,19 +17,35 @@ ready c = var-with-ready _ _ _ _ (ap (λ r. r .number) (sym (c .before .before .
 returns : tie.Need-returns
 returns c =
     let start = c .before .before .before .before in
-    entry-refused (c .before .before .var-with-gate .ensures) (c .if1 .taken) (varWith (start .args .v) (start .args .vars) (start .args .limits)) (variable (varWith (start .args .v) (start .args .vars) (start .args .limits)) (start .args .x)) (start .args .out .now)
+    entry-refused (c .before .before .var-with-gate .ensures) (c .if1 .taken)
+    (varWith (start .args .v) (start .args .vars) (start .args .limits))
+    (variable (varWith (start .args .v) (start .args .vars) (start .args .limits)) (start .args .x))
+    (start .args .out .now)
 
 write-short-requires : tie.Need-write-short-requires
 unfolding varWith
 write-short-requires c κs =
     let start = c .before .before .before .before .before .before in
-    rw (c .before .var-with-degrees-p1 .ensures) (ready (c .before .before) .header, var-count (start .args .vars) (start .args .limits) (start .args .v) (omega (arith, ready (c .before .before) .known, ready (c .before .before) .header .good .regular .rules .few)))
+    rw (c .before .var-with-degrees-p1 .ensures) (
+      ready (c .before .before) .header,
+      var-count (start .args .vars) (start .args .limits) (start .args .v)
+          (omega (
+            arith,
+            ready (c .before .before) .known,
+            ready (c .before .before) .header .good .regular .rules .few,
+          )),
+    )
 
 returns-2 : tie.Need-returns-2
 returns-2 c =
     let c4 = c .before .before .before .before in
     let start = c4 .before .before .before .before .before in
-    entry-done (c .before .before .before .before .before .before .before .var-with-gate .ensures) (c .before .before .before .before .before .if1 .left) (varWith (start .args .v) (start .args .vars) (start .args .limits)) (variable (varWith (start .args .v) (start .args .vars) (start .args .limits)) (start .args .x)) (start .args .out .now) (rw (c4 .var-with-degrees-p1 .ensures) at (c .before .before .write-short .ensures .0)) (rw (c4 .var-with-degrees-p1 .ensures) at (c .before .before .write-short .ensures .1))
+    entry-done (c .before .before .before .before .before .before .before .var-with-gate .ensures)
+    (c .before .before .before .before .before .if1 .left)
+    (varWith (start .args .v) (start .args .vars) (start .args .limits))
+    (variable (varWith (start .args .v) (start .args .vars) (start .args .limits)) (start .args .x))
+    (start .args .out .now) (rw (c4 .var-with-degrees-p1 .ensures) at (c .before .before .write-short .ensures .0))
+    (rw (c4 .var-with-degrees-p1 .ensures) at (c .before .before .write-short .ensures .1))
 
 pub var-with-degrees-p1-spec : {M : Type 1} → statement M
 var-with-degrees-p1-spec =

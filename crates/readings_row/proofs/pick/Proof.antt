@@ -60,8 +60,12 @@ loop-less c = omega (arith, c .before .before .before .before .loop .inv .1 .len
 
 loop-again : tie.Need-loop-again Inv-loop μ-loop
 loop-again c =
-    let c4 = c .before .before .before .before in
-    (omega (arith, c4 .loop .inv .1 .len), filled-more (c4 .loop .inv .1) (ap (λ p. getD (c .before .before .before .before .before .before .before .args .a .now) p nan) (read (c .before))) (omega (arith, c4 .loop .inv .1 .len)))
+    let c4 = c .before .before .before .before in (
+      omega (arith, c4 .loop .inv .1 .len),
+      filled-more (c4 .loop .inv .1)
+          (ap (λ p. getD (c .before .before .before .before .before .before .before .args .a .now) p nan)
+          (read (c .before))) (omega (arith, c4 .loop .inv .1 .len)),
+    )
 
 same-length : tie.Need-same-length Inv-loop μ-loop
 same-length c = c .before .loop .inv .1 .len
@@ -69,7 +73,9 @@ same-length c = c .before .loop .inv .1 .len
 returns : tie.Need-returns Inv-loop μ-loop
 returns c =
     let start = c .before .before .before .before in
-    filled-all (c .before .loop .inv .1) (c .before .loop .inv .0) (omega (arith, c .before .loop .inv .1 .len)) ∙ ap (λ m. table m (λ j. readAt (block (start .args .n) (start .args .a .now)) (set (index (start .args .c) j) (start .args .v) (start .args .order)))) (start .pre .full)
+    filled-all (c .before .loop .inv .1) (c .before .loop .inv .0) (omega (arith, c .before .loop .inv .1 .len))
+    ∙ ap (λ m. table m (λ j. readAt (block (start .args .n) (start .args .a .now))
+    (set (index (start .args .c) j) (start .args .v) (start .args .order)))) (start .pre .full)
 
 pub pick-spec : {M : Type 1} → statement M
 pick-spec =

@@ -12,8 +12,16 @@ use Rattle.readings_row.proofs.take_term.Tie as tie
 returns : tie.Need-returns
 returns c =
     let c5 = c .before .before .before .before .before in
-    let start = c5 .before .before .before .before in
-    (c .shortest .ensures ∙ ap (λ (q : Poly). q .head) (sym (term-past (start .args .v) (start .args .order) (poly (start .args .h) (start .args .a .now)) (start .pre .is) (c5 .if1 .taken))), c .before .before .before .clear .ensures ∙ (ap zeros (start .pre .room) ∙ (padded-zero (count-pos (lengths-of (termed-regular (start .pre) .rules))) ∙ ap (λ (q : Poly). padded (stored (start .args .r)) (q .coeffs)) (sym (term-past (start .args .v) (start .args .order) (poly (start .args .h) (start .args .a .now)) (start .pre .is) (c5 .if1 .taken))))))
+    let start = c5 .before .before .before .before in (
+      c .shortest .ensures ∙ ap (λ (q : Poly). q .head)
+          (sym (term-past (start .args .v) (start .args .order) (poly (start .args .h) (start .args .a .now))
+          (start .pre .is) (c5 .if1 .taken))),
+      c .before .before .before .clear .ensures
+          ∙ (ap zeros (start .pre .room) ∙ (padded-zero (count-pos (lengths-of (termed-regular (start .pre) .rules)))
+          ∙ ap (λ (q : Poly). padded (stored (start .args .r)) (q .coeffs))
+          (sym (term-past (start .args .v) (start .args .order) (poly (start .args .h) (start .args .a .now))
+          (start .pre .is) (c5 .if1 .taken))))),
+    )
 
 pick-requires : tie.Need-pick-requires
 pick-requires c κs = termed-picking ((c .before .before .before .before .before .before) .pre) (c .before .before .if1 .left)
@@ -21,8 +29,16 @@ pick-requires c κs = termed-picking ((c .before .before .before .before .before
 returns-2 : tie.Need-returns-2
 returns-2 c =
     let c5 = c .before .before .before .before .before in
-    let start = c5 .before .before .before .before in
-    (ap (λ (q : Poly). q .head) (sym (term-row (start .args .v) (start .args .order) (poly (start .args .h) (start .args .a .now)) (start .pre .is) (c5 .if1 .left))), c .before .before .pick .ensures ∙ (padded-full _ (length-table _ (stored (start .args .r))) ∙ ap (λ (q : Poly). padded (stored (start .args .r)) (q .coeffs)) (sym (term-row (start .args .v) (start .args .order) (poly (start .args .h) (start .args .a .now)) (start .pre .is) (c5 .if1 .left)))))
+    let start = c5 .before .before .before .before in (
+      ap (λ (q : Poly). q .head)
+          (sym (term-row (start .args .v) (start .args .order) (poly (start .args .h) (start .args .a .now))
+          (start .pre .is) (c5 .if1 .left))),
+      c .before .before .pick .ensures
+          ∙ (padded-full _ (length-table _ (stored (start .args .r)))
+          ∙ ap (λ (q : Poly). padded (stored (start .args .r)) (q .coeffs))
+          (sym (term-row (start .args .v) (start .args .order) (poly (start .args .h) (start .args .a .now))
+          (start .pre .is) (c5 .if1 .left)))),
+    )
 
 pub take-term-spec : {M : Type 1} → statement M
 take-term-spec =

@@ -18,7 +18,9 @@ ready c = with-ready _ _ _ (ap (λ r. r .number) (sym (c .before .before .with-g
 returns : tie.Need-returns
 returns c =
     let start = c .before .before .before .before in
-    entry-refused (c .before .before .with-gate .ensures) (c .if1 .taken) (zeroWith (start .args .vars) (start .args .limits)) (constant (zeroWith (start .args .vars) (start .args .limits)) (start .args .x)) (start .args .out .now)
+    entry-refused (c .before .before .with-gate .ensures) (c .if1 .taken)
+    (zeroWith (start .args .vars) (start .args .limits))
+    (constant (zeroWith (start .args .vars) (start .args .limits)) (start .args .x)) (start .args .out .now)
 
 write-short-requires : tie.Need-write-short-requires
 write-short-requires c κs =
@@ -29,7 +31,13 @@ returns-2 : tie.Need-returns-2
 returns-2 c =
     let c4 = c .before .before .before .before in
     let start = c4 .before .before .before .before .before in
-    entry-done (c .before .before .before .before .before .before .before .with-gate .ensures) (c .before .before .before .before .before .if1 .left) (zeroWith (start .args .vars) (start .args .limits)) (constant (zeroWith (start .args .vars) (start .args .limits)) (start .args .x)) (start .args .out .now) (rw (c4 .zero-with .ensures) at (c .before .before .write-short .ensures .0)) ((rw (c4 .zero-with .ensures) at (c .before .before .write-short .ensures .1)) ∙ ap (λ l. written (stored (zeroWith (start .args .vars) (start .args .limits))) l (start .args .out .now)) (constant-is (start .args .vars) (start .args .limits) (start .args .x)))
+    entry-done (c .before .before .before .before .before .before .before .with-gate .ensures)
+    (c .before .before .before .before .before .if1 .left) (zeroWith (start .args .vars) (start .args .limits))
+    (constant (zeroWith (start .args .vars) (start .args .limits)) (start .args .x)) (start .args .out .now)
+    (rw (c4 .zero-with .ensures) at (c .before .before .write-short .ensures .0))
+    ((rw (c4 .zero-with .ensures) at (c .before .before .write-short .ensures .1))
+    ∙ ap (λ l. written (stored (zeroWith (start .args .vars) (start .args .limits))) l (start .args .out .now))
+    (constant-is (start .args .vars) (start .args .limits) (start .args .x)))
 
 pub constant-with-spec : {M : Type 1} → statement M
 constant-with-spec =

@@ -25,8 +25,15 @@ same-length c = ⊎-elim (λ w. ap length (w .1) ∙ simp (length-set)) (λ w. a
 
 returns : tie.Need-returns
 returns c =
-    let start = c .before .before .before .before in
-    (ap Done (c .pack .ensures), ⊎-elim (λ w. w .1 ∙ short-two (start .args .h) (start .args .x) (start .args .out .now) (omega (arith, c .before .before .stored-of .ensures, w .0 .taken, start .pre .0 .room)) (omega (arith, c .before .before .stored-of .ensures, w .0 .taken, start .pre .1))) (λ w. w .1 ∙ short-one (start .args .h) (start .args .x) (start .args .out .now) (omega (arith, some start, start .pre .0 .room)) (omega (arith, some start, c .before .before .stored-of .ensures, w .0 .left))) (c .before .if1 .came))
+    let start = c .before .before .before .before in (
+      ap Done (c .pack .ensures),
+      ⊎-elim (λ w. w .1 ∙ short-two (start .args .h) (start .args .x) (start .args .out .now)
+          (omega (arith, c .before .before .stored-of .ensures, w .0 .taken, start .pre .0 .room))
+          (omega (arith, c .before .before .stored-of .ensures, w .0 .taken, start .pre .1)))
+          (λ w. w .1 ∙ short-one (start .args .h) (start .args .x) (start .args .out .now)
+          (omega (arith, some start, start .pre .0 .room))
+          (omega (arith, some start, c .before .before .stored-of .ensures, w .0 .left))) (c .before .if1 .came),
+    )
 
 pub write-short-spec : {M : Type 1} → statement M
 write-short-spec =

@@ -23,7 +23,10 @@ part-total-of-end : tie.Need-part-total-of-end
 part-total-of-end c = omega (arith, pass (c .before) .fit, noted-len (c .before))
 
 total-of-requires : tie.Need-total-of-requires
-total-of-requires c κs = (rw (pass (c .before .before) .part) (pass (c .before .before) .steps), simp length-take (omega (arith, pass (c .before .before) .fit)))
+total-of-requires c κs = (
+  rw (pass (c .before .before) .part) (pass (c .before .before) .steps),
+  simp length-take (omega (arith, pass (c .before .before) .fit)),
+)
 
 part-largest-of-end : tie.Need-part-largest-of-end
 part-largest-of-end c =
@@ -44,7 +47,10 @@ returns-2 : tie.Need-returns-2
 returns-2 c =
     let c7 = c .before .before .before .before .before .before .before in
     let c10 = c7 .before .before .before in
-    let p = pass c7 in answer-yes _ _ (c10 .judge .ensures .answer) (c7 .if1 .left) (c .before .before .before .before .total-of .ensures ∙ ap total (p .part)) (c .before .largest-of .ensures ∙ ap largest (p .part)) (c .total-of2 .ensures)
+    let p = pass c7 in
+    answer-yes _ _ (c10 .judge .ensures .answer) (c7 .if1 .left)
+    (c .before .before .before .before .total-of .ensures ∙ ap total (p .part))
+    (c .before .largest-of .ensures ∙ ap largest (p .part)) (c .total-of2 .ensures)
 
 pub check-spec : {M : Type 1} → statement M
 check-spec =

@@ -7,23 +7,61 @@ use Rattle.recipes.proofs.run.Tie as tie
 returns : tie.Need-returns
 returns c =
     let c3 = c .before .before .before in
-    let start = c3 .before .before .before .before .before .before .before .before in
-    (no-answer (start .args .headers .now) (start .args .coefficients .now) (start .args .steps .now) (start .args .pool .now) (start .args .words .now) (start .args .scratch .now) (c3 .admit .ensures) (c .if1 .taken), (no-pool (start .args .headers .now) (start .args .coefficients .now) (start .args .steps .now) (start .args .pool .now) (start .args .words .now) (start .args .scratch .now) (c3 .admit .ensures) (c .if1 .taken), (no-words (start .args .headers .now) (start .args .coefficients .now) (start .args .steps .now) (start .args .pool .now) (start .args .words .now) (start .args .scratch .now) (c3 .admit .ensures) (c .if1 .taken), no-scratch (start .args .headers .now) (start .args .coefficients .now) (start .args .steps .now) (start .args .pool .now) (start .args .words .now) (start .args .scratch .now) (c3 .admit .ensures) (c .if1 .taken))))
+    let start = c3 .before .before .before .before .before .before .before .before in (
+      no-answer (start .args .headers .now) (start .args .coefficients .now) (start .args .steps .now)
+          (start .args .pool .now) (start .args .words .now) (start .args .scratch .now) (c3 .admit .ensures)
+          (c .if1 .taken),
+      (
+        no-pool (start .args .headers .now) (start .args .coefficients .now) (start .args .steps .now)
+            (start .args .pool .now) (start .args .words .now) (start .args .scratch .now) (c3 .admit .ensures)
+            (c .if1 .taken),
+        (
+          no-words (start .args .headers .now) (start .args .coefficients .now) (start .args .steps .now)
+              (start .args .pool .now) (start .args .words .now) (start .args .scratch .now) (c3 .admit .ensures)
+              (c .if1 .taken),
+          no-scratch (start .args .headers .now) (start .args .coefficients .now) (start .args .steps .now)
+              (start .args .pool .now) (start .args .words .now) (start .args .scratch .now)
+              (c3 .admit .ensures) (c .if1 .taken),
+        ),
+      ),
+    )
 
 run-admitted-requires : tie.Need-run-admitted-requires
 run-admitted-requires c κs =
     let c4 = c .before .before .before .before in
     let c7 = c4 .before .before .before in
-    let start = c7 .before .before .before .before .before .before .before .before in
-    (admitted (start .args .headers .now) (start .args .coefficients .now) (start .args .steps .now) (start .args .pool .now) (start .args .words .now) (start .args .scratch .now) (c7 .admit .ensures) (c4 .if1 .left) (omega (arith, c7 .admit .ensures .len)), enough-words (start .args .headers .now) (start .args .coefficients .now) (start .args .steps .now) (start .args .pool .now) (start .args .words .now) (start .args .scratch .now) (c7 .admit .ensures) (c4 .if1 .left))
+    let start = c7 .before .before .before .before .before .before .before .before in (
+      admitted (start .args .headers .now) (start .args .coefficients .now) (start .args .steps .now)
+          (start .args .pool .now) (start .args .words .now) (start .args .scratch .now) (c7 .admit .ensures)
+          (c4 .if1 .left) (omega (arith, c7 .admit .ensures .len)),
+      enough-words (start .args .headers .now) (start .args .coefficients .now) (start .args .steps .now)
+          (start .args .pool .now) (start .args .words .now) (start .args .scratch .now)
+          (c7 .admit .ensures) (c4 .if1 .left),
+    )
 
 returns-2 : tie.Need-returns-2
 returns-2 c =
     let c7 = c .before .before .before .before .before .before .before in
     let c12 = c7 .before .before .before .before .before in
     let c15 = c12 .before .before .before in
-    let start = c15 .before .before .before .before .before .before .before .before in
-    (yes-answer (start .args .headers .now) (start .args .coefficients .now) (start .args .steps .now) (start .args .pool .now) (start .args .words .now) (start .args .scratch .now) (c15 .admit .ensures) (c12 .if1 .left), (yes-pool (start .args .headers .now) (start .args .coefficients .now) (start .args .steps .now) (start .args .pool .now) (start .args .words .now) (start .args .scratch .now) (c15 .admit .ensures) (c12 .if1 .left) (c7 .run-admitted .ensures .0), (yes-words (start .args .headers .now) (start .args .coefficients .now) (start .args .steps .now) (start .args .pool .now) (start .args .words .now) (start .args .scratch .now) (c15 .admit .ensures) (c12 .if1 .left) (c7 .run-admitted .ensures .1 .0), yes-scratch (start .args .headers .now) (start .args .coefficients .now) (start .args .steps .now) (start .args .pool .now) (start .args .words .now) (start .args .scratch .now) (c15 .admit .ensures) (c12 .if1 .left) (c7 .run-admitted .ensures .1 .1))))
+    let start = c15 .before .before .before .before .before .before .before .before in (
+      yes-answer (start .args .headers .now) (start .args .coefficients .now) (start .args .steps .now)
+          (start .args .pool .now) (start .args .words .now) (start .args .scratch .now) (c15 .admit .ensures)
+          (c12 .if1 .left),
+      (
+        yes-pool (start .args .headers .now) (start .args .coefficients .now) (start .args .steps .now)
+            (start .args .pool .now) (start .args .words .now) (start .args .scratch .now) (c15 .admit .ensures)
+            (c12 .if1 .left) (c7 .run-admitted .ensures .0),
+        (
+          yes-words (start .args .headers .now) (start .args .coefficients .now) (start .args .steps .now)
+              (start .args .pool .now) (start .args .words .now) (start .args .scratch .now) (c15 .admit .ensures)
+              (c12 .if1 .left) (c7 .run-admitted .ensures .1 .0),
+          yes-scratch (start .args .headers .now) (start .args .coefficients .now) (start .args .steps .now)
+              (start .args .pool .now) (start .args .words .now) (start .args .scratch .now) (c15 .admit .ensures)
+              (c12 .if1 .left) (c7 .run-admitted .ensures .1 .1),
+        ),
+      ),
+    )
 
 pub run-spec : {M : Type 1} → statement M
 run-spec =

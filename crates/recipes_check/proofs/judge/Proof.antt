@@ -32,7 +32,9 @@ steps-refusal-requires c κs =
     let c3 = c .before .before .before in
     let c8 = c3 .before .before .before .before .before in
     let start = c8 .before .before .before .before in
-    ready _ _ (size c8) (c .before .before .before .before .before .before .before .inputs-refusal .ensures) (c .before .before .before .before .before .if2 .left) (start .args .known .now) (c3 .note-inputs .last .1 .0) (start .pre) (c3 .note-inputs .ensures)
+    ready _ _ (size c8) (c .before .before .before .before .before .before .before .inputs-refusal .ensures)
+    (c .before .before .before .before .before .if2 .left) (start .args .known .now) (c3 .note-inputs .last .1 .0)
+    (start .pre) (c3 .note-inputs .ensures)
 
 returns-3 : tie.Need-returns-3
 returns-3 c =
@@ -40,7 +42,9 @@ returns-3 c =
     let c10 = c8 .before .before in
     let c11 = c10 .before in
     let start = c11 .before .before .before .before in
-    judged-steps _ _ (size c11) (c10 .inputs-refusal .ensures) (c8 .if2 .left) (start .pre) (c .before .before .before .before .before .before .note-inputs .ensures) (c .before .before .steps-refusal .ensures)
+    judged-steps _ _ (size c11) (c10 .inputs-refusal .ensures) (c8 .if2 .left) (start .pre)
+    (c .before .before .before .before .before .before .note-inputs .ensures)
+    (c .before .before .steps-refusal .ensures)
 
 pub judge-spec : {M : Type 1} → statement M
 judge-spec =

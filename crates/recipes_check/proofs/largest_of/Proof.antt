@@ -22,7 +22,10 @@ stored-of-requires c κs =
     rw (c .header-of .ensures) (word-ruled (start .args .words .now) (start .pre) (c .before .before .before .loop .i))
 
 loop-again : tie.Need-loop-again Inv-loop μ-loop
-loop-again c = topped-more (c .before .before .before .before .before .loop .inv) (c .before .before .before .before .loop-test .taken) (c .before .stored-of .ensures ∙ ap stored (c .before .before .header-of .ensures)) (c .most .ensures)
+loop-again c =
+    topped-more (c .before .before .before .before .before .loop .inv)
+    (c .before .before .before .before .loop-test .taken)
+    (c .before .stored-of .ensures ∙ ap stored (c .before .before .header-of .ensures)) (c .most .ensures)
 
 returns : tie.Need-returns Inv-loop μ-loop
 returns c = topped-end (c .before .loop .inv) (c .loop-test .left)

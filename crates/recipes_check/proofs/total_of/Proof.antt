@@ -24,10 +24,17 @@ stored-of-requires c κs =
 add-sum : tie.Need-add-sum Inv-loop μ-loop
 add-sum c =
     let start = c .before .before .before .before .before .before in
-    record { fits = summed-fits (c .before .before .before .before .loop .inv) (start .pre .0) (start .pre .1) (c .stored-of .ensures ∙ ap stored (c .before .header-of .ensures)) }
+    record {
+      fits =
+          summed-fits (c .before .before .before .before .loop .inv) (start .pre .0) (start .pre .1)
+          (c .stored-of .ensures ∙ ap stored (c .before .header-of .ensures));
+    }
 
 loop-again : tie.Need-loop-again Inv-loop μ-loop
-loop-again c = summed-more (c .before .before .before .before .loop .inv) (c .before .before .before .before .before .before .pre .0) (c .before .before .before .loop-test .taken) (c .stored-of .ensures ∙ ap stored (c .before .header-of .ensures))
+loop-again c =
+    summed-more (c .before .before .before .before .loop .inv)
+    (c .before .before .before .before .before .before .pre .0) (c .before .before .before .loop-test .taken)
+    (c .stored-of .ensures ∙ ap stored (c .before .header-of .ensures))
 
 returns : tie.Need-returns Inv-loop μ-loop
 returns c = summed-end (c .before .loop .inv) (c .loop-test .left)

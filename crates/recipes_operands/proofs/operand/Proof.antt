@@ -28,7 +28,9 @@ part-result-end : tie.Need-part-result-end
 part-result-end c = ends1 c
 
 returns : tie.Need-returns
-returns c = input-part (c .before .before .args .coefficients .now) (c .before .before .args .pool .now) (c .before .if1 .taken) (c .before .before .args .from) (c .before .before .args .count)
+returns c =
+    input-part (c .before .before .args .coefficients .now) (c .before .before .args .pool .now) (c .before .if1 .taken)
+    (c .before .before .args .from) (c .before .before .args .count)
 
 add-result-2 : tie.Need-add-result-2
 add-result-2 c = omega (arith, ends2 c, c .before .good)
@@ -40,7 +42,9 @@ part-result-end-2 : tie.Need-part-result-end-2
 part-result-end-2 c = ends2 c
 
 returns-2 : tie.Need-returns-2
-returns-2 c = pool-part (c .before .before .args .coefficients .now) (c .before .before .args .pool .now) (c .before .if1 .left) (c .before .before .args .from) (c .before .before .args .count)
+returns-2 c =
+    pool-part (c .before .before .args .coefficients .now) (c .before .before .args .pool .now) (c .before .if1 .left)
+    (c .before .before .args .from) (c .before .before .args .count)
 
 pub operand-spec : {M : Type 1} → statement M
 operand-spec =

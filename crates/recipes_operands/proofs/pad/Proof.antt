@@ -16,7 +16,8 @@ use Rattle.blocks.proofs.clear.Reads as clear-reads
 returns : tie.Need-returns
 returns c =
     let start = c .before .before .before .before .before in
-    pad-kept (start .args .from) (start .args .to) (start .args .pool .now) (c .before .before .clear .ensures) (simp (length-take, length-drop) (omega (arith, start .pre))) (start .pre .0) (start .pre .1)
+    pad-kept (start .args .from) (start .args .to) (start .args .pool .now) (c .before .before .clear .ensures)
+    (simp (length-take, length-drop) (omega (arith, start .pre))) (start .pre .0) (start .pre .1)
 
 pub pad-spec : {M : Type 1} → statement M
 pad-spec =

@@ -24,31 +24,40 @@ use Rattle.recipes_operands.proofs.operand.Reads as operand-reads
 
 left-is : (c : tie.After-operand2) →
     let start = c .before .before .before .before .before .before .before .before .before in
-    c .before .operand .result .now ≡ take (stored (start .args .x)) (drop (start .args .xf) (source (start .args .xi) (start .args .coefficients .now) (start .args .pool .now)))
+    c .before .operand .result .now ≡ take (stored (start .args .x))
+    (drop (start .args .xf) (source (start .args .xi) (start .args .coefficients .now) (start .args .pool .now)))
 left-is c =
     let start = c .before .before .before .before .before .before .before .before .before in
-    c .before .operand .ensures ∙ ap (λ (k : ℕ). take k (drop (start .args .xf) (source (start .args .xi) (start .args .coefficients .now) (start .args .pool .now)))) (c .before .before .before .before .before .stored-of .ensures)
+    c .before .operand .ensures ∙ ap (λ (k : ℕ).
+    take k (drop (start .args .xf) (source (start .args .xi) (start .args .coefficients .now)
+    (start .args .pool .now)))) (c .before .before .before .before .before .stored-of .ensures)
 
 left-full : (c : tie.After-operand2) →
     let start = c .before .before .before .before .before .before .before .before .before in
     length (c .before .operand .result .now) ≡ stored (start .args .x)
 left-full c =
     let start = c .before .before .before .before .before .before .before .before .before in
-    ap length (left-is c) ∙ length-operand (start .args .xf) (stored (start .args .x)) (source (start .args .xi) (start .args .coefficients .now) (start .args .pool .now)) (start .pre .1 .1 .1 .0)
+    ap length (left-is c) ∙ length-operand (start .args .xf) (stored (start .args .x))
+    (source (start .args .xi) (start .args .coefficients .now) (start .args .pool .now)) (start .pre .1 .1 .1 .0)
 
 right-is : (c : tie.After-operand2) →
     let start = c .before .before .before .before .before .before .before .before .before in
-    c .operand2 .result .now ≡ take (stored (start .args .y)) (drop (start .args .yf) (source (start .args .yi) (start .args .coefficients .now) (start .args .pool .now)))
+    c .operand2 .result .now ≡ take (stored (start .args .y))
+    (drop (start .args .yf) (source (start .args .yi) (start .args .coefficients .now) (start .args .pool .now)))
 right-is c =
     let start = c .before .before .before .before .before .before .before .before .before in
-    c .operand2 .ensures ∙ ap (λ (k : ℕ). take k (drop (start .args .yf) (source (start .args .yi) (start .args .coefficients .now) (start .args .pool .now)))) (c .before .before .before .before .stored-of2 .ensures)
+    c .operand2 .ensures
+    ∙ ap (λ (k : ℕ). take k (drop (start .args .yf)
+    (source (start .args .yi) (start .args .coefficients .now) (start .args .pool .now))))
+    (c .before .before .before .before .stored-of2 .ensures)
 
 right-full : (c : tie.After-operand2) →
     let start = c .before .before .before .before .before .before .before .before .before in
     length (c .operand2 .result .now) ≡ stored (start .args .y)
 right-full c =
     let start = c .before .before .before .before .before .before .before .before .before in
-    ap length (right-is c) ∙ length-operand (start .args .yf) (stored (start .args .y)) (source (start .args .yi) (start .args .coefficients .now) (start .args .pool .now)) (start .pre .1 .1 .1 .1)
+    ap length (right-is c) ∙ length-operand (start .args .yf) (stored (start .args .y))
+    (source (start .args .yi) (start .args .coefficients .now) (start .args .pool .now)) (start .pre .1 .1 .1 .1)
 
 load-two-requires : tie.Need-load-two-requires
 load-two-requires c κs =
@@ -71,8 +80,21 @@ is-zero-requires-2 c κs =
 returns : tie.Need-returns
 returns c =
     let c8 = c .before .before .before .before .before .before .before .before in
-    let start = c8 .before .before .before .before .before .before .before .before .before in
-    (zero-is (block (start .args .x .lengths) (take (stored (start .args .x)) (drop (start .args .xf) (source (start .args .xi) (start .args .coefficients .now) (start .args .pool .now))))) (block (start .args .y .lengths) (take (stored (start .args .y)) (drop (start .args .yf) (source (start .args .yi) (start .args .coefficients .now) (start .args .pool .now))))) (c .before .is-zero .ensures ∙ ap (λ (l : List Float). isZero (block (start .args .x .lengths) l)) (left-is c8)) (c .is-zero2 .ensures ∙ ap (λ (l : List Float). isZero (block (start .args .y .lengths) l)) (right-is c8)), rw (c .before .before .before .before .before .before .before .cut-to .ensures, c .before .before .before .before .before .before .cut-to2 .ensures, left-is c8, right-is c8) at (c .before .before .before .before .load-two .ensures))
+    let start = c8 .before .before .before .before .before .before .before .before .before in (
+      zero-is (block (start .args .x .lengths)
+          (take (stored (start .args .x)) (drop (start .args .xf)
+          (source (start .args .xi) (start .args .coefficients .now) (start .args .pool .now)))))
+          (block (start .args .y .lengths) (take (stored (start .args .y))
+          (drop (start .args .yf) (source (start .args .yi) (start .args .coefficients .now) (start .args .pool .now)))))
+          (c .before .is-zero .ensures ∙ ap (λ (l : List Float). isZero (block (start .args .x .lengths) l)) (left-is c8))
+          (c .is-zero2 .ensures ∙ ap (λ (l : List Float). isZero (block (start .args .y .lengths) l)) (right-is c8)),
+      rw (
+        c .before .before .before .before .before .before .before .cut-to .ensures,
+        c .before .before .before .before .before .before .cut-to2 .ensures,
+        left-is c8,
+        right-is c8,
+      ) at (c .before .before .before .before .load-two .ensures),
+    )
 
 pub load-pair-spec : {M : Type 1} → statement M
 load-pair-spec =

@@ -22,7 +22,8 @@ use Rattle.shape_words.proofs.places.count_of.Reads as count-of-reads
 ends : (c : tie.Start) → (c .args .at ≤ length (c .args .pool .now)) × (8 * c .args .n ≤ length (c .args .scratch .now))
 ends c = let g = c .pre .1 .1 .1 in (omega (arith, g .room), g .spare)
 
-used : (c : tie.After-load-pair) → length (c .load-pair .last .1 .1 .1 .1 .1 .1 .1 .1 .1 .1 .0) ≡ 8 * c .before .before .before .before .before .before .before .args .n
+used : (c : tie.After-load-pair) → length (c .load-pair .last .1 .1 .1 .1 .1 .1 .1 .1 .1 .1 .0)
+    ≡ 8 * c .before .before .before .before .before .before .before .args .n
 used c = c .load-pair .kept .1 .1 .1 .1 .1 .1 .1 .1 .1 .1 .0 ∙ length-take-le _ _ (ends (c .before .before .before .before .before .before .before) .1)
 
 rooms : (c : tie.After-load-pair) →
@@ -33,11 +34,18 @@ rooms c = simp length-append (omega (arith, used c))
 stands : (c : tie.After-pair-front) →
     let c5 = c .before .before .before .before .before in
     let start = c5 .before .before .before .before .before .before .before in
-    Stands (pairOf (start .args .kind) (c5 .load-pair .result) (start .args .h .limits) (leftIn (start .args .h .limits) (start .args .x .lengths) (c5 .load-pair .last .1 .1 .1 .1 .1 .1 .1 .1 .1 .1 .0)) (rightIn (start .args .h .limits) (start .args .y .lengths) (start .args .n) (c5 .load-pair .last .1 .1 .1 .1 .1 .1 .1 .1 .1 .1 .0))) (c .pair-front .last .1 .1 .1 .1 .1 .1 .1 .0) (c .pair-front .result)
+    Stands (pairOf (start .args .kind) (c5 .load-pair .result) (start .args .h .limits)
+    (leftIn (start .args .h .limits) (start .args .x .lengths)
+    (c5 .load-pair .last .1 .1 .1 .1 .1 .1 .1 .1 .1 .1 .0))
+    (rightIn (start .args .h .limits) (start .args .y .lengths) (start .args .n)
+    (c5 .load-pair .last .1 .1 .1 .1 .1 .1 .1 .1 .1 .1 .0)))
+    (c .pair-front .last .1 .1 .1 .1 .1 .1 .1 .0) (c .pair-front .result)
 stands c =
     let c5 = c .before .before .before .before .before in
     let start = c5 .before .before .before .before .before .before .before in
-    rw (take-at (c5 .load-pair .last .1 .1 .1 .1 .1 .1 .1 .1 .1 .1 .0) (drop (8 * start .args .n) (start .args .scratch .now)) (8 * start .args .n) (used c5)) at (c .pair-front .ensures)
+    rw (take-at (c5 .load-pair .last .1 .1 .1 .1 .1 .1 .1 .1 .1 .1 .0)
+    (drop (8 * start .args .n) (start .args .scratch .now)) (8 * start .args .n) (used c5)) at
+    (c .pair-front .ensures)
 
 lasts : (c : tie.After-pair-front) →
     let start = c .before .before .before .before .before .before .before .before .before .before .before .before in
@@ -54,8 +62,21 @@ slice-aggregate-load-pair-2 c = sym (length-take-le _ _ (ends (c .before .before
 
 load-pair-requires : tie.Need-load-pair-requires
 load-pair-requires c κs =
-    let start = c .before .before .before .before .before .before in
-    (rw (length-take-le _ _ (ends start .1)) (pair-two (start .pre .0)), (start .pre .0 .left .regular .rules, (start .pre .0 .right .regular .rules, (lies-source (start .args .coefficients .now) (take (start .args .at) (start .args .pool .now)) (start .pre .1 .0) (length-take-le _ _ (ends start .0)), lies-source (start .args .coefficients .now) (take (start .args .at) (start .args .pool .now)) (start .pre .1 .1 .0) (length-take-le _ _ (ends start .0))))))
+    let start = c .before .before .before .before .before .before in (
+      rw (length-take-le _ _ (ends start .1)) (pair-two (start .pre .0)),
+      (
+        start .pre .0 .left .regular .rules,
+        (
+          start .pre .0 .right .regular .rules,
+          (
+            lies-source (start .args .coefficients .now) (take (start .args .at) (start .args .pool .now))
+                (start .pre .1 .0) (length-take-le _ _ (ends start .0)),
+            lies-source (start .args .coefficients .now) (take (start .args .at) (start .args .pool .now))
+                (start .pre .1 .1 .0) (length-take-le _ _ (ends start .0)),
+          ),
+        ),
+      ),
+    )
 
 add-end : tie.Need-add-end
 add-end c =
@@ -73,33 +94,78 @@ mul-pair-front c =
 pair-front-requires : tie.Need-pair-front-requires
 pair-front-requires c κs =
     let start = c .before .before .before .before .before .before .before .before .before .before .before in
-    let g = start .pre .1 .1 .1 in (start .pre .0, (length-take-le _ _ (rooms (c .before .before .before .before)), simp (length-take, length-drop) (omega (arith, g .room))))
+    let g = start .pre .1 .1 .1 in (
+      start .pre .0,
+      (length-take-le _ _ (rooms (c .before .before .before .before)), simp (length-take, length-drop) (omega (arith, g .room))),
+    )
 
 count-of-requires : tie.Need-count-of-requires
 count-of-requires c κs =
     let c9 = c .before .before .before .before .before .before .before .before .before in
     let start = c9 .before .before .before .before .before .before .before in
-    value-lengths (start .pre .0) (lying (start .args .xi) (start .args .coefficients .now) (take (start .args .at) (start .args .pool .now)) (start .args .xf) (start .args .x) .coeffs) (lying (start .args .yi) (start .args .coefficients .now) (take (start .args .at) (start .args .pool .now)) (start .args .yf) (start .args .y) .coeffs) (c9 .load-pair .ensures .1) (c9 .load-pair .ensures .0) (stands (c .before .before .before .before))
+    value-lengths (start .pre .0) (lying (start .args .xi) (start .args .coefficients .now)
+    (take (start .args .at) (start .args .pool .now)) (start .args .xf) (start .args .x) .coeffs)
+    (lying (start .args .yi) (start .args .coefficients .now) (take (start .args .at) (start .args .pool .now))
+    (start .args .yf) (start .args .y) .coeffs) (c9 .load-pair .ensures .1) (c9 .load-pair .ensures .0)
+    (stands (c .before .before .before .before))
 
 add-pad : tie.Need-add-pad
 add-pad c =
     let c11 = c .before .before .before .before .before .before .before .before .before .before .before in
     let start = c11 .before .before .before .before .before .before .before in
-    let g = start .pre .1 .1 .1 in omega (arith, g .room, start .good, c .before .count-of .ensures, value-count (start .pre .0) (lying (start .args .xi) (start .args .coefficients .now) (take (start .args .at) (start .args .pool .now)) (start .args .xf) (start .args .x) .coeffs) (lying (start .args .yi) (start .args .coefficients .now) (take (start .args .at) (start .args .pool .now)) (start .args .yf) (start .args .y) .coeffs) (c11 .load-pair .ensures .1) (c11 .load-pair .ensures .0) (stands (c .before .before .before .before .before .before)))
+    let g = start .pre .1 .1 .1 in
+    omega (
+      arith,
+      g .room,
+      start .good,
+      c .before .count-of .ensures,
+      value-count (start .pre .0) (lying (start .args .xi) (start .args .coefficients .now)
+          (take (start .args .at) (start .args .pool .now)) (start .args .xf) (start .args .x) .coeffs)
+          (lying (start .args .yi) (start .args .coefficients .now) (take (start .args .at) (start .args .pool .now))
+          (start .args .yf) (start .args .y) .coeffs) (c11 .load-pair .ensures .1) (c11 .load-pair .ensures .0)
+          (stands (c .before .before .before .before .before .before)),
+    )
 
 pad-requires : tie.Need-pad-requires
 pad-requires c κs =
     let c6 = c .before .before .before .before .before .before in
     let c11 = c6 .before .before .before .before .before in
     let start = c11 .before .before .before .before .before .before .before in
-    let g = start .pre .1 .1 .1 in let l = lasts c6 in (omega (arith, c .before .count-of .ensures, value-count (start .pre .0) (lying (start .args .xi) (start .args .coefficients .now) (take (start .args .at) (start .args .pool .now)) (start .args .xf) (start .args .x) .coeffs) (lying (start .args .yi) (start .args .coefficients .now) (take (start .args .at) (start .args .pool .now)) (start .args .yf) (start .args .y) .coeffs) (c11 .load-pair .ensures .1) (c11 .load-pair .ensures .0) (stands c6)), omega (arith, g .room, l))
+    let g = start .pre .1 .1 .1 in
+    let l = lasts c6 in (
+      omega (
+        arith,
+        c .before .count-of .ensures,
+        value-count (start .pre .0) (lying (start .args .xi) (start .args .coefficients .now)
+            (take (start .args .at) (start .args .pool .now)) (start .args .xf) (start .args .x) .coeffs)
+            (lying (start .args .yi) (start .args .coefficients .now) (take (start .args .at) (start .args .pool .now))
+            (start .args .yf) (start .args .y) .coeffs) (c11 .load-pair .ensures .1)
+            (c11 .load-pair .ensures .0) (stands c6),
+      ),
+      omega (arith, g .room, l),
+    )
 
 returns : tie.Need-returns
 returns c =
     let c9 = c .before .before .before .before .before .before .before .before .before in
     let c14 = c9 .before .before .before .before .before in
     let start = c14 .before .before .before .before .before .before .before in
-    let g = start .pre .1 .1 .1 in (value-head (start .pre .0) (lying (start .args .xi) (start .args .coefficients .now) (take (start .args .at) (start .args .pool .now)) (start .args .xf) (start .args .x) .coeffs) (lying (start .args .yi) (start .args .coefficients .now) (take (start .args .at) (start .args .pool .now)) (start .args .yf) (start .args .y) .coeffs) (c14 .load-pair .ensures .1) (c14 .load-pair .ensures .0) (stands c9), value-kept (start .pre .0) (lying (start .args .xi) (start .args .coefficients .now) (take (start .args .at) (start .args .pool .now)) (start .args .xf) (start .args .x) .coeffs) (lying (start .args .yi) (start .args .coefficients .now) (take (start .args .at) (start .args .pool .now)) (start .args .yf) (start .args .y) .coeffs) (c14 .load-pair .ensures .1) (c14 .load-pair .ensures .0) (stands c9) (c .before .before .before .before .count-of .ensures) refl (part-kept (start .args .at) (start .args .at + start .args .n) (start .args .pool .now) (c9 .pair-front .last .1 .1 .1 .1 .1 .1 .1 .0) (c9 .pair-front .kept .1 .1 .1 .1 .1 .1 .1 .0 ∙ simp (length-take, length-drop) (omega (arith, g .room))) (omega arith) (g .room)) (c .before .before .pad .ensures))
+    let g = start .pre .1 .1 .1 in (
+      value-head (start .pre .0) (lying (start .args .xi) (start .args .coefficients .now)
+          (take (start .args .at) (start .args .pool .now)) (start .args .xf) (start .args .x) .coeffs)
+          (lying (start .args .yi) (start .args .coefficients .now) (take (start .args .at) (start .args .pool .now))
+          (start .args .yf) (start .args .y) .coeffs) (c14 .load-pair .ensures .1) (c14 .load-pair .ensures .0)
+          (stands c9),
+      value-kept (start .pre .0) (lying (start .args .xi) (start .args .coefficients .now)
+          (take (start .args .at) (start .args .pool .now)) (start .args .xf) (start .args .x) .coeffs)
+          (lying (start .args .yi) (start .args .coefficients .now) (take (start .args .at) (start .args .pool .now))
+          (start .args .yf) (start .args .y) .coeffs) (c14 .load-pair .ensures .1) (c14 .load-pair .ensures .0)
+          (stands c9) (c .before .before .before .before .count-of .ensures) refl
+          (part-kept (start .args .at) (start .args .at + start .args .n) (start .args .pool .now)
+          (c9 .pair-front .last .1 .1 .1 .1 .1 .1 .1 .0)
+          (c9 .pair-front .kept .1 .1 .1 .1 .1 .1 .1 .0 ∙ simp (length-take, length-drop) (omega (arith, g .room)))
+          (omega arith) (g .room)) (c .before .before .pad .ensures),
+    )
 
 pub pair-to-spec : {M : Type 1} → statement M
 pair-to-spec =

@@ -21,15 +21,21 @@ use Rattle.recipes_singles.proofs.changed.Reads as changed-reads
 
 part-is : (c : tie.After-operand) →
     let start = c .before .before .before .before .before in
-    c .operand .result .now ≡ take (stored (start .args .x)) (drop (start .args .from) (source (start .args .input) (start .args .coefficients .now) (start .args .pool .now)))
+    c .operand .result .now ≡ take (stored (start .args .x))
+    (drop (start .args .from) (source (start .args .input) (start .args .coefficients .now)
+    (start .args .pool .now)))
 part-is c =
     let start = c .before .before .before .before .before in
-    c .operand .ensures ∙ ap (λ (k : ℕ). take k (drop (start .args .from) (source (start .args .input) (start .args .coefficients .now) (start .args .pool .now)))) (c .before .stored-of .ensures)
+    c .operand .ensures
+    ∙ ap (λ (k : ℕ). take k (drop (start .args .from)
+    (source (start .args .input) (start .args .coefficients .now) (start .args .pool .now))))
+    (c .before .stored-of .ensures)
 
 part-full : (c : tie.After-operand) → length (c .operand .result .now) ≡ stored (c .before .before .before .before .before .args .x)
 part-full c =
     let start = c .before .before .before .before .before in
-    ap length (part-is c) ∙ length-operand (start .args .from) (stored (start .args .x)) (source (start .args .input) (start .args .coefficients .now) (start .args .pool .now)) (start .pre .1)
+    ap length (part-is c) ∙ length-operand (start .args .from) (stored (start .args .x))
+    (source (start .args .input) (start .args .coefficients .now) (start .args .pool .now)) (start .pre .1)
 
 stored-of-requires : tie.Need-stored-of-requires
 stored-of-requires c κs = search needs
@@ -46,8 +52,15 @@ same-length c = search needs
 returns : tie.Need-returns
 returns c =
     let c4 = c .before .before .before .before in
-    let start = c4 .before .before .before .before .before in
-    (c .before .before .changed .ensures .0 ∙ ap (λ (a : List Float). changedPoly (start .args .kind) (start .args .v) (start .args .d) (poly (start .args .x) a) .head) (part-is c4), c .before .before .changed .ensures .1 ∙ ap (λ (a : List Float). padded (stored (start .args .h)) (changedPoly (start .args .kind) (start .args .v) (start .args .d) (poly (start .args .x) a) .coeffs)) (part-is c4))
+    let start = c4 .before .before .before .before .before in (
+      c .before .before .changed .ensures .0 ∙ ap
+          (λ (a : List Float). changedPoly (start .args .kind) (start .args .v) (start .args .d)
+          (poly (start .args .x) a) .head) (part-is c4),
+      c .before .before .changed .ensures .1
+          ∙ ap (λ (a : List Float). padded (stored (start .args .h))
+          (changedPoly (start .args .kind) (start .args .v) (start .args .d) (poly (start .args .x) a) .coeffs))
+          (part-is c4),
+    )
 
 pub change-from-spec : {M : Type 1} → statement M
 change-from-spec =

@@ -28,14 +28,24 @@ slice-aggregate-change-from-2 c = sym (length-take-le _ _ (ends (c .before .befo
 
 change-from-requires : tie.Need-change-from-requires
 change-from-requires c κs =
-    let start = c .before .before .before .before .before in
-    (rw (length-take-le _ _ (ends start .1)) (start .pre .0), lies-source (start .args .coefficients .now) (take (start .args .at) (start .args .pool .now)) (start .pre .1 .0) (length-take-le _ _ (ends start .0)))
+    let start = c .before .before .before .before .before in (
+      rw (length-take-le _ _ (ends start .1)) (start .pre .0),
+      lies-source (start .args .coefficients .now) (take (start .args .at) (start .args .pool .now)) (start .pre .1 .0) (length-take-le _ _ (ends start .0)),
+    )
 
 returns : tie.Need-returns
 returns c =
     let c7 = c .before .before .before .before .before .before .before in
-    let start = c7 .before .before .before .before .before .before in
-    (c7 .change-from .ensures .0, front-kept (c7 .change-from .last .1 .1 .1 .1 .1 .1 .1 .1 .1 .0) (drop (start .args .n) (start .args .scratch .now)) (c .before .before .keep .ensures) (c7 .change-from .kept .1 .1 .1 .1 .1 .1 .1 .1 .1 .0 ∙ length-take-le _ _ (ends start .1)) (c7 .change-from .ensures .1 ∙ ap (λ (k : ℕ). padded k (changedPoly (start .args .kind) (start .args .v) (start .args .d) (lying (start .args .input) (start .args .coefficients .now) (take (start .args .at) (start .args .pool .now)) (start .args .from) (start .args .x)) .coeffs)) (sym (start .pre .0 .room))))
+    let start = c7 .before .before .before .before .before .before in (
+      c7 .change-from .ensures .0,
+      front-kept (c7 .change-from .last .1 .1 .1 .1 .1 .1 .1 .1 .1 .0)
+          (drop (start .args .n) (start .args .scratch .now)) (c .before .before .keep .ensures)
+          (c7 .change-from .kept .1 .1 .1 .1 .1 .1 .1 .1 .1 .0 ∙ length-take-le _ _ (ends start .1))
+          (c7 .change-from .ensures .1 ∙ ap (λ (k : ℕ).
+          padded k (changedPoly (start .args .kind) (start .args .v) (start .args .d)
+          (lying (start .args .input) (start .args .coefficients .now) (take (start .args .at) (start .args .pool .now))
+          (start .args .from) (start .args .x)) .coeffs)) (sym (start .pre .0 .room))),
+    )
 
 pub change-to-spec : {M : Type 1} → statement M
 change-to-spec =

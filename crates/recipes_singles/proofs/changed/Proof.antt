@@ -24,8 +24,11 @@ negate-into-requires c κs = same-room (c .before .before .before .before .pre) 
 returns : tie.Need-returns
 returns c =
     let c4 = c .before .before .before .before in
-    let start = c4 .before .before .before in
-    (same-head (start .pre) (c4 .if1 .taken) (start .args .a .now), c .before .before .negate-into .ensures ∙ same-places (start .pre) (c4 .if1 .taken) (start .args .a .now) (start .args .to .now) refl)
+    let start = c4 .before .before .before in (
+      same-head (start .pre) (c4 .if1 .taken) (start .args .a .now),
+      c .before .before .negate-into .ensures
+          ∙ same-places (start .pre) (c4 .if1 .taken) (start .args .a .now) (start .args .to .now) refl,
+    )
 
 shift-rows-requires : tie.Need-shift-rows-requires
 shift-rows-requires c κs = shifting (c .before .before .before .before .before .pre) (c .before .before .if1 .left)
@@ -34,8 +37,10 @@ returns-2 : tie.Need-returns-2
 returns-2 c =
     let c4 = c .before .before .before .before in
     let c5 = c4 .before in
-    let start = c5 .before .before .before in
-    (down-head (start .pre) (c5 .if1 .left) (c4 .if2 .taken) (start .args .a .now), down-places (start .pre) (c5 .if1 .left) (c4 .if2 .taken) (start .args .a .now) (c .before .before .shift-rows .ensures))
+    let start = c5 .before .before .before in (
+      down-head (start .pre) (c5 .if1 .left) (c4 .if2 .taken) (start .args .a .now),
+      down-places (start .pre) (c5 .if1 .left) (c4 .if2 .taken) (start .args .a .now) (c .before .before .shift-rows .ensures),
+    )
 
 take-rows-requires : tie.Need-take-rows-requires
 take-rows-requires c κs = shifting (c .before .before .before .before .before .pre) (c .before .before .if1 .left)
@@ -44,8 +49,13 @@ returns-3 : tie.Need-returns-3
 returns-3 c =
     let c4 = c .before .before .before .before in
     let c5 = c4 .before in
-    let start = c5 .before .before .before in
-    (c .before .before .take-rows .ensures .0 ∙ ap (λ (p : Poly). p .head) (scaled-is (start .pre) (c5 .if1 .left) (c4 .if2 .left) (start .args .a .now)), c .before .before .take-rows .ensures .1 ∙ ap (λ (p : Poly). padded (stored (start .args .r)) (p .coeffs)) (scaled-is (start .pre) (c5 .if1 .left) (c4 .if2 .left) (start .args .a .now)))
+    let start = c5 .before .before .before in (
+      c .before .before .take-rows .ensures .0
+          ∙ ap (λ (p : Poly). p .head) (scaled-is (start .pre) (c5 .if1 .left) (c4 .if2 .left) (start .args .a .now)),
+      c .before .before .take-rows .ensures .1
+          ∙ ap (λ (p : Poly). padded (stored (start .args .r)) (p .coeffs))
+          (scaled-is (start .pre) (c5 .if1 .left) (c4 .if2 .left) (start .args .a .now)),
+    )
 
 pub changed-spec : {M : Type 1} → statement M
 changed-spec =

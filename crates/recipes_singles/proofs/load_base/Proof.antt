@@ -19,15 +19,21 @@ use Rattle.recipes_operands.proofs.operand.Reads as operand-reads
 
 part-is : (c : tie.After-operand) →
     let start = c .before .before .before .before .before in
-    c .operand .result .now ≡ take (stored (start .args .x)) (drop (start .args .from) (source (start .args .input) (start .args .coefficients .now) (start .args .pool .now)))
+    c .operand .result .now ≡ take (stored (start .args .x))
+    (drop (start .args .from) (source (start .args .input) (start .args .coefficients .now)
+    (start .args .pool .now)))
 part-is c =
     let start = c .before .before .before .before .before in
-    c .operand .ensures ∙ ap (λ (k : ℕ). take k (drop (start .args .from) (source (start .args .input) (start .args .coefficients .now) (start .args .pool .now)))) (c .before .stored-of .ensures)
+    c .operand .ensures
+    ∙ ap (λ (k : ℕ). take k (drop (start .args .from)
+    (source (start .args .input) (start .args .coefficients .now) (start .args .pool .now))))
+    (c .before .stored-of .ensures)
 
 part-full : (c : tie.After-operand) → length (c .operand .result .now) ≡ stored (c .before .before .before .before .before .args .x)
 part-full c =
     let start = c .before .before .before .before .before in
-    ap length (part-is c) ∙ length-operand (start .args .from) (stored (start .args .x)) (source (start .args .input) (start .args .coefficients .now) (start .args .pool .now)) (start .pre .1 .1)
+    ap length (part-is c) ∙ length-operand (start .args .from) (stored (start .args .x))
+    (source (start .args .input) (start .args .coefficients .now) (start .args .pool .now)) (start .pre .1 .1)
 
 stored-of-requires : tie.Need-stored-of-requires
 stored-of-requires c κs = search needs

@@ -20,7 +20,8 @@ use Rattle.recipes_singles.proofs.load_base.Reads as load-base-reads
 ends : (c : tie.Start) → (c .args .at ≤ length (c .args .pool .now)) × (8 * c .args .n ≤ length (c .args .scratch .now))
 ends c = let g = c .pre .1 .1 in (omega (arith, g .room), g .spare)
 
-bounds : (c : tie.Start) → c .args .from + stored (c .args .x) ≤ length (source (c .args .input) (c .args .coefficients .now) (take (c .args .at) (c .args .pool .now)))
+bounds : (c : tie.Start) → c .args .from + stored (c .args .x)
+    ≤ length (source (c .args .input) (c .args .coefficients .now) (take (c .args .at) (c .args .pool .now)))
 bounds c = lies-source (c .args .coefficients .now) (take (c .args .at) (c .args .pool .now)) (c .pre .1 .0) (length-take-le _ _ (ends c .0))
 
 used : (c : tie.After-load-base) →
@@ -37,10 +38,14 @@ rooms c = simp length-append (omega (arith, used c))
 
 loaded : (c : tie.After-load-base) →
     let start = c .before .before .before .before .before .before .before .before in
-    Loaded (start .args .e) (lying (start .args .input) (start .args .coefficients .now) (take (start .args .at) (start .args .pool .now)) (start .args .from) (start .args .x) .coeffs) (take (8 * start .args .n) ((c .load-base .last .1 .1 .1 .1 .1 .1 .0) ++ drop (8 * start .args .n) (start .args .scratch .now)))
+    Loaded (start .args .e) (lying (start .args .input) (start .args .coefficients .now)
+    (take (start .args .at) (start .args .pool .now)) (start .args .from) (start .args .x) .coeffs)
+    (take (8 * start .args .n) ((c .load-base .last .1 .1 .1 .1 .1 .1 .0)
+    ++ drop (8 * start .args .n) (start .args .scratch .now)))
 loaded c =
     let start = c .before .before .before .before .before .before .before .before in
-    rw (take-at (c .load-base .last .1 .1 .1 .1 .1 .1 .0) (drop (8 * start .args .n) (start .args .scratch .now)) (8 * start .args .n) (used c)) (c .load-base .ensures)
+    rw (take-at (c .load-base .last .1 .1 .1 .1 .1 .1 .0) (drop (8 * start .args .n) (start .args .scratch .now))
+    (8 * start .args .n) (used c)) (c .load-base .ensures)
 
 slice-aggregate-load-base : tie.Need-slice-aggregate-load-base
 slice-aggregate-load-base c = sym (length-take-le _ _ (ends (c .before .before .before .before .before .before) .0))
@@ -59,14 +64,31 @@ slice-aggregate-power-loaded c = sym (length-take-le _ _ (rooms (c .before .befo
 power-loaded-requires : tie.Need-power-loaded-requires
 power-loaded-requires c κs =
     let start = c .before .before .before .before .before .before .before .before .before .before .before .before in
-    let g = start .pre .1 .1 in powering (start .pre .0) (length-take-le _ _ (rooms (c .before .before .before .before))) (simp (length-take, length-drop) (omega (arith, g .room)))
+    let g = start .pre .1 .1 in
+    powering (start .pre .0) (length-take-le _ _ (rooms (c .before .before .before .before)))
+    (simp (length-take, length-drop) (omega (arith, g .room)))
 
 returns : tie.Need-returns
 returns c =
     let c4 = c .before .before .before .before in
     let c9 = c4 .before .before .before .before .before in
     let start = c9 .before .before .before .before .before .before .before .before in
-    let g = start .pre .1 .1 in (power-head (start .pre .0) (lying (start .args .input) (start .args .coefficients .now) (take (start .args .at) (start .args .pool .now)) (start .args .from) (start .args .x) .coeffs) (loaded c9) (length-operand (start .args .from) (stored (start .args .x)) (source (start .args .input) (start .args .coefficients .now) (take (start .args .at) (start .args .pool .now))) (bounds start)) (c4 .power-loaded .ensures .0), kept-as (power-places (start .pre .0) (lying (start .args .input) (start .args .coefficients .now) (take (start .args .at) (start .args .pool .now)) (start .args .from) (start .args .x) .coeffs) (loaded c9) (length-operand (start .args .from) (stored (start .args .x)) (source (start .args .input) (start .args .coefficients .now) (take (start .args .at) (start .args .pool .now))) (bounds start)) (c4 .power-loaded .ensures .1)) (part-kept (start .args .at) (start .args .at + start .args .n) (start .args .pool .now) (c4 .power-loaded .last .1 .1 .1 .1 .1 .0) (c4 .power-loaded .kept .1 .1 .1 .1 .1 .0 ∙ simp (length-take, length-drop) (omega (arith, g .room))) (omega arith) (g .room)))
+    let g = start .pre .1 .1 in (
+      power-head (start .pre .0) (lying (start .args .input) (start .args .coefficients .now)
+          (take (start .args .at) (start .args .pool .now)) (start .args .from) (start .args .x) .coeffs) (loaded c9)
+          (length-operand (start .args .from) (stored (start .args .x))
+          (source (start .args .input) (start .args .coefficients .now) (take (start .args .at) (start .args .pool .now)))
+          (bounds start)) (c4 .power-loaded .ensures .0),
+      kept-as (power-places (start .pre .0) (lying (start .args .input) (start .args .coefficients .now)
+          (take (start .args .at) (start .args .pool .now)) (start .args .from) (start .args .x) .coeffs) (loaded c9)
+          (length-operand (start .args .from) (stored (start .args .x))
+          (source (start .args .input) (start .args .coefficients .now)
+          (take (start .args .at) (start .args .pool .now))) (bounds start)) (c4 .power-loaded .ensures .1))
+          (part-kept (start .args .at) (start .args .at + start .args .n) (start .args .pool .now)
+          (c4 .power-loaded .last .1 .1 .1 .1 .1 .0)
+          (c4 .power-loaded .kept .1 .1 .1 .1 .1 .0 ∙ simp (length-take, length-drop) (omega (arith, g .room)))
+          (omega arith) (g .room)),
+    )
 
 pub power-to-spec : {M : Type 1} → statement M
 power-to-spec =

@@ -22,7 +22,10 @@ none-requires c κs = search needs
 
 returns : tie.Need-returns
 unfolding headerOrNone
-returns c = (simp (sym (c .before .before .is-good .ensures) ∙ c .before .if1 .taken) (c .header-of .ensures), rw (c .header-of .ensures) (good-word _ (sym (c .before .before .is-good .ensures) ∙ c .before .if1 .taken) .regular))
+returns c = (
+  simp (sym (c .before .before .is-good .ensures) ∙ c .before .if1 .taken) (c .header-of .ensures),
+  rw (c .header-of .ensures) (good-word _ (sym (c .before .before .is-good .ensures) ∙ c .before .if1 .taken) .regular),
+)
 
 returns-2 : tie.Need-returns-2
 unfolding headerOrNone

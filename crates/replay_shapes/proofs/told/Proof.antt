@@ -17,7 +17,14 @@ announced-of-requires : tie.Need-announced-of-requires
 announced-of-requires c κs = search needs
 
 returns : tie.Need-returns
-returns c = ((rw (c .announced-of .ensures, c .before .before .header-or-none .ensures .0, c .before .header-or-none2 .ensures .0)), rw (c .announced-of .ensures) (announced-regular _ (c .before .before .header-or-none .ensures .1) (c .before .header-or-none2 .ensures .1)))
+returns c = (
+  (rw (
+    c .announced-of .ensures,
+    c .before .before .header-or-none .ensures .0,
+    c .before .header-or-none2 .ensures .0,
+  )),
+  rw (c .announced-of .ensures) (announced-regular _ (c .before .before .header-or-none .ensures .1) (c .before .header-or-none2 .ensures .1)),
+)
 
 pub told-spec : {M : Type 1} → statement M
 told-spec =

@@ -33,7 +33,8 @@ ready : (c : tie.Else1) →
     WorkReady Series (start .args .word) (length (start .args .a .now)) (length (start .args .out .now)) (length (start .args .scratch .now))
 ready c =
     let start = c .before .before .before .before .before .before in
-    work-ready _ _ _ _ _ (passes (c .before .before .work-gate .ensures) (announcedOne Series (start .args .word)) (logPoly (start .args .head) (held (start .args .word) (start .args .a .now))) (c .if1 .left))
+    work-ready _ _ _ _ _ (passes (c .before .before .work-gate .ensures) (announcedOne Series (start .args .word))
+    (logPoly (start .args .head) (held (start .args .word) (start .args .a .now))) (c .if1 .left))
 
 is-announced : (c : tie.After-announced-of) →
     let start = c .before .before .before .before .before .before .before .before .before in
@@ -52,12 +53,16 @@ counted c = c .stored-of2 .ensures ∙ ap stored (is-announced (c .before .befor
 fits : (c : tie.After-stored-of2) →
     let c12 = c .before .before .before .before .before .before .before .before .before .before .before .before in
     let start = c12 .before in
-    (c .before .stored-of .result ≤ length (start .args .a .now)) × (c .stored-of2 .result ≤ length (start .args .out .now)) × (8 * c .stored-of2 .result ≤ length (start .args .scratch .now))
+    (c .before .stored-of .result ≤ length (start .args .a .now))
+    × (c .stored-of2 .result ≤ length (start .args .out .now))
+    × (8 * c .stored-of2 .result ≤ length (start .args .scratch .now))
 fits c =
     let c12 = c .before .before .before .before .before .before .before .before .before .before .before .before in
     let start = c12 .before in
     let g = ready (c .before .before .before .before .before .before .before) in
-    let ea : c .before .stored-of .result ≡ stored (headerOf (start .args .word)) = c .before .stored-of .ensures ∙ ap stored (c .before .before .before .before .before .before .header-of .ensures) in
+    let ea : c .before .stored-of .result ≡ stored (headerOf (start .args .word)) =
+    c .before .stored-of .ensures ∙ ap stored
+    (c .before .before .before .before .before .before .header-of .ensures) in
     let en = counted c in
     (omega (arith, g .one .full), omega (arith, g .one .room), omega (arith, g .spare))
 
@@ -74,14 +79,29 @@ rooms c = simp length-append (omega (arith, used c))
 returns : tie.Need-returns
 unfolding logAnswer logOut seriesScratch
 returns c =
-    let start = c .before .before .before .before .before .before in
-    (refused-answer (c .before .before .work-gate .ensures) (announcedOne Series (start .args .word)) (logPoly (start .args .head) (held (start .args .word) (start .args .a .now))) (c .if1 .taken), (refused-out (c .before .before .work-gate .ensures) (announcedOne Series (start .args .word)) (logPoly (start .args .head) (held (start .args .word) (start .args .a .now))) (c .if1 .taken) (start .args .out .now), refused-scratch (c .before .before .work-gate .ensures) (announcedOne Series (start .args .word)) (logPoly (start .args .head) (held (start .args .word) (start .args .a .now))) (c .if1 .taken) (start .args .scratch .now)))
+    let start = c .before .before .before .before .before .before in (
+      refused-answer (c .before .before .work-gate .ensures) (announcedOne Series (start .args .word))
+          (logPoly (start .args .head) (held (start .args .word) (start .args .a .now))) (c .if1 .taken),
+      (
+        refused-out (c .before .before .work-gate .ensures) (announcedOne Series (start .args .word))
+            (logPoly (start .args .head) (held (start .args .word) (start .args .a .now))) (c .if1 .taken)
+            (start .args .out .now),
+        refused-scratch (c .before .before .work-gate .ensures) (announcedOne Series (start .args .word))
+            (logPoly (start .args .head) (held (start .args .word) (start .args .a .now))) (c .if1 .taken)
+            (start .args .scratch .now),
+      ),
+    )
 
 announced-of-requires : tie.Need-announced-of-requires
-announced-of-requires c κs = (rw (c .before .header-of .ensures) (ready (c .before .before) .one .good .regular .rules), rw (c .none .ensures) (none-regular .rules))
+announced-of-requires c κs = (
+  rw (c .before .header-of .ensures) (ready (c .before .before) .one .good .regular .rules),
+  rw (c .none .ensures) (none-regular .rules),
+)
 
 stored-of-requires : tie.Need-stored-of-requires
-stored-of-requires c κs = rw (c .before .before .before .before .header-of .ensures) (ready (c .before .before .before .before .before) .one .good .regular .rules)
+stored-of-requires c κs =
+    rw (c .before .before .before .before .header-of .ensures)
+    (ready (c .before .before .before .before .before) .one .good .regular .rules)
 
 stored-of-requires-2 : tie.Need-stored-of-requires-2
 stored-of-requires-2 c κs = ruled (c .before .before .before)
@@ -111,7 +131,12 @@ log-into-requires c κs =
     let c9 = c7 .before .before in
     let c10 = c9 .before in
     let start = c10 .before .before .before .before .before .before in
-    let f = fits c3 in (entry-whole (ready c10) (c9 .header-of .ensures) (is-announced c7) (c .before .before .before .before .stored-of .ensures) (c3 .stored-of2 .ensures) (length-take-le _ _ (f .0)) (length-take-le _ _ (f .1)) (length-take-le _ _ (f .2)), entry-long (start .args .head) (start .args .word) (start .args .a .now) (c9 .header-of .ensures) (is-announced c7))
+    let f = fits c3 in (
+      entry-whole (ready c10) (c9 .header-of .ensures) (is-announced c7)
+          (c .before .before .before .before .stored-of .ensures) (c3 .stored-of2 .ensures) (length-take-le _ _ (f .0))
+          (length-take-le _ _ (f .1)) (length-take-le _ _ (f .2)),
+      entry-long (start .args .head) (start .args .word) (start .args .a .now) (c9 .header-of .ensures) (is-announced c7),
+    )
 
 slice-relend-prefix-clear : tie.Need-slice-relend-prefix-clear
 slice-relend-prefix-clear c = rooms (c .before .before .before .before)
@@ -135,8 +160,24 @@ returns-2 c =
     let c19 = c17 .before .before in
     let c20 = c19 .before in
     let c22 = c20 .before .before in
-    let start = c22 .before .before .before .before in
-    (done-answer (c22 .work-gate .ensures) (announcedOne Series (start .args .word)) (logPoly (start .args .head) (held (start .args .word) (start .args .a .now))) (c20 .if1 .left) (c .pack .ensures ∙ ap wordOf (log-head (start .args .head) (start .args .word) (start .args .a .now) (c19 .header-of .ensures) (is-announced c17))), (done-full (c22 .work-gate .ensures) (announcedOne Series (start .args .word)) (logPoly (start .args .head) (held (start .args .word) (start .args .a .now))) (c20 .if1 .left) (start .args .out .now) (counted c13) (log-coeffs (start .args .head) (start .args .word) (start .args .a .now) (c19 .header-of .ensures) (is-announced c17) (c14 .stored-of .ensures) (c9 .log-into .ensures)) (c9 .log-into .kept .1 .1 .1 .1 .1 .0 ∙ length-take-le _ _ (fits c13 .1)), done-scratch (c22 .work-gate .ensures) (announcedOne Series (start .args .word)) (logPoly (start .args .head) (held (start .args .word) (start .args .a .now))) (c20 .if1 .left) (start .args .scratch .now) (c9 .log-into .last .1 .1 .1 .1 .1 .1 .0) (ap (λ (k : ℕ). 8 * k) (counted c13)) (used c9) (c .before .before .before .clear .ensures) (length-take-le _ _ (rooms c9))))
+    let start = c22 .before .before .before .before in (
+      done-answer (c22 .work-gate .ensures) (announcedOne Series (start .args .word))
+          (logPoly (start .args .head) (held (start .args .word) (start .args .a .now))) (c20 .if1 .left)
+          (c .pack .ensures
+          ∙ ap wordOf (log-head (start .args .head) (start .args .word) (start .args .a .now) (c19 .header-of .ensures)
+          (is-announced c17))),
+      (
+        done-full (c22 .work-gate .ensures) (announcedOne Series (start .args .word))
+            (logPoly (start .args .head) (held (start .args .word) (start .args .a .now))) (c20 .if1 .left)
+            (start .args .out .now) (counted c13) (log-coeffs (start .args .head) (start .args .word)
+            (start .args .a .now) (c19 .header-of .ensures) (is-announced c17) (c14 .stored-of .ensures)
+            (c9 .log-into .ensures)) (c9 .log-into .kept .1 .1 .1 .1 .1 .0 ∙ length-take-le _ _ (fits c13 .1)),
+        done-scratch (c22 .work-gate .ensures) (announcedOne Series (start .args .word))
+            (logPoly (start .args .head) (held (start .args .word) (start .args .a .now))) (c20 .if1 .left)
+            (start .args .scratch .now) (c9 .log-into .last .1 .1 .1 .1 .1 .1 .0) (ap (λ (k : ℕ). 8 * k) (counted c13))
+            (used c9) (c .before .before .before .clear .ensures) (length-take-le _ _ (rooms c9)),
+      ),
+    )
 
 pub log-spec : {M : Type 1} → statement M
 log-spec =

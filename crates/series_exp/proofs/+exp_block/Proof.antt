@@ -43,7 +43,8 @@ exp-block-same-length t c = simp length-set
 exp-block-returns : (t : ℕ) → exp-block-lts.Need-returns (exp-block-claims t) (exp-block-at t) exp-block.Post
 exp-block-returns t c =
     let start = c .before .before .before .before in
-    block-none (start .args .head) (start .args .lx) (start .args .r) (start .args .xs .now) (start .args .work .now) (c .if1 .taken) (room t start (c .if1 .taken))
+    block-none (start .args .head) (start .args .lx) (start .args .r) (start .args .xs .now) (start .args .work .now)
+    (c .if1 .taken) (room t start (c .if1 .taken))
 
 exp-block-add-exp-block : (t : ℕ) → exp-block-lts.Need-add-exp-block (exp-block-claims t) (exp-block-at t) exp-block.Post
 exp-block-add-exp-block t c = omega (arith, (c .before .before .before .before) .pre .1 .1 .within)
@@ -57,8 +58,14 @@ exp-block-exp-rows-requires : (t : ℕ) → exp-block-lts.Need-exp-rows-requires
 exp-block-exp-rows-requires t c κs =
     let c6 = c .before .before .before .before .before .before in
     let c9 = c6 .before .before .before in
-    let start = c9 .before .before .before .before in
-    (start .pre .1 .0, (room-same (start .pre .1 .1) (c6 .exp-block .kept .1 .1 .1 .1 .1 .1 .1 .1 .0) (c6 .exp-block .kept .1 .1 .1 .1 .1 .1 .1 .1 .1 .0), some t start (c9 .if1 .left)))
+    let start = c9 .before .before .before .before in (
+      start .pre .1 .0,
+      (
+        room-same (start .pre .1 .1) (c6 .exp-block .kept .1 .1 .1 .1 .1 .1 .1 .1 .0)
+            (c6 .exp-block .kept .1 .1 .1 .1 .1 .1 .1 .1 .1 .0),
+        some t start (c9 .if1 .left),
+      ),
+    )
 
 exp-block-same-length-2 : (t : ℕ) → exp-block-lts.Need-same-length-2 (exp-block-claims t) (exp-block-at t) exp-block.Post
 exp-block-same-length-2 t c = search needs
@@ -72,7 +79,9 @@ exp-block-returns-2 t c =
     let c11 = c4 .before .before .before .before .before .before .before in
     let c14 = c11 .before .before .before in
     let start = c14 .before .before .before .before in
-    block-more (start .args .head) (start .args .lx) (start .args .r) (start .args .xs .now) (c11 .exp-block .last .1 .1 .1 .1 .1 .1 .1 .1 .0) (c4 .exp-rows .last .1 .1 .1 .1 .1 .1 .1 .0) (some t start (c14 .if1 .left)) (start .pre .1 .1 .operand) (c11 .exp-block .ensures) (c4 .exp-rows .ensures)
+    block-more (start .args .head) (start .args .lx) (start .args .r) (start .args .xs .now)
+    (c11 .exp-block .last .1 .1 .1 .1 .1 .1 .1 .1 .0) (c4 .exp-rows .last .1 .1 .1 .1 .1 .1 .1 .0)
+    (some t start (c14 .if1 .left)) (start .pre .1 .1 .operand) (c11 .exp-block .ensures) (c4 .exp-rows .ensures)
 
 pub +exp-block-spec : {M : Type 1} → statement M
 +exp-block-spec = close μ-exp-block λ t. exp-block-lts.spec (exp-block-claims t)

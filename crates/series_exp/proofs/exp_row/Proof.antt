@@ -41,8 +41,14 @@ part-gather-end-2 c =
 
 gather-requires : tie.Need-gather-requires
 gather-requires c κs =
-    let start = c .before .before .before .before .before .before in
-    (start .pre .0, row-gathers (start .pre .1) (length-part (start .args .n) (start .args .e) (start .args .work .now) (let z = start .pre .1 .ends in omega arith) (start .pre .1 .room)) (length-part 0 (start .args .k * at (start .args .t7) (start .args .v)) (start .args .work .now) (omega arith) (omega (arith, fits start, start .pre .1 .ends, start .pre .1 .room)) ∙ rw (stride-at (start .args .r) (start .pre .0 .strided .by-r) (start .pre .1 .some)) (omega arith)) refl)
+    let start = c .before .before .before .before .before .before in (
+      start .pre .0,
+      row-gathers (start .pre .1) (length-part (start .args .n) (start .args .e) (start .args .work .now)
+          (let z = start .pre .1 .ends in omega arith) (start .pre .1 .room))
+          (length-part 0 (start .args .k * at (start .args .t7) (start .args .v)) (start .args .work .now) (omega arith)
+          (omega (arith, fits start, start .pre .1 .ends, start .pre .1 .room))
+          ∙ rw (stride-at (start .args .r) (start .pre .0 .strided .by-r) (start .pre .1 .some)) (omega arith)) refl,
+    )
 
 divide-by-requires : tie.Need-divide-by-requires
 divide-by-requires c κs =
@@ -65,13 +71,28 @@ copy-requires : tie.Need-copy-requires
 copy-requires c κs =
     let c12 = c .before .before .before .before .before .before .before .before .before .before .before .before in
     let start = c12 .before .before .before in
-    let s : ℕ = at (start .args .t7) (start .args .v) in let z = length-part (start .args .k * s) (start .args .k * s + s) (start .args .work .now) (omega arith) (omega (arith, fits start, start .pre .1 .ends, start .pre .1 .room)) in omega (arith, z, made (c .before .before .before .before), stride-at (start .args .r) (start .pre .0 .strided .by-r) (start .pre .1 .some))
+    let s : ℕ = at (start .args .t7) (start .args .v) in
+    let z =
+    length-part (start .args .k * s) (start .args .k * s + s) (start .args .work .now) (omega arith)
+    (omega (arith, fits start, start .pre .1 .ends, start .pre .1 .room)) in
+    omega (
+      arith,
+      z,
+      made (c .before .before .before .before),
+      stride-at (start .args .r) (start .pre .0 .strided .by-r) (start .pre .1 .some),
+    )
 
 returns : tie.Need-returns
 returns c =
     let c11 = c .before .before .before .before .before .before .before .before .before .before .before in
     let start = c11 .before .before .before .before .before .before .before in
-    let s : ℕ = at (start .args .t7) (start .args .v) in let d : start .args .k * s + s - start .args .k * s ≡ s = omega arith in row-kept (start .pre .0) (start .args .work .now) (start .pre .1) (c11 .gather .ensures) (c .before .before .before .before .before .before .before .divide-by .ensures) (c .before .before .copy .ensures) (length-part (start .args .k * s) (start .args .k * s + s) (start .args .work .now) (omega arith) (omega (arith, fits start, start .pre .1 .ends, start .pre .1 .room)) ∙ d) d
+    let s : ℕ = at (start .args .t7) (start .args .v) in
+    let d : start .args .k * s + s - start .args .k * s ≡ s = omega arith in
+    row-kept (start .pre .0) (start .args .work .now) (start .pre .1) (c11 .gather .ensures)
+    (c .before .before .before .before .before .before .before .divide-by .ensures)
+    (c .before .before .copy .ensures) (length-part (start .args .k * s) (start .args .k * s + s)
+    (start .args .work .now) (omega arith) (omega (arith, fits start, start .pre .1 .ends, start .pre .1 .room))
+    ∙ d) d
 
 pub exp-row-spec : {M : Type 1} → statement M
 exp-row-spec =

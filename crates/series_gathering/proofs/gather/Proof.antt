@@ -31,7 +31,8 @@ slice-write-row c =
 returns : tie.Need-returns
 returns c =
     let start = c .before .before .before .before .before .before in
-    sum-is (start .pre .0) (start .pre .1) (c .before .if1 .taken) (start .args .xs .now) (start .args .done .now) (start .args .row .now) (c .before .before .upto .ensures) refl (c .sum-on .ensures)
+    sum-is (start .pre .0) (start .pre .1) (c .before .if1 .taken) (start .args .xs .now) (start .args .done .now)
+    (start .args .row .now) (c .before .before .upto .ensures) refl (c .sum-on .ensures)
 
 gather-rows-requires : tie.Need-gather-rows-requires
 gather-rows-requires c κs =
@@ -41,7 +42,9 @@ gather-rows-requires c κs =
 returns-2 : tie.Need-returns-2
 returns-2 c =
     let start = c .before .before .before .before .before .before .before .before .before in
-    c .before .before .gather-rows .ensures ∙ ap (λ (b : ℕ). gathered false (start .args .t2) (start .args .r) (start .args .v) (start .args .k) 1 b (start .args .xs .now) (start .args .done .now)) (c .before .before .before .before .before .upto .ensures)
+    c .before .before .gather-rows .ensures ∙ ap
+    (λ (b : ℕ). gathered false (start .args .t2) (start .args .r) (start .args .v) (start .args .k) 1 b
+    (start .args .xs .now) (start .args .done .now)) (c .before .before .before .before .before .upto .ensures)
 
 pub gather-spec : {M : Type 1} → statement M
 gather-spec =

@@ -28,21 +28,24 @@ left : (c : tie.After-left-row Inv-loop μ-loop) →
     c .left-row .result * at (start .args .t4) (start .args .v) + at (start .args .t4) (start .args .v) ≤ length (start .args .xs .now)
 left c =
     let start = c .before .before .before .before .before .before .before .before .before .before in
-    left-in (start .pre .0) (start .args .xs .now) (start .args .ys .now) (start .pre .1 .0) (start .pre .1 .1) (c .before .before .loop .inv .1 .from) (c .before .loop-test .taken) (c .left-row .ensures)
+    left-in (start .pre .0) (start .args .xs .now) (start .args .ys .now) (start .pre .1 .0) (start .pre .1 .1)
+    (c .before .before .loop .inv .1 .from) (c .before .loop-test .taken) (c .left-row .ensures)
 
 right : (c : tie.After-left-row Inv-loop μ-loop) →
     let start = c .before .before .before .before .before .before .before .before .before .before in
     (start .args .k - c .left-row .result) * at (start .args .t7) (start .args .v) + at (start .args .t7) (start .args .v) ≤ length (start .args .ys .now)
 right c =
     let start = c .before .before .before .before .before .before .before .before .before .before in
-    right-in (start .pre .0) (start .args .xs .now) (start .args .ys .now) (start .pre .1 .0) (start .pre .1 .1) (c .before .before .loop .inv .1 .from) (c .before .loop-test .taken) (c .left-row .ensures)
+    right-in (start .pre .0) (start .args .xs .now) (start .args .ys .now) (start .pre .1 .0) (start .pre .1 .1)
+    (c .before .before .loop .inv .1 .from) (c .before .loop-test .taken) (c .left-row .ensures)
 
 under : (c : tie.After-left-row Inv-loop μ-loop) →
     let start = c .before .before .before .before .before .before .before .before .before .before in
     c .left-row .result ≤ start .args .k
 under c =
     let start = c .before .before .before .before .before .before .before .before .before .before in
-    below (start .pre .0) (start .args .xs .now) (start .args .ys .now) (start .pre .1 .0) (start .pre .1 .1) (c .before .before .loop .inv .1 .from) (c .before .loop-test .taken) (c .left-row .ensures)
+    below (start .pre .0) (start .args .xs .now) (start .args .ys .now) (start .pre .1 .0) (start .pre .1 .1)
+    (c .before .before .loop .inv .1 .from) (c .before .loop-test .taken) (c .left-row .ensures)
 
 add-w : tie.Need-add-w Inv-loop μ-loop
 add-w c = let h = (c .before .before .before .before .before .before .before) .pre .1 .0 .some in omega arith
@@ -60,7 +63,11 @@ array-read-s : tie.Need-array-read-s Inv-loop μ-loop
 array-read-s c = let h = (c .before .before .before .before .before .before .before) .pre .1 .0 .some in omega arith
 
 loop-holds : tie.Need-loop-holds Inv-loop μ-loop
-loop-holds c = (omega arith, paired-none (ap length (c .before .before .clear .ensures) ∙ (length-table _ _ ∙ (c .before .before .before .before .before .before .before) .pre .1 .0 .full)))
+loop-holds c = (
+  omega arith,
+  paired-none (ap length (c .before .before .clear .ensures)
+      ∙ (length-table _ _ ∙ (c .before .before .before .before .before .before .before) .pre .1 .0 .full)),
+)
 
 left-row-requires : tie.Need-left-row-requires Inv-loop μ-loop
 left-row-requires c κs =
@@ -109,14 +116,23 @@ part-rows-end-2 c = omega (arith, right (c .before))
 rows-requires : tie.Need-rows-requires Inv-loop μ-loop
 rows-requires c κs =
     let c5 = c .before .before .before .before .before in
-    let start = c5 .before .before .before .before .before .before .before .before in
-    (start .pre .0, gathers (start .pre .0) (start .args .xs .now) (start .args .ys .now) (start .pre .1 .0) (start .pre .1 .1) (c5 .loop .inv .1 .from) (c .before .before .before .before .loop-test .taken) (c .before .before .before .left-row .ensures) (c5 .loop .inv .1 .len))
+    let start = c5 .before .before .before .before .before .before .before .before in (
+      start .pre .0,
+      gathers (start .pre .0) (start .args .xs .now) (start .args .ys .now) (start .pre .1 .0) (start .pre .1 .1)
+          (c5 .loop .inv .1 .from) (c .before .before .before .before .loop-test .taken)
+          (c .before .before .before .left-row .ensures) (c5 .loop .inv .1 .len),
+    )
 
 add-j : tie.Need-add-j Inv-loop μ-loop
 add-j c =
     let c12 = c .before .before .before .before .before .before .before .before .before .before .before .before in
     let start = c12 .before .before .before .before in
-    omega (arith, start .pre .1 .1 .turns, c .before .before .before .before .before .before .before .loop-test .taken, row-small (start .pre .0 .result) (start .pre .1 .0 .some) (start .pre .1 .0 .turn))
+    omega (
+      arith,
+      start .pre .1 .1 .turns,
+      c .before .before .before .before .before .before .before .loop-test .taken,
+      row-small (start .pre .0 .result) (start .pre .1 .0 .some) (start .pre .1 .0 .turn),
+    )
 
 loop-less : tie.Need-loop-less Inv-loop μ-loop
 loop-less c = omega (arith, c .before .before .before .before .before .before .before .loop-test .taken)
@@ -126,7 +142,13 @@ loop-again c =
     let c7 = c .before .before .before .before .before .before .before in
     let c8 = c7 .before in
     let start = c8 .before .before .before .before .before .before .before .before in
-    let f = c8 .loop .inv .1 .from in (omega (arith, c7 .loop-test .taken), paired-more (c8 .loop .inv .1) (gather-step (start .pre .0) (start .args .xs .now) (start .args .ys .now) (start .pre .1 .0) (start .pre .1 .1) (c8 .loop .inv .1 .from) (c7 .loop-test .taken) (c .before .before .before .before .before .before .left-row .ensures) (c8 .loop .row) (c .before .before .rows .ensures)))
+    let f = c8 .loop .inv .1 .from in (
+      omega (arith, c7 .loop-test .taken),
+      paired-more (c8 .loop .inv .1) (gather-step (start .pre .0) (start .args .xs .now) (start .args .ys .now)
+          (start .pre .1 .0) (start .pre .1 .1) (c8 .loop .inv .1 .from) (c7 .loop-test .taken)
+          (c .before .before .before .before .before .before .left-row .ensures) (c8 .loop .row)
+          (c .before .before .rows .ensures)),
+    )
 
 same-length : tie.Need-same-length Inv-loop μ-loop
 same-length c =
@@ -136,7 +158,11 @@ same-length c =
 returns : tie.Need-returns Inv-loop μ-loop
 returns c =
     let start = c .before .before .before .before .before .before .before .before .before in
-    let f = c .before .loop .inv .1 .from in gather-end (start .args .back) (start .args .lx) (start .args .r) (start .args .v) (start .args .k) (start .args .lo) (start .args .hi) (start .args .xs .now) (start .args .ys .now) (c .before .loop .inv .1) (c .before .before .before .before .clear .ensures) (start .pre .1 .0 .full) (omega (arith, c .before .loop .inv .0, c .loop-test .left))
+    let f = c .before .loop .inv .1 .from in
+    gather-end (start .args .back) (start .args .lx) (start .args .r) (start .args .v) (start .args .k)
+    (start .args .lo) (start .args .hi) (start .args .xs .now) (start .args .ys .now) (c .before .loop .inv .1)
+    (c .before .before .before .before .clear .ensures) (start .pre .1 .0 .full)
+    (omega (arith, c .before .loop .inv .0, c .loop-test .left))
 
 pub gather-rows-spec : {M : Type 1} → statement M
 gather-rows-spec =

@@ -31,7 +31,10 @@ same-length-2 c = search needs
 returns : tie.Need-returns
 returns c =
     let start = c .before .before .before .before .before .before .before .before .before .before .before .before in
-    c .before .before .join-block .ensures ∙ ap (λ (l : List Float). table (count (start .args .ar)) (λ i. joinAt false (getD (start .args .row .now) i nan) (block (start .args .ax) l) (index (start .args .ar) i))) (c .before .before .before .before .before .before .before .multiply .ensures)
+    c .before .before .join-block .ensures ∙ ap
+    (λ (l : List Float). table (count (start .args .ar))
+    (λ i. joinAt false (getD (start .args .row .now) i nan) (block (start .args .ax) l)
+    (index (start .args .ar) i))) (c .before .before .before .before .before .before .before .multiply .ensures)
 
 pub add-operand-spec : {M : Type 1} → statement M
 add-operand-spec =

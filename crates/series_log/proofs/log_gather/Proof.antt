@@ -53,14 +53,26 @@ part-gather-rows-end c =
 
 gather-rows-requires : tie.Need-gather-rows-requires
 gather-rows-requires c κs =
-    let start = c .before .before .before .before .before .before .before in
-    (start .pre .0 .strided, (log-gathers (start .pre .0) (start .pre .1) (length-part (start .args .n) (start .args .n + start .args .k * (at (start .args .t5) (start .args .v))) (start .args .work .now) (omega arith) (omega (arith, log-fits (start .pre .0) (start .pre .1), (start .pre .1) .work))) refl, log-reach (some-rows (start .pre .0) (start .pre .1)) (c .before .before .before .first-turn .ensures)))
+    let start = c .before .before .before .before .before .before .before in (
+      start .pre .0 .strided,
+      (
+        log-gathers (start .pre .0) (start .pre .1)
+            (length-part (start .args .n) (start .args .n + start .args .k * (at (start .args .t5) (start .args .v)))
+            (start .args .work .now) (omega arith) (omega
+            (arith, log-fits (start .pre .0) (start .pre .1), (start .pre .1) .work))) refl,
+        log-reach (some-rows (start .pre .0) (start .pre .1)) (c .before .before .before .first-turn .ensures),
+      ),
+    )
 
 returns : tie.Need-returns
 returns c =
     let c11 = c .before .before .before .before .before .before .before .before .before .before .before in
-    let start = c11 .before .before .before .before in
-    (left-short (start .pre .0) (start .pre .1) (start .args .xs .now) (start .args .work .now) (c11 .first-turn .ensures) (c .before .before .before .before .before .before .before .gather-rows .ensures) (c .before .before .before .turn .ensures) (c .if1 .taken), below-same)
+    let start = c11 .before .before .before .before in (
+      left-short (start .pre .0) (start .pre .1) (start .args .xs .now) (start .args .work .now)
+          (c11 .first-turn .ensures) (c .before .before .before .before .before .before .before .gather-rows .ensures)
+          (c .before .before .before .turn .ensures) (c .if1 .taken),
+      below-same,
+    )
 
 mul-from : tie.Need-mul-from
 mul-from c =
@@ -111,7 +123,28 @@ add-operand-requires c κs =
     let c5 = c .before .before .before .before .before in
     let c8 = c5 .before .before .before in
     let start = c8 .before .before .before .before .before .before .before .before .before .before .before .before in
-    let d : (start .args .k) * (at (start .args .t3) (start .args .v)) + (at (start .args .t3) (start .args .v)) - start .args .k * (at (start .args .t3) (start .args .v)) ≡ (at (start .args .t3) (start .args .v)) = omega arith in let e : 2 * start .args .n + (at (start .args .t3) (start .args .v)) - 2 * start .args .n ≡ (at (start .args .t3) (start .args .v)) = omega arith in (row-small (start .pre .0 .strided .result) (start .pre .1 .some) (start .pre .1 .turn), ((length-part (2 * start .args .n) (2 * start .args .n + (at (start .args .t3) (start .args .v))) (start .args .work .now) (omega arith) (omega (arith, operand-less (start .pre .0) (start .pre .1), (start .pre .1) .work)) ∙ e) ∙ sym (length-part (start .args .k * (at (start .args .t3) (start .args .v))) (start .args .k * (at (start .args .t3) (start .args .v)) + (at (start .args .t3) (start .args .v))) (start .args .xs .now) (omega arith) (omega (arith, operand-in (start .pre .0) (start .pre .1) (c5 .if1 .left))) ∙ d), joins (start .pre .0) (start .pre .1) (c .before .before .before .before .after-of .ensures) (c .before .before .before .after-of2 .ensures) (length-part (start .args .k * (at (start .args .t3) (start .args .v))) (start .args .k * (at (start .args .t3) (start .args .v)) + (at (start .args .t3) (start .args .v))) (start .args .xs .now) (omega arith) (omega (arith, operand-in (start .pre .0) (start .pre .1) (c5 .if1 .left))) ∙ d) (made c8)))
+    let d : (start .args .k) * (at (start .args .t3) (start .args .v)) + (at (start .args .t3) (start .args .v))
+    - start .args .k * (at (start .args .t3) (start .args .v))
+    ≡ (at (start .args .t3) (start .args .v)) = omega arith in
+    let e : 2 * start .args .n + (at (start .args .t3) (start .args .v)) - 2 * start .args .n
+    ≡ (at (start .args .t3) (start .args .v)) = omega arith in (
+      row-small (start .pre .0 .strided .result) (start .pre .1 .some) (start .pre .1 .turn),
+      (
+        (length-part (2 * start .args .n) (2 * start .args .n + (at (start .args .t3) (start .args .v)))
+            (start .args .work .now) (omega arith) (omega
+            (arith, operand-less (start .pre .0) (start .pre .1), (start .pre .1) .work)) ∙ e)
+            ∙ sym (length-part (start .args .k * (at (start .args .t3) (start .args .v)))
+            (start .args .k * (at (start .args .t3) (start .args .v)) + (at (start .args .t3) (start .args .v)))
+            (start .args .xs .now) (omega arith) (omega
+            (arith, operand-in (start .pre .0) (start .pre .1) (c5 .if1 .left))) ∙ d),
+        joins (start .pre .0) (start .pre .1) (c .before .before .before .before .after-of .ensures)
+            (c .before .before .before .after-of2 .ensures)
+            (length-part (start .args .k * (at (start .args .t3) (start .args .v)))
+            (start .args .k * (at (start .args .t3) (start .args .v)) + (at (start .args .t3) (start .args .v)))
+            (start .args .xs .now) (omega arith) (omega
+            (arith, operand-in (start .pre .0) (start .pre .1) (c5 .if1 .left))) ∙ d) (made c8),
+      ),
+    )
 
 same-length-4 : tie.Need-same-length-4
 same-length-4 c =
@@ -130,7 +163,23 @@ returns-2 c =
     let c17 = c13 .before .before .before .before in
     let c21 = c17 .before .before .before .before in
     let start = c21 .before .before .before .before in
-    let d : (start .args .k) * (at (start .args .t3) (start .args .v)) + (at (start .args .t3) (start .args .v)) - start .args .k * (at (start .args .t3) (start .args .v)) ≡ (at (start .args .t3) (start .args .v)) = omega arith in let e : 2 * start .args .n + (at (start .args .t3) (start .args .v)) - 2 * start .args .n ≡ (at (start .args .t3) (start .args .v)) = omega arith in (left-long (start .pre .0) (start .pre .1) (start .args .xs .now) (start .args .work .now) (c21 .first-turn .ensures) (c17 .gather-rows .ensures) (c13 .turn .ensures) (c10 .if1 .left) (c9 .after-of .ensures) (c8 .after-of2 .ensures) (operand-row (start .pre .0) (start .pre .1) (start .args .xs .now)) (c4 .add-operand .ensures), kept-put (2 * start .args .n) (2 * start .args .n + (at (start .args .t3) (start .args .v))) (start .args .work .now) {xs = c4 .add-operand .last .1 .1 .1 .1 .0} (c4 .add-operand .kept .1 .1 .1 .1 .0 ∙ ((length-part (2 * start .args .n) (2 * start .args .n + (at (start .args .t3) (start .args .v))) (start .args .work .now) (omega arith) (omega (arith, operand-less (start .pre .0) (start .pre .1), (start .pre .1) .work)) ∙ e) ∙ sym e)) (omega arith) (omega (arith, operand-less (start .pre .0) (start .pre .1), (start .pre .1) .work)) refl .below)
+    let d : (start .args .k) * (at (start .args .t3) (start .args .v)) + (at (start .args .t3) (start .args .v))
+    - start .args .k * (at (start .args .t3) (start .args .v))
+    ≡ (at (start .args .t3) (start .args .v)) = omega arith in
+    let e : 2 * start .args .n + (at (start .args .t3) (start .args .v)) - 2 * start .args .n
+    ≡ (at (start .args .t3) (start .args .v)) = omega arith in (
+      left-long (start .pre .0) (start .pre .1) (start .args .xs .now) (start .args .work .now)
+          (c21 .first-turn .ensures) (c17 .gather-rows .ensures) (c13 .turn .ensures) (c10 .if1 .left)
+          (c9 .after-of .ensures) (c8 .after-of2 .ensures)
+          (operand-row (start .pre .0) (start .pre .1) (start .args .xs .now)) (c4 .add-operand .ensures),
+      kept-put (2 * start .args .n) (2 * start .args .n + (at (start .args .t3) (start .args .v)))
+          (start .args .work .now) {xs = c4 .add-operand .last .1 .1 .1 .1 .0}
+          (c4 .add-operand .kept .1 .1 .1 .1 .0
+          ∙ ((length-part (2 * start .args .n) (2 * start .args .n + (at (start .args .t3) (start .args .v)))
+          (start .args .work .now) (omega arith) (omega
+          (arith, operand-less (start .pre .0) (start .pre .1), (start .pre .1) .work)) ∙ e) ∙ sym e)) (omega arith)
+          (omega (arith, operand-less (start .pre .0) (start .pre .1), (start .pre .1) .work)) refl .below,
+    )
 
 pub log-gather-spec : {M : Type 1} → statement M
 log-gather-spec =

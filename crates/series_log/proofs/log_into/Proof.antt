@@ -14,7 +14,10 @@ returns : tie.Need-returns
 returns c =
     let c9 = c .before .before .before .before .before .before .before .before .before in
     let start = c9 .before .before .before .before .before .before .before .before in
-    c .before .before .copy .ensures ∙ (ap (λ (i : ℕ). take i (c9 .log-block .last .1 .1 .1 .1 .1 .1 .1 .1 .0)) (c9 .log-block .kept .1 .1 .1 .1 .1 .1 .1 .1 .1 .0 ∙ (start .pre .0 .out ∙ start .pre .0 .all)) ∙ c9 .log-block .ensures)
+    c .before .before .copy .ensures
+    ∙ (ap (λ (i : ℕ). take i (c9 .log-block .last .1 .1 .1 .1 .1 .1 .1 .1 .0))
+    (c9 .log-block .kept .1 .1 .1 .1 .1 .1 .1 .1 .1 .0 ∙ (start .pre .0 .out ∙ start .pre .0 .all))
+    ∙ c9 .log-block .ensures)
 
 pub log-into-spec : {M : Type 1} → statement M
 log-into-spec =

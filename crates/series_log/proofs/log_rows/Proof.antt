@@ -18,17 +18,24 @@ use Rattle.series_log.proofs.log_rows.Lts as lts
 use Rattle.series_log.proofs.log_row.Reads as log-row-reads
 
 abbrev Inv-loop : tie.InvT-loop
-Inv-loop xs lx sx v n work₀ row₀ r sr s m k₀ work row k = (k ≤ m) × (LogStacked (inRow r v) (logStep lx r v xs) (take (inRow r v) work₀) n (length work₀) k work × (length row ≡ length row₀))
+Inv-loop xs lx sx v n work₀ row₀ r sr s m k₀ work row k =
+    (k ≤ m) × (LogStacked (inRow r v) (logStep lx r v xs) (take (inRow r v) work₀) n (length work₀) k work
+    × (length row ≡ length row₀))
 
 abbrev μ-loop : tie.MeasureT-loop
 μ-loop xs lx sx v n work₀ row₀ r sr s m k₀ work row k = m - k
 
 room : (c : tie.In-loop Inv-loop μ-loop) →
     let start = c .before .before .before .before .before in
-    LogRoom (start .args .lx) (start .args .t4) (start .args .v) (c .before .loop .k) (start .args .n) (length (start .args .xs .now)) (length (c .before .loop .work)) (length (take (at (start .args .t5) (start .args .v)) (c .before .loop .row)))
+    LogRoom (start .args .lx) (start .args .t4) (start .args .v) (c .before .loop .k) (start .args .n)
+    (length (start .args .xs .now)) (length (c .before .loop .work))
+    (length (take (at (start .args .t5) (start .args .v)) (c .before .loop .row)))
 room c =
     let start = c .before .before .before .before .before in
-    log-room (start .pre .0) (start .pre .1 .0) (start .pre .1 .1) (c .before .loop .inv .1 .0 .from) (c .loop-test .taken) (c .before .loop .inv .1 .0 .len) (length-take-le (at (start .args .t5) (start .args .v)) (c .before .loop .row) (omega (arith, log-width (start .pre .0) (start .pre .1 .0) (start .pre .1 .1), c .before .loop .inv .1 .1)))
+    log-room (start .pre .0) (start .pre .1 .0) (start .pre .1 .1) (c .before .loop .inv .1 .0 .from)
+    (c .loop-test .taken) (c .before .loop .inv .1 .0 .len)
+    (length-take-le (at (start .args .t5) (start .args .v)) (c .before .loop .row)
+    (omega (arith, log-width (start .pre .0) (start .pre .1 .0) (start .pre .1 .1), c .before .loop .inv .1 .1)))
 
 mul-s : tie.Need-mul-s Inv-loop μ-loop
 mul-s c = omega (arith, ((c .before .before .before) .pre .1 .1))
@@ -56,7 +63,8 @@ slice-aggregate-log-row : tie.Need-slice-aggregate-log-row Inv-loop μ-loop
 slice-aggregate-log-row c =
     let c3 = c .before .before .before in
     let start = c3 .before .before .before .before in
-    sym (length-take-le (at (start .args .t5) (start .args .v)) (c3 .loop .row) (omega (arith, log-width (start .pre .0) (start .pre .1 .0) (start .pre .1 .1), c3 .loop .inv .1 .1)))
+    sym (length-take-le (at (start .args .t5) (start .args .v)) (c3 .loop .row)
+    (omega (arith, log-width (start .pre .0) (start .pre .1 .0) (start .pre .1 .1), c3 .loop .inv .1 .1)))
 
 log-row-requires : tie.Need-log-row-requires Inv-loop μ-loop
 log-row-requires c κs = (((c .before .before .before .before .before .before .before) .pre .0), room (c .before .before))
@@ -74,8 +82,17 @@ loop-again c =
     let c4 = c .before .before .before .before in
     let c7 = c4 .before .before .before in
     let c8 = c7 .before in
-    let start = c8 .before .before .before .before in
-    (omega (arith, c7 .loop-test .taken), (log-more (start .args .lx) (start .args .t4) (start .args .v) (start .args .xs .now) (c8 .loop .inv .1 .0) (c4 .log-row .ensures) (log-under (start .pre .0) (room c7)) (let w = (start .pre .1 .0) .work in omega arith), same-len (at (start .args .t5) (start .args .v)) (c8 .loop .row) (c4 .log-row .last .1 .1 .1 .1 .1 .1 .1 .1 .1 .0) (c4 .log-row .kept .1 .1 .1 .1 .1 .1 .1 .1 .1 .0) ∙ c8 .loop .inv .1 .1))
+    let start = c8 .before .before .before .before in (
+      omega (arith, c7 .loop-test .taken),
+      (
+        log-more (start .args .lx) (start .args .t4) (start .args .v) (start .args .xs .now) (c8 .loop .inv .1 .0)
+            (c4 .log-row .ensures) (log-under (start .pre .0) (room c7))
+            (let w = (start .pre .1 .0) .work in omega arith),
+        same-len (at (start .args .t5) (start .args .v)) (c8 .loop .row)
+            (c4 .log-row .last .1 .1 .1 .1 .1 .1 .1 .1 .1 .0)
+            (c4 .log-row .kept .1 .1 .1 .1 .1 .1 .1 .1 .1 .0) ∙ c8 .loop .inv .1 .1,
+      ),
+    )
 
 same-length : tie.Need-same-length Inv-loop μ-loop
 same-length c = c .before .loop .inv .1 .0 .len

@@ -36,17 +36,38 @@ mul-sum c =
 shared-slice-read-sum : tie.Need-shared-slice-read-sum Inv-loop μ-loop
 shared-slice-read-sum c =
     let start = c .before .before .before .before .before .before in
-    omega (arith, c .before .before .before .first-turn .ensures, c .before .before .loop .inv .1 .from, c .before .loop-test .taken, start .pre .some, start .pre .room)
+    omega (
+      arith,
+      c .before .before .before .first-turn .ensures,
+      c .before .before .loop .inv .1 .from,
+      c .before .loop-test .taken,
+      start .pre .some,
+      start .pre .room,
+    )
 
 mul-sum-2 : tie.Need-mul-sum-2 Inv-loop μ-loop
 mul-sum-2 c =
     let start = c .before .before .before .before .before .before in
-    omega (arith, c .before .before .before .first-turn .ensures, c .before .before .loop .inv .1 .from, c .before .loop-test .taken, start .pre .some, start .pre .room)
+    omega (
+      arith,
+      c .before .before .before .first-turn .ensures,
+      c .before .before .loop .inv .1 .from,
+      c .before .loop-test .taken,
+      start .pre .some,
+      start .pre .room,
+    )
 
 shared-slice-read-sum-2 : tie.Need-shared-slice-read-sum-2 Inv-loop μ-loop
 shared-slice-read-sum-2 c =
     let start = c .before .before .before .before .before .before .before in
-    omega (arith, c .before .before .before .before .first-turn .ensures, c .before .before .before .loop .inv .1 .from, c .before .before .loop-test .taken, start .pre .some, start .pre .room)
+    omega (
+      arith,
+      c .before .before .before .before .first-turn .ensures,
+      c .before .before .before .loop .inv .1 .from,
+      c .before .before .loop-test .taken,
+      start .pre .some,
+      start .pre .room,
+    )
 
 int-to-float-sum : tie.Need-int-to-float-sum Inv-loop μ-loop
 int-to-float-sum c =
@@ -56,7 +77,14 @@ int-to-float-sum c =
 add-j : tie.Need-add-j Inv-loop μ-loop
 add-j c =
     let start = c .before .before .before .before .before .before .before .before in
-    omega (arith, c .before .before .before .before .before .first-turn .ensures, c .before .before .before .before .loop .inv .1 .from, c .before .before .before .loop-test .taken, start .pre .some, start .pre .room)
+    omega (
+      arith,
+      c .before .before .before .before .before .first-turn .ensures,
+      c .before .before .before .before .loop .inv .1 .from,
+      c .before .before .before .loop-test .taken,
+      start .pre .some,
+      start .pre .room,
+    )
 
 loop-less : tie.Need-loop-less Inv-loop μ-loop
 loop-less c = omega (arith, c .before .before .before .loop-test .taken)
@@ -69,7 +97,10 @@ loop-again c =
 returns : tie.Need-returns Inv-loop μ-loop
 returns c =
     let start = c .before .before .before .before .before in
-    let f = c .before .loop .inv .1 .from in line-end (start .args .m) (start .args .xs .now) (start .args .done .now) (c .before .before .first-turn .ensures) (c .before .loop .inv .1) (omega (arith, c .before .loop .inv .0, c .loop-test .left))
+    let f = c .before .loop .inv .1 .from in
+    line-end (start .args .m) (start .args .xs .now) (start .args .done .now)
+    (c .before .before .first-turn .ensures) (c .before .loop .inv .1)
+    (omega (arith, c .before .loop .inv .0, c .loop-test .left))
 
 pub log-sum-spec : {M : Type 1} → statement M
 log-sum-spec =

@@ -45,7 +45,9 @@ same-length c = c .before .loop .inv .1 .len
 returns : tie.Need-returns Inv-loop μ-loop
 returns c =
     let start = c .before .before .before in
-    filled-all (c .before .loop .inv .1) (c .before .loop .inv .0) (omega (arith, c .loop-test .left)) ∙ ap (λ (m : ℕ). table m (λ p. mul binary64 (wholeF (start .args .k)) (getD (start .args .a .now) p nan))) (start .pre .1)
+    filled-all (c .before .loop .inv .1) (c .before .loop .inv .0) (omega (arith, c .loop-test .left))
+    ∙ ap (λ (m : ℕ). table m (λ p. mul binary64 (wholeF (start .args .k)) (getD (start .args .a .now) p nan)))
+    (start .pre .1)
 
 pub multiply-spec : {M : Type 1} → statement M
 multiply-spec =

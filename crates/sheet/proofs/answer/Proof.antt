@@ -11,7 +11,9 @@ use Rattle.sheet.proofs.answer.Tie as tie
 returns : tie.Need-returns
 returns c =
     let c9 = c .before .before .before .before .before .before .before .before .before in
-    let p = put-front (c .put-refusal .ensures) in rw (output-refused _ (sym (c9 .solve .ensures .refusal)) (c .before .before .if1 .taken)) (p .0, (omega (arith, c .put-refusal .ensures .fits), p .1))
+    let p = put-front (c .put-refusal .ensures) in
+    rw (output-refused _ (sym (c9 .solve .ensures .refusal)) (c .before .before .if1 .taken))
+    (p .0, (omega (arith, c .put-refusal .ensures .fits), p .1))
 
 add-end : tie.Need-add-end
 add-end c =
@@ -42,7 +44,10 @@ returns-2 : tie.Need-returns-2
 returns-2 c =
     let c6 = c .before .before .before .before .before .before in
     let c13 = c6 .before .before .before .before .before .before .before in
-    let p = put-front (c .put-done .ensures) in rw (output-solved (c13 .solve .ensures .done (c6 .if1 .left)) (ap (λ (r : Refusal). r .number) (sym (c13 .solve .ensures .refusal)) ∙ c6 .if1 .left)) (p .0, (omega (arith, c .put-done .ensures .fits), p .1))
+    let p = put-front (c .put-done .ensures) in
+    rw (output-solved (c13 .solve .ensures .done (c6 .if1 .left))
+    (ap (λ (r : Refusal). r .number) (sym (c13 .solve .ensures .refusal)) ∙ c6 .if1 .left))
+    (p .0, (omega (arith, c .put-done .ensures .fits), p .1))
 
 pub answer-spec : {M : Type 1} → statement M
 answer-spec =

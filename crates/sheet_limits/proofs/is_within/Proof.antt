@@ -23,7 +23,8 @@ total-of-requires-2 c κs =
 returns : tie.Need-returns
 returns c =
     let start = c .before .before .before .before .before .before in
-    within-is (start .args .places .now) (start .args .inputs) (c .before .before .before .before .largest-of .ensures) (c .before .before .total-of .ensures) (c .total-of2 .ensures)
+    within-is (start .args .places .now) (start .args .inputs) (c .before .before .before .before .largest-of .ensures)
+    (c .before .before .total-of .ensures) (c .total-of2 .ensures)
 
 pub is-within-spec : {M : Type 1} → statement M
 is-within-spec =

@@ -21,18 +21,25 @@ slice-aggregate-is-within c = sym (length-take-le _ _ (slice-reshare-prefix-is-w
 
 is-within-requires : tie.Need-is-within-requires
 is-within-requires c κs =
-    let c5 = c .before .before .before .before .before in
-    (own-known _ _ _ _ (c5 .judge .ensures) (c .before .if1 .left), (simp length-take (omega (arith, slice-reshare-prefix-is-within (c .before))), simp length-take (omega (arith, own-fit _ _ _ _ (c5 .judge .ensures) (c .before .if1 .left)))))
+    let c5 = c .before .before .before .before .before in (
+      own-known _ _ _ _ (c5 .judge .ensures) (c .before .if1 .left),
+      (
+        simp length-take (omega (arith, slice-reshare-prefix-is-within (c .before))),
+        simp length-take (omega (arith, own-fit _ _ _ _ (c5 .judge .ensures) (c .before .if1 .left))),
+      ),
+    )
 
 returns-2 : tie.Need-returns-2
 returns-2 c =
     let c8 = c .before .before .before .before .before .before .before .before in
-    rw (c .by .ensures) (own-5 _ _ _ _ (c8 .judge .ensures) (c .before .before .before .before .if1 .left) (c .before .before .is-within .ensures) (not-true _ (c .before .if2 .taken)))
+    rw (c .by .ensures) (own-5 _ _ _ _ (c8 .judge .ensures) (c .before .before .before .before .if1 .left)
+    (c .before .before .is-within .ensures) (not-true _ (c .before .if2 .taken)))
 
 returns-3 : tie.Need-returns-3
 returns-3 c =
     let c8 = c .before .before .before .before .before .before .before .before in
-    rw (c .none .ensures) (own-none _ _ _ _ (c8 .judge .ensures) (c .before .before .before .before .if1 .left) (c .before .before .is-within .ensures) (not-false _ (c .before .if2 .left)))
+    rw (c .none .ensures) (own-none _ _ _ _ (c8 .judge .ensures) (c .before .before .before .before .if1 .left)
+    (c .before .before .is-within .ensures) (not-false _ (c .before .if2 .left)))
 
 pub judge-own-spec : {M : Type 1} → statement M
 judge-own-spec =

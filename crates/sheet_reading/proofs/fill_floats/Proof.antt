@@ -21,8 +21,10 @@ loop-holds c = (omega arith, (refl, filled-none))
 
 loop-again : tie.Need-loop-again Inv-loop μ-loop
 loop-again c =
-    let c3 = c .before .before .before in
-    (omega arith, (c3 .loop .inv .1 .0, filled-more (c3 .loop .inv .1 .1) (c .float-of .ensures ∙ ap (ofBits binary64) (c .before .word-at .ensures)) (omega arith)))
+    let c3 = c .before .before .before in (
+      omega arith,
+      (c3 .loop .inv .1 .0, filled-more (c3 .loop .inv .1 .1) (c .float-of .ensures ∙ ap (ofBits binary64) (c .before .word-at .ensures)) (omega arith)),
+    )
 
 same-length : tie.Need-same-length Inv-loop μ-loop
 same-length c = c .before .loop .inv .1 .1 .len

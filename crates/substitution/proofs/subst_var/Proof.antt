@@ -29,7 +29,9 @@ head c =
     let c12 = c9 .before .before .before in
     let start = c12 .before .before .before .before .before in
     let t = c12 .open-pair .ensures .tells (c9 .if1 .left) in
-    entry-head (start .args .v) (start .args .ah) (start .args .a .now) (start .args .bh) (start .args .b .now) (t .left) (t .right) (told-by (Substitution (start .args .v)) t) (t .count-a) (t .count-b) (c .substitute-into .ensures .0)
+    entry-head (start .args .v) (start .args .ah) (start .args .a .now) (start .args .bh) (start .args .b .now)
+    (t .left) (t .right) (told-by (Substitution (start .args .v)) t) (t .count-a) (t .count-b)
+    (c .substitute-into .ensures .0)
 
 used : (c : tie.After-substitute-into) →
     let c12 = c .before .before .before .before .before .before .before .before .before .before .before .before in
@@ -42,14 +44,24 @@ used c =
 rooms : (c : tie.After-substitute-into) →
     let c12 = c .before .before .before .before .before .before .before .before .before .before .before .before in
     let start = c12 .before .before .before .before .before in
-    8 * c12 .open-pair .result .n ≤ length (c .substitute-into .last .1 .1 .1 .1 .1 .1 .1 .1 .0 ++ drop (8 * c12 .open-pair .result .n) (start .args .scratch .now))
+    8 * c12 .open-pair .result .n ≤ length (c .substitute-into .last .1 .1 .1 .1 .1 .1 .1 .1 .0
+    ++ drop (8 * c12 .open-pair .result .n) (start .args .scratch .now))
 rooms c = simp length-append (omega (arith, used c))
 
 returns : tie.Need-returns
 unfolding substituteAnswer substituteOut substituteScratch
 returns c =
     let start = c .before .before .before .before .before .before .before .before in
-    let e = c .before .before .before .open-pair .ensures .refusal in let n = c .if1 .taken in (refused-answer e (announcedPair (Substitution (start .args .v)) (start .args .ah) (start .args .bh)) (value start) n, (refused-out e (announcedPair (Substitution (start .args .v)) (start .args .ah) (start .args .bh)) (value start) n (start .args .out .now), refused-scratch e (announcedPair (Substitution (start .args .v)) (start .args .ah) (start .args .bh)) (value start) n (start .args .scratch .now)))
+    let e = c .before .before .before .open-pair .ensures .refusal in
+    let n = c .if1 .taken in (
+      refused-answer e (announcedPair (Substitution (start .args .v)) (start .args .ah) (start .args .bh))
+          (value start) n,
+      (
+        refused-out e (announcedPair (Substitution (start .args .v)) (start .args .ah) (start .args .bh)) (value start) n
+            (start .args .out .now),
+        refused-scratch e (announcedPair (Substitution (start .args .v)) (start .args .ah) (start .args .bh)) (value start) n (start .args .scratch .now),
+      ),
+    )
 
 mul-room : tie.Need-mul-room
 mul-room c =
@@ -93,7 +105,11 @@ substitute-into-requires c κs =
     let c8 = c .before .before .before .before .before .before .before .before in
     let c11 = c8 .before .before .before in
     let start = c11 .before .before .before .before .before in
-    let f = opened-fits (c11 .open-pair .ensures) (c8 .if1 .left) in let t = c11 .open-pair .ensures .tells (c8 .if1 .left) in entry-given (opened-ready (c11 .open-pair .ensures) (c8 .if1 .left)) (t .left) (t .right) (told-by (Substitution (start .args .v)) t) (t .count-a) (t .count-b) (t .count) (length-take-le _ _ (f .0)) (length-take-le _ _ (f .1)) (length-take-le _ _ (f .2)) (length-take-le _ _ (f .3))
+    let f = opened-fits (c11 .open-pair .ensures) (c8 .if1 .left) in
+    let t = c11 .open-pair .ensures .tells (c8 .if1 .left) in
+    entry-given (opened-ready (c11 .open-pair .ensures) (c8 .if1 .left)) (t .left) (t .right)
+    (told-by (Substitution (start .args .v)) t) (t .count-a) (t .count-b) (t .count) (length-take-le _ _ (f .0))
+    (length-take-le _ _ (f .1)) (length-take-le _ _ (f .2)) (length-take-le _ _ (f .3))
 
 slice-relend-prefix-clear : tie.Need-slice-relend-prefix-clear
 slice-relend-prefix-clear c = rooms (c .before .before .before .before)
@@ -116,7 +132,23 @@ returns-2 c =
     let c18 = c9 .before .before .before .before .before .before .before .before .before in
     let c21 = c18 .before .before .before in
     let start = c21 .before .before .before .before .before in
-    let e = c21 .open-pair .ensures .refusal in let z = c18 .if1 .left in let n = (opened-count (c21 .open-pair .ensures) (c18 .if1 .left)) in let t = c21 .open-pair .ensures .tells (c18 .if1 .left) in (done-answer e (announcedPair (Substitution (start .args .v)) (start .args .ah) (start .args .bh)) (value start) z (c .pack .ensures ∙ ap wordOf (head c9)), (done-out e (announcedPair (Substitution (start .args .v)) (start .args .ah) (start .args .bh)) (value start) z (start .args .out .now) n (entry-out (start .args .v) (start .args .ah) (start .args .a .now) (start .args .bh) (start .args .b .now) (t .left) (t .right) (told-by (Substitution (start .args .v)) t) (t .count-a) (t .count-b) (c21 .open-pair .result .n) (c9 .substitute-into .ensures .1)), done-scratch e (announcedPair (Substitution (start .args .v)) (start .args .ah) (start .args .bh)) (value start) z (start .args .scratch .now) (c9 .substitute-into .last .1 .1 .1 .1 .1 .1 .1 .1 .0) (ap (λ (k : ℕ). 8 * k) n) (used c9) (c .before .before .before .clear .ensures) (length-take-le _ _ (rooms c9))))
+    let e = c21 .open-pair .ensures .refusal in
+    let z = c18 .if1 .left in
+    let n = (opened-count (c21 .open-pair .ensures) (c18 .if1 .left)) in
+    let t = c21 .open-pair .ensures .tells (c18 .if1 .left) in (
+      done-answer e (announcedPair (Substitution (start .args .v)) (start .args .ah) (start .args .bh))
+          (value start) z (c .pack .ensures ∙ ap wordOf (head c9)),
+      (
+        done-out e (announcedPair (Substitution (start .args .v)) (start .args .ah) (start .args .bh)) (value start) z
+            (start .args .out .now) n (entry-out (start .args .v) (start .args .ah) (start .args .a .now)
+            (start .args .bh) (start .args .b .now) (t .left) (t .right) (told-by (Substitution (start .args .v)) t)
+            (t .count-a) (t .count-b) (c21 .open-pair .result .n) (c9 .substitute-into .ensures .1)),
+        done-scratch e (announcedPair (Substitution (start .args .v)) (start .args .ah) (start .args .bh))
+            (value start) z (start .args .scratch .now) (c9 .substitute-into .last .1 .1 .1 .1 .1 .1 .1 .1 .0)
+            (ap (λ (k : ℕ). 8 * k) n) (used c9) (c .before .before .before .clear .ensures)
+            (length-take-le _ _ (rooms c9)),
+      ),
+    )
 
 pub subst-var-spec : {M : Type 1} → statement M
 subst-var-spec =

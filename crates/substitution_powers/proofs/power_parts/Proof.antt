@@ -52,7 +52,18 @@ loop-again c =
     let c4 = c .before .before .before .before in
     let c5 = c4 .before in
     let start = c5 .before .before in
-    let f = fits c4 in let q : c5 .loop .at + start .args .width - c5 .loop .at ≡ start .args .width = omega arith in (begins-next (c5 .loop .inv .0), (f, part-more (λ p x. mul binary64 x (power (start .args .m) (p % start .args .width / start .args .s))) (λ k x. mul binary64 x (power (start .args .m) (k / start .args .s))) (start .args .width) (c5 .loop .at + start .args .width - c5 .loop .at) (c5 .loop .inv .1 .1) (c .before .before .power-rows .ensures) f q (lent c4) (part-power (start .args .m) (start .args .s) (c5 .loop .inv .0))))
+    let f = fits c4 in
+    let q : c5 .loop .at + start .args .width - c5 .loop .at ≡ start .args .width = omega arith in (
+      begins-next (c5 .loop .inv .0),
+      (
+        f,
+        part-more (λ p x. mul binary64 x (power (start .args .m) (p % start .args .width / start .args .s)))
+            (λ k x. mul binary64 x (power (start .args .m) (k / start .args .s))) (start .args .width)
+            (c5 .loop .at + start .args .width - c5 .loop .at) (c5 .loop .inv .1 .1)
+            (c .before .before .power-rows .ensures) f q (lent c4)
+            (part-power (start .args .m) (start .args .s) (c5 .loop .inv .0)),
+      ),
+    )
 
 same-length : tie.Need-same-length Inv-loop μ-loop
 same-length c = c .before .loop .inv .1 .1 .len

@@ -19,7 +19,9 @@ abbrev μ-loop : tie.MeasureT-loop
 fits : (c : tie.In-loop Inv-loop μ-loop) →
     let start = c .before .before .before in
     c .before .loop .at + start .args .s ≤ length (start .args .to .now)
-fits c = begins-fits (c .before .before .before .pre) (power-begins (c .before .loop .inv .0)) (omega (arith, c .loop-test .taken, c .before .loop .inv .1 .1 .len))
+fits c =
+    begins-fits (c .before .before .before .pre) (power-begins (c .before .loop .inv .0))
+    (omega (arith, c .loop-test .taken, c .before .loop .inv .1 .1 .len))
 
 loop-holds : tie.Need-loop-holds Inv-loop μ-loop
 loop-holds c = (power-first (c .before .args .m), (omega arith, filled-none))
@@ -46,7 +48,18 @@ loop-again : tie.Need-loop-again Inv-loop μ-loop
 loop-again c =
     let c5 = c .before .before .before .before .before in
     let start = c5 .before .before in
-    let l = c5 .loop .inv .1 .1 .len in let f = fits (c .before .before .before .before) in let q : c5 .loop .at + start .args .s - c5 .loop .at ≡ start .args .s = omega arith in (power-next (c5 .loop .inv .0) refl, (f, part-more (λ p x. mul binary64 x (power (start .args .m) (p / start .args .s))) (λ k x. mul binary64 x (c5 .loop .factor)) (start .args .s) (c5 .loop .at + start .args .s - c5 .loop .at) (c5 .loop .inv .1 .1) (c .before .before .times-each .ensures) f q (simp (length-take, length-drop) (omega (arith, l, f))) (row-power (c5 .loop .inv .0))))
+    let l = c5 .loop .inv .1 .1 .len in
+    let f = fits (c .before .before .before .before) in
+    let q : c5 .loop .at + start .args .s - c5 .loop .at ≡ start .args .s = omega arith in (
+      power-next (c5 .loop .inv .0) refl,
+      (
+        f,
+        part-more (λ p x. mul binary64 x (power (start .args .m) (p / start .args .s)))
+            (λ k x. mul binary64 x (c5 .loop .factor)) (start .args .s) (c5 .loop .at + start .args .s - c5 .loop .at)
+            (c5 .loop .inv .1 .1) (c .before .before .times-each .ensures) f q
+            (simp (length-take, length-drop) (omega (arith, l, f))) (row-power (c5 .loop .inv .0)),
+      ),
+    )
 
 same-length : tie.Need-same-length Inv-loop μ-loop
 same-length c = c .before .loop .inv .1 .1 .len

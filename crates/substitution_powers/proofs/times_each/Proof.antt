@@ -30,7 +30,12 @@ slice-write-to : tie.Need-slice-write-to Inv-loop μ-loop
 slice-write-to c = omega (arith, c .before .before .loop .inv .1 .len)
 
 loop-again : tie.Need-loop-again Inv-loop μ-loop
-loop-again c = (omega arith, filled-more (c .before .before .loop .inv .1) (ap (λ (x : Float). mul binary64 x (c .before .before .before .args .factor)) (filled-here nan (c .before .before .loop .inv .1) (omega arith))) (omega arith))
+loop-again c = (
+  omega arith,
+  filled-more (c .before .before .loop .inv .1)
+      (ap (λ (x : Float). mul binary64 x (c .before .before .before .args .factor))
+      (filled-here nan (c .before .before .loop .inv .1) (omega arith))) (omega arith),
+)
 
 same-length : tie.Need-same-length Inv-loop μ-loop
 same-length c = c .before .loop .inv .1 .len

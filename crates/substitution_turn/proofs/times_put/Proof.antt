@@ -20,13 +20,21 @@ zero-to-requires c κs = room-some (c .before .before .before .before .before .b
 returns : tie.Need-returns
 returns c =
     let start = c .before .before .before .before .before .before .before .before .before .before in
-    zero-made (start .args .limits) (block (start .args .la) (part (start .args .pa) (start .args .ea) (start .args .work .now))) (block (start .args .lb) (part (start .args .pb) (start .args .eb) (start .args .work .now))) (sym (c .before .before .before .before .before .is-zero .ensures) ∙ c .before .before .before .before .if1 .taken) (c .before .before .zero-to .ensures)
+    zero-made (start .args .limits) (block (start .args .la)
+    (part (start .args .pa) (start .args .ea) (start .args .work .now)))
+    (block (start .args .lb) (part (start .args .pb) (start .args .eb) (start .args .work .now)))
+    (sym (c .before .before .before .before .before .is-zero .ensures)
+    ∙ c .before .before .before .before .if1 .taken) (c .before .before .zero-to .ensures)
 
 returns-2 : tie.Need-returns-2
 returns-2 c =
     let c8 = c .before .before .before .before .before .before .before .before in
     let start = c8 .before .before .before .before .before in
-    other-made (start .args .limits) (block (start .args .la) (part (start .args .pa) (start .args .ea) (start .args .work .now))) (block (start .args .lb) (part (start .args .pb) (start .args .eb) (start .args .work .now))) (sym (c8 .is-zero .ensures) ∙ c .before .before .before .before .before .before .before .if1 .left) (c .before .before .before .before .product .ensures)
+    other-made (start .args .limits) (block (start .args .la)
+    (part (start .args .pa) (start .args .ea) (start .args .work .now)))
+    (block (start .args .lb) (part (start .args .pb) (start .args .eb) (start .args .work .now)))
+    (sym (c8 .is-zero .ensures) ∙ c .before .before .before .before .before .before .before .if1 .left)
+    (c .before .before .before .before .product .ensures)
 
 pub times-put-spec : {M : Type 1} → statement M
 times-put-spec =

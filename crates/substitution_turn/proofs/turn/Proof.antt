@@ -23,7 +23,9 @@ mul-times-put c = omega (arith, c .before .before .before .before .before .pre .
 times-put-requires : tie.Need-times-put-requires
 times-put-requires c κs =
     let start = c .before .before .before .before .before .before in
-    turn-room (start .pre) (start .args .work .now) refl (ap (λ (x : ℕ). start .args .n + x) (c .before .before .before .count-of .ensures)) (c .before .before .count-of2 .ensures)
+    turn-room (start .pre) (start .args .work .now) refl
+    (ap (λ (x : ℕ). start .args .n + x) (c .before .before .before .count-of .ensures))
+    (c .before .before .count-of2 .ensures)
 
 plus-row-requires : tie.Need-plus-row-requires
 plus-row-requires c κs =
@@ -31,7 +33,9 @@ plus-row-requires c κs =
     let c9 = c6 .before .before .before in
     let c10 = c9 .before in
     let start = c10 .before .before .before in
-    turn-adding (start .pre) (start .args .work .now) refl (ap (λ (x : ℕ). start .args .n + x) (c10 .count-of .ensures)) (c9 .count-of2 .ensures) (c6 .times-put .ensures) (c6 .times-put .kept .1 .1 .1 .1 .1 .1 .1 .1 .1 .0) (c6 .times-put .kept .0)
+    turn-adding (start .pre) (start .args .work .now) refl (ap (λ (x : ℕ). start .args .n + x) (c10 .count-of .ensures))
+    (c9 .count-of2 .ensures) (c6 .times-put .ensures) (c6 .times-put .kept .1 .1 .1 .1 .1 .1 .1 .1 .1 .0)
+    (c6 .times-put .kept .0)
 
 returns : tie.Need-returns
 returns c =
@@ -39,7 +43,8 @@ returns c =
     let c14 = c11 .before .before .before in
     let c15 = c14 .before in
     let start = c15 .before .before .before in
-    turn-turned (start .pre) (start .args .work .now) refl (ap (λ (x : ℕ). start .args .n + x) (c15 .count-of .ensures)) (c14 .count-of2 .ensures) (c11 .times-put .ensures) (c .before .before .before .before .plus-row .ensures)
+    turn-turned (start .pre) (start .args .work .now) refl (ap (λ (x : ℕ). start .args .n + x) (c15 .count-of .ensures))
+    (c14 .count-of2 .ensures) (c11 .times-put .ensures) (c .before .before .before .before .plus-row .ensures)
 
 pub turn-spec : {M : Type 1} → statement M
 turn-spec =

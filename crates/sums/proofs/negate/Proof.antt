@@ -30,8 +30,10 @@ counted c = c .stored-of .ensures ∙ ap stored (c .before .header-of .ensures)
 
 returns : tie.Need-returns
 returns c =
-    let a = (c .before .before .before .before .before) .args in
-    (negate-refused (a .head) (a .a .now) (a .out .now) (c .before .before .one-gate .ensures) (c .if1 .taken), negate-kept (a .head) (a .a .now) (a .out .now) (c .before .before .one-gate .ensures) (c .if1 .taken))
+    let a = (c .before .before .before .before .before) .args in (
+      negate-refused (a .head) (a .a .now) (a .out .now) (c .before .before .one-gate .ensures) (c .if1 .taken),
+      negate-kept (a .head) (a .a .now) (a .out .now) (c .before .before .one-gate .ensures) (c .if1 .taken),
+    )
 
 stored-of-requires : tie.Need-stored-of-requires
 stored-of-requires c κs = rw (c .header-of .ensures) (ready (c .before) .good .regular .rules)
@@ -46,8 +48,12 @@ returns-2 c =
     let c6 = c .before .before .before .before .before .before in
     let c8 = c6 .before .before in
     let start = c8 .before .before .before in
-    let a = start .args in
-    (negate-done (a .head) (a .a .now) (a .out .now) (start .fits .head .fits) (c8 .one-gate .ensures) (c6 .if1 .left), (c .before .before .negate-into .ensures ∙ negate-out (a .head) (a .a .now) (a .out .now) (start .fits .head .fits) (c8 .one-gate .ensures) (c6 .if1 .left) (counted (c .before .before .before .before))))
+    let a = start .args in (
+      negate-done (a .head) (a .a .now) (a .out .now) (start .fits .head .fits) (c8 .one-gate .ensures) (c6 .if1 .left),
+      (c .before .before .negate-into .ensures
+          ∙ negate-out (a .head) (a .a .now) (a .out .now) (start .fits .head .fits) (c8 .one-gate .ensures)
+          (c6 .if1 .left) (counted (c .before .before .before .before))),
+    )
 
 pub negate-spec : {M : Type 1} → statement M
 negate-spec =

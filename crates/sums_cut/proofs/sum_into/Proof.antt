@@ -30,25 +30,35 @@ ends c =
     let c7 = c6 .before in
     let start = c7 .before .before .before .before .before in
     let p = start .pre in
-    let w = p .work in
-    (omega (arith, c .before .count-of .ensures, small-a (p) (c7 .cut-to .ensures) (c6 .cut-to2 .ensures)), omega (arith, c .count-of2 .ensures, small-b (p) (c7 .cut-to .ensures) (c6 .cut-to2 .ensures)))
+    let w = p .work in (
+      omega (arith, c .before .count-of .ensures, small-a (p) (c7 .cut-to .ensures) (c6 .cut-to2 .ensures)),
+      omega (arith, c .count-of2 .ensures, small-b (p) (c7 .cut-to .ensures) (c6 .cut-to2 .ensures)),
+    )
 
 first-part : (c : tie.After-count-of2) →
     let c4 = c .before .before .before .before in
-    take (c .before .count-of .result - 0) (drop 0 (c4 .load-two .last .1 .1 .1 .1 .1 .1 .1 .0)) ≡ take (c .before .count-of .result) (c4 .load-two .last .1 .1 .1 .1 .1 .1 .1 .0)
-first-part c = let e : c .before .count-of .result - 0 ≡ c .before .count-of .result = omega arith in ap (λ (k : ℕ). take k (c .before .before .before .before .load-two .last .1 .1 .1 .1 .1 .1 .1 .0)) e
+    take (c .before .count-of .result - 0) (drop 0 (c4 .load-two .last .1 .1 .1 .1 .1 .1 .1 .0))
+    ≡ take (c .before .count-of .result) (c4 .load-two .last .1 .1 .1 .1 .1 .1 .1 .0)
+first-part c = let e : c .before .count-of .result - 0 ≡ c .before .count-of .result = omega arith in
+    ap (λ (k : ℕ). take k (c .before .before .before .before .load-two .last .1 .1 .1 .1 .1 .1 .1 .0)) e
 
 second-part : (c : tie.After-count-of2) →
     let c4 = c .before .before .before .before in
     let start = c4 .before .before .before .before .before .before .before .before in
-    take (start .args .n + c .count-of2 .result - start .args .n) (drop (start .args .n) (c4 .load-two .last .1 .1 .1 .1 .1 .1 .1 .0)) ≡ take (c .count-of2 .result) (drop (start .args .n) (c4 .load-two .last .1 .1 .1 .1 .1 .1 .1 .0))
+    take (start .args .n + c .count-of2 .result - start .args .n)
+    (drop (start .args .n) (c4 .load-two .last .1 .1 .1 .1 .1 .1 .1 .0))
+    ≡ take (c .count-of2 .result) (drop (start .args .n) (c4 .load-two .last .1 .1 .1 .1 .1 .1 .1 .0))
 second-part c =
     let start = c .before .before .before .before .before .before .before .before .before .before .before .before in
     let a = start .args in
-    let e : a .n + c .count-of2 .result - a .n ≡ c .count-of2 .result = omega arith in ap (λ (k : ℕ). take k (drop (a .n) (c .before .before .before .before .load-two .last .1 .1 .1 .1 .1 .1 .1 .0))) e
+    let e : a .n + c .count-of2 .result - a .n ≡ c .count-of2 .result = omega arith in
+    ap (λ (k : ℕ). take k (drop (a .n) (c .before .before .before .before .load-two .last .1 .1 .1 .1 .1 .1 .1 .0)))
+    e
 
 load-two-requires : tie.Need-load-two-requires
-load-two-requires c κs = summing-two ((c .before .before .before .before .before .before .before) .pre) (c .before .before .cut-to .ensures) (c .before .cut-to2 .ensures)
+load-two-requires c κs =
+    summing-two ((c .before .before .before .before .before .before .before) .pre) (c .before .before .cut-to .ensures)
+    (c .before .cut-to2 .ensures)
 
 count-of-requires : tie.Need-count-of-requires
 count-of-requires c κs =
@@ -58,7 +68,8 @@ count-of-requires c κs =
 count-of-requires-2 : tie.Need-count-of-requires-2
 count-of-requires-2 c κs =
     let start = c .before .before .before .before .before .before .before .before .before .before .before in
-    summing-lens (start .pre) (c .before .before .before .before .before .before .cut-to .ensures) (c .before .before .before .before .before .cut-to2 .ensures) .1
+    summing-lens (start .pre) (c .before .before .before .before .before .before .cut-to .ensures)
+    (c .before .before .before .before .before .cut-to2 .ensures) .1
 
 add-end : tie.Need-add-end
 add-end c = omega (arith, ends (c))
@@ -76,7 +87,11 @@ combine-requires c κs =
     let c10 = c8 .before .before in
     let c11 = c10 .before in
     let start = c11 .before .before .before .before .before in
-    let e = ends c4 in let k = kept c8 in summing-combine (start .pre) (c11 .cut-to .ensures) (c10 .cut-to2 .ensures) (simp (length-take, length-drop) (omega (arith, c .before .before .before .before .before .count-of .ensures))) (simp (length-take, length-drop) (omega (arith, c4 .count-of2 .ensures))) refl
+    let e = ends c4 in
+    let k = kept c8 in
+    summing-combine (start .pre) (c11 .cut-to .ensures) (c10 .cut-to2 .ensures)
+    (simp (length-take, length-drop) (omega (arith, c .before .before .before .before .before .count-of .ensures)))
+    (simp (length-take, length-drop) (omega (arith, c4 .count-of2 .ensures))) refl
 
 returns : tie.Need-returns
 returns c =
@@ -87,7 +102,10 @@ returns c =
     let c14 = c13 .before in
     let start = c14 .before .before .before .before .before in
     let a = start .args in
-    summing-is (start .pre) (c14 .cut-to .ensures) (c13 .cut-to2 .ensures) (a .minus) (a .a .now) (a .b .now) (c11 .load-two .last .1 .1 .1 .1 .1 .1 .1 .0) (c11 .load-two .ensures) (rw (← c8 .count-of .ensures) (first-part c7)) (rw (← c7 .count-of2 .ensures) (second-part c7)) (c .before .before .combine .ensures)
+    summing-is (start .pre) (c14 .cut-to .ensures) (c13 .cut-to2 .ensures) (a .minus) (a .a .now) (a .b .now)
+    (c11 .load-two .last .1 .1 .1 .1 .1 .1 .1 .0) (c11 .load-two .ensures)
+    (rw (← c8 .count-of .ensures) (first-part c7)) (rw (← c7 .count-of2 .ensures) (second-part c7))
+    (c .before .before .combine .ensures)
 
 pub sum-into-spec : {M : Type 1} → statement M
 sum-into-spec =

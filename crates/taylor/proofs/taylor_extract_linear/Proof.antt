@@ -14,7 +14,14 @@ put-linear-requires c κs = rw (c .before .before .extract-linear .ensures) (ext
 returns : tie.Need-returns
 returns c =
     let start = c .before .before .before .before .before in
-    let e = c .before .before .before .extract-linear .ensures in (c .put-linear .ensures .0 ∙ ap wordOfLinear e, (c .put-linear .ensures .1 .0 ∙ ap (λ x. constantAfter x (start .args .c .now)) e, c .put-linear .ensures .1 .1 ∙ ap (λ x. factorAfter x (start .args .m .now)) e))
+    let e = c .before .before .before .extract-linear .ensures in (
+      c .put-linear .ensures .0 ∙ ap wordOfLinear e,
+      (
+        c .put-linear .ensures .1 .0 ∙ ap (λ x. constantAfter x (start .args .c .now)) e,
+        c .put-linear .ensures .1 .1
+            ∙ ap (λ x. factorAfter x (start .args .m .now)) e,
+      ),
+    )
 
 pub taylor-extract-linear-spec : {M : Type 1} → statement M
 taylor-extract-linear-spec =

@@ -15,7 +15,8 @@ returns : tie.Need-returns
 returns c =
     let c4 = c .before .before .before .before in
     let start = c4 .before .before .before in
-    dropped-all (start .args .s) (start .args .m) (start .args .a .now) (length (start .args .to .now)) (c4 .if1 .taken) (start .pre .one (c4 .if1 .taken) .0) (c .before .before .sum-rows .ensures .1)
+    dropped-all (start .args .s) (start .args .m) (start .args .a .now) (length (start .args .to .now)) (c4 .if1 .taken)
+    (start .pre .one (c4 .if1 .taken) .0) (c .before .before .sum-rows .ensures .1)
 
 kept-rows-requires : tie.Need-kept-rows-requires
 kept-rows-requires c κs =
@@ -28,7 +29,8 @@ same-length-2 c = search needs
 returns-2 : tie.Need-returns-2
 returns-2 c =
     let start = c .before .before .before .before .before .before .before in
-    dropped-kept (start .args .s) (start .args .m) (start .args .a .now) (length (start .args .to .now)) (c .before .before .before .before .if1 .left) (c .before .before .kept-rows .ensures)
+    dropped-kept (start .args .s) (start .args .m) (start .args .a .now) (length (start .args .to .now))
+    (c .before .before .before .before .if1 .left) (c .before .before .kept-rows .ensures)
 
 pub drop-part-spec : {M : Type 1} → statement M
 drop-part-spec =

@@ -71,7 +71,18 @@ loop-again c =
     let c5 = c .before .before .before .before .before in
     let c6 = c5 .before in
     let start = c6 .before .before .before in
-    let l = c6 .loop .inv .1 .1 .len in let f = fits c5 in let ew : c6 .loop .from + start .args .width - c6 .loop .from ≡ start .args .width = omega arith in let es : c6 .loop .at + start .args .step - c6 .loop .at ≡ start .args .step = omega arith in (along-next (c6 .loop .inv .0), (f .1, rows-more (start .args .step) (c6 .loop .at + start .args .step - c6 .loop .at) (c6 .loop .inv .1 .1) (part-is (start .pre .1) (c6 .loop .inv .0) (start .args .a .now) refl ew (c .before .before .drop-part .ensures) (tall c5)) (f .1) es))
+    let l = c6 .loop .inv .1 .1 .len in
+    let f = fits c5 in
+    let ew : c6 .loop .from + start .args .width - c6 .loop .from ≡ start .args .width = omega arith in
+    let es : c6 .loop .at + start .args .step - c6 .loop .at ≡ start .args .step = omega arith in (
+      along-next (c6 .loop .inv .0),
+      (
+        f .1,
+        rows-more (start .args .step) (c6 .loop .at + start .args .step - c6 .loop .at) (c6 .loop .inv .1 .1)
+            (part-is (start .pre .1) (c6 .loop .inv .0) (start .args .a .now) refl ew
+            (c .before .before .drop-part .ensures) (tall c5)) (f .1) es,
+      ),
+    )
 
 same-length : tie.Need-same-length Inv-loop μ-loop
 same-length c = c .before .loop .inv .1 .1 .len

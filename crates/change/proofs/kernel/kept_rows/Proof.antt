@@ -53,7 +53,23 @@ returns : tie.Need-returns
 returns c =
     let c7 = c .before .before .before .before .before .before .before in
     let start = c7 .before .before .before .before in
-    let n = next-is c7 in let w = whole c7 in let p = start .pre in let f = kept-start (start .args .s) (start .args .m) (start .args .a .now) (start .args .to .now) (c7 .front-row .ensures .1) (cut start) (p .0) in let g = rows-more (length (start .args .to .now) - start .args .s) (length (c7 .front-row .last .1 .1 .0 ++ drop (start .args .s) (start .args .to .now)) - start .args .s) f (kept-rest (start .args .s) (start .args .m) (start .args .a .now) (length (take (length (c7 .front-row .last .1 .1 .0 ++ drop (start .args .s) (start .args .to .now)) - start .args .s) (drop (start .args .s) (c7 .front-row .last .1 .1 .0 ++ drop (start .args .s) (start .args .to .now))))) (length (start .args .a .now) - c7 .front-row .result) (length (start .args .to .now) - start .args .s) (c .before .before .copy .ensures) (simp (length-take, length-drop) (omega arith)) (omega arith) n (omega arith)) (omega arith) (omega arith) in filled-all g (omega arith) (omega arith)
+    let n = next-is c7 in
+    let w = whole c7 in
+    let p = start .pre in
+    let f =
+    kept-start (start .args .s) (start .args .m) (start .args .a .now) (start .args .to .now)
+    (c7 .front-row .ensures .1) (cut start) (p .0) in
+    let g =
+    rows-more (length (start .args .to .now) - start .args .s)
+    (length (c7 .front-row .last .1 .1 .0 ++ drop (start .args .s) (start .args .to .now)) - start .args .s) f
+    (kept-rest (start .args .s) (start .args .m) (start .args .a .now)
+    (length (take (length (c7 .front-row .last .1 .1 .0 ++ drop (start .args .s) (start .args .to .now))
+    - start .args .s) (drop (start .args .s)
+    (c7 .front-row .last .1 .1 .0 ++ drop (start .args .s) (start .args .to .now)))))
+    (length (start .args .a .now) - c7 .front-row .result) (length (start .args .to .now) - start .args .s)
+    (c .before .before .copy .ensures) (simp (length-take, length-drop) (omega arith)) (omega arith) n
+    (omega arith)) (omega arith) (omega arith) in
+    filled-all g (omega arith) (omega arith)
 
 pub kept-rows-spec : {M : Type 1} → statement M
 kept-rows-spec =

@@ -19,7 +19,8 @@ use Rattle.change.proofs.kernel.scaled.Tie as tie
 
 ready : (c : tie.Else1) →
     let start = c .before .before .before .before .before in
-    InReady (Shift (start .args .v) (start .args .n)) (start .args .v) (start .args .n) (start .args .head) (length (start .args .a .now)) (length (start .args .out .now))
+    InReady (Shift (start .args .v) (start .args .n)) (start .args .v) (start .args .n) (start .args .head)
+    (length (start .args .a .now)) (length (start .args .out .now))
 ready c = in-ready _ _ _ _ _ _ (ap (λ r. r .number) (sym (c .before .before .in-gate .ensures)) ∙ c .if1 .left)
 
 is-announced : (c : tie.After-announced-of) →
@@ -41,15 +42,25 @@ head-is : (c : tie.After-take-rows) →
     let c12 = c .before .before .before .before .before .before .before .before .before .before .before .before in
     let start = c12 .before in
     c .take-rows .result ≡ (scaledPoly (start .args .plain) (start .args .v) (start .args .n) (held (start .args .head) (start .args .a .now))) .head
-head-is c = rw (c .before .before .before .before .before .before .before .header-of .ensures, given (c .before .before .before .before)) at (c .take-rows .ensures .0)
+head-is c =
+    rw (
+      c .before .before .before .before .before .before .before .header-of .ensures,
+      given (c .before .before .before .before),
+    ) at (c .take-rows .ensures .0)
 
 returns : tie.Need-returns
 returns c =
     let start = c .before .before .before .before .before in
-    entry-refused (c .before .before .in-gate .ensures) (c .if1 .taken) (announcedOne (Shift (start .args .v) (start .args .n)) (start .args .head)) (scaledPoly (start .args .plain) (start .args .v) (start .args .n) (held (start .args .head) (start .args .a .now))) (start .args .out .now)
+    entry-refused (c .before .before .in-gate .ensures) (c .if1 .taken)
+    (announcedOne (Shift (start .args .v) (start .args .n)) (start .args .head))
+    (scaledPoly (start .args .plain) (start .args .v) (start .args .n)
+    (held (start .args .head) (start .args .a .now))) (start .args .out .now)
 
 announced-of-requires : tie.Need-announced-of-requires
-announced-of-requires c κs = (rw (c .before .header-of .ensures) (ready (c .before .before) .one .good .regular .rules), rw (c .none .ensures) (none-regular .rules))
+announced-of-requires c κs = (
+  rw (c .before .header-of .ensures) (ready (c .before .before) .one .good .regular .rules),
+  rw (c .none .ensures) (none-regular .rules),
+)
 
 stored-of-requires : tie.Need-stored-of-requires
 stored-of-requires c κs = rw (c .before .before .header-of .ensures) (ready (c .before .before .before) .one .good .regular .rules)
@@ -68,7 +79,8 @@ slice-relend-prefix-take-rows c = rw (count (c .before)) (ready (c .before .befo
 slice-aggregate-take-rows-2 : tie.Need-slice-aggregate-take-rows-2
 slice-aggregate-take-rows-2 c =
     let start = c .before .before .before .before .before .before .before .before .before .before .before .before in
-    sym (length-take-le _ (start .args .out .now) (rw (count (c .before .before)) (ready (c .before .before .before .before .before .before .before) .one .room)))
+    sym (length-take-le _ (start .args .out .now)
+    (rw (count (c .before .before)) (ready (c .before .before .before .before .before .before .before) .one .room)))
 
 take-rows-requires : tie.Need-take-rows-requires
 take-rows-requires c κs =
@@ -76,13 +88,21 @@ take-rows-requires c κs =
     let c6 = c3 .before .before .before in
     let c7 = c6 .before in
     let start = c7 .before .before .before .before .before in
-    record { rules = rw (c6 .header-of .ensures) (ready c7 .one .good .regular .rules); is = rw (c6 .header-of .ensures) (is-announced (c .before .before .before .before)); var = omega (arith, ready c7 .known, ready c7 .one .good .regular .rules .few); below = rw (c6 .header-of .ensures) (ready c7 .below); full = length-take-le _ (start .args .a .now) (rw (given c3) (ready c7 .one .full)) ∙ c3 .stored-of .ensures; room = length-take-le _ (start .args .out .now) (rw (count (c .before .before)) (ready c7 .one .room)) ∙ c .before .before .stored-of2 .ensures }
+    record {
+      rules = rw (c6 .header-of .ensures) (ready c7 .one .good .regular .rules);
+      is = rw (c6 .header-of .ensures) (is-announced (c .before .before .before .before));
+      var = omega (arith, ready c7 .known, ready c7 .one .good .regular .rules .few);
+      below = rw (c6 .header-of .ensures) (ready c7 .below);
+      full = length-take-le _ (start .args .a .now) (rw (given c3) (ready c7 .one .full)) ∙ c3 .stored-of .ensures;
+      room = length-take-le _ (start .args .out .now) (rw (count (c .before .before)) (ready c7 .one .room)) ∙ c .before .before .stored-of2 .ensures;
+    }
 
 pack-requires : tie.Need-pack-requires
 pack-requires c κs =
     let c10 = c .before .before .before .before .before .before .before .before .before .before in
     let start = c10 .before .before .before .before .before in
-    rw (head-is (c .before .before)) (scaled-keeps (start .args .plain) (start .args .v) (start .args .n) (held (start .args .head) (start .args .a .now)) (ready c10 .one .good .regular .rules) .regular .rules)
+    rw (head-is (c .before .before)) (scaled-keeps (start .args .plain) (start .args .v) (start .args .n)
+    (held (start .args .head) (start .args .a .now)) (ready c10 .one .good .regular .rules) .regular .rules)
 
 returns-2 : tie.Need-returns-2
 returns-2 c =
@@ -92,7 +112,20 @@ returns-2 c =
     let c11 = c10 .before in
     let c13 = c11 .before .before in
     let start = c13 .before .before .before in
-    entry-done (c13 .in-gate .ensures) (c11 .if1 .left) (announcedOne (Shift (start .args .v) (start .args .n)) (start .args .head)) (scaledPoly (start .args .plain) (start .args .v) (start .args .n) (held (start .args .head) (start .args .a .now))) (start .args .out .now) (ap Done (c .pack .ensures ∙ ap wordOf (head-is c3))) (rw (count (c .before .before .before .before .before .before)) (part-written (stored (announcedOne (Shift (start .args .v) (start .args .n)) (start .args .head))) ((scaledPoly (start .args .plain) (start .args .v) (start .args .n) (held (start .args .head) (start .args .a .now))) .coeffs) (start .args .out .now) (rw (c10 .header-of .ensures, given (c .before .before .before .before .before .before .before), is-announced c8) at (c3 .take-rows .ensures .1))))
+    entry-done (c13 .in-gate .ensures) (c11 .if1 .left)
+    (announcedOne (Shift (start .args .v) (start .args .n)) (start .args .head))
+    (scaledPoly (start .args .plain) (start .args .v) (start .args .n)
+    (held (start .args .head) (start .args .a .now))) (start .args .out .now)
+    (ap Done (c .pack .ensures ∙ ap wordOf (head-is c3)))
+    (rw (count (c .before .before .before .before .before .before))
+    (part-written (stored (announcedOne (Shift (start .args .v) (start .args .n)) (start .args .head)))
+    ((scaledPoly (start .args .plain) (start .args .v) (start .args .n)
+    (held (start .args .head) (start .args .a .now))) .coeffs) (start .args .out .now)
+    (rw (
+      c10 .header-of .ensures,
+      given (c .before .before .before .before .before .before .before),
+      is-announced c8,
+    ) at (c3 .take-rows .ensures .1))))
 
 pub scaled-spec : {M : Type 1} → statement M
 scaled-spec =

@@ -30,13 +30,18 @@ mul-drop-parts-5 c =
 
 drop-parts-requires : tie.Need-drop-parts-requires
 drop-parts-requires c κs =
-    let start = c .before .before .before .before .before .before .before in
-    (shift-rows (start .pre) (ap (λ (l : List ℕ). at l (start .args .v)) (c .before .before .strides-of .ensures)) refl refl, one-room (start .pre) (ap (λ (l : List ℕ). at l (start .args .v)) (c .before .before .strides-of .ensures)) refl refl (c .before .if1 .taken))
+    let start = c .before .before .before .before .before .before .before in (
+      shift-rows (start .pre) (ap (λ (l : List ℕ). at l (start .args .v)) (c .before .before .strides-of .ensures)) refl
+          refl,
+      one-room (start .pre) (ap (λ (l : List ℕ). at l (start .args .v)) (c .before .before .strides-of .ensures)) refl refl (c .before .if1 .taken),
+    )
 
 returns : tie.Need-returns
 returns c =
     let start = c .before .before .before .before .before .before .before .before .before .before in
-    shift-one (start .pre) (ap (λ (l : List ℕ). at l (start .args .v)) (c .before .before .before .before .before .strides-of .ensures)) refl refl (start .args .a .now) (c .before .before .before .before .if1 .taken) (c .before .before .drop-parts .ensures)
+    shift-one (start .pre) (ap (λ (l : List ℕ). at l (start .args .v))
+    (c .before .before .before .before .before .strides-of .ensures)) refl refl (start .args .a .now)
+    (c .before .before .before .before .if1 .taken) (c .before .before .drop-parts .ensures)
 
 mul-drop-parts-7 : tie.Need-mul-drop-parts-7
 mul-drop-parts-7 c =
@@ -50,13 +55,18 @@ mul-drop-parts-9 c =
 
 drop-parts-requires-2 : tie.Need-drop-parts-requires-2
 drop-parts-requires-2 c κs =
-    let start = c .before .before .before .before .before .before .before in
-    (shift-rows (start .pre) (ap (λ (l : List ℕ). at l (start .args .v)) (c .before .before .strides-of .ensures)) refl refl, many-room (start .pre) (ap (λ (l : List ℕ). at l (start .args .v)) (c .before .before .strides-of .ensures)) refl refl (c .before .if1 .left))
+    let start = c .before .before .before .before .before .before .before in (
+      shift-rows (start .pre) (ap (λ (l : List ℕ). at l (start .args .v)) (c .before .before .strides-of .ensures)) refl
+          refl,
+      many-room (start .pre) (ap (λ (l : List ℕ). at l (start .args .v)) (c .before .before .strides-of .ensures)) refl refl (c .before .if1 .left),
+    )
 
 returns-2 : tie.Need-returns-2
 returns-2 c =
     let start = c .before .before .before .before .before .before .before .before .before .before in
-    shift-many (start .pre) (ap (λ (l : List ℕ). at l (start .args .v)) (c .before .before .before .before .before .strides-of .ensures)) refl refl (start .args .a .now) (c .before .before .before .before .if1 .left) (c .before .before .drop-parts2 .ensures)
+    shift-many (start .pre) (ap (λ (l : List ℕ). at l (start .args .v))
+    (c .before .before .before .before .before .strides-of .ensures)) refl refl (start .args .a .now)
+    (c .before .before .before .before .if1 .left) (c .before .before .drop-parts2 .ensures)
 
 pub shift-rows-spec : {M : Type 1} → statement M
 shift-rows-spec =

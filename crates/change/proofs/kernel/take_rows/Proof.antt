@@ -20,8 +20,16 @@ use Rattle.change.proofs.kernel.take_rows.Tie as tie
 returns : tie.Need-returns
 returns c =
     let c5 = c .before .before .before .before .before in
-    let start = c5 .before .before .before .before in
-    (c .shortest .ensures ∙ ap (λ (q : Poly). q .head) (sym (scaled-past (start .args .plain) (start .args .v) (start .args .n) (poly (start .args .h) (start .args .a .now)) (start .pre .is) (c5 .if1 .taken))), c .before .before .before .clear .ensures ∙ (ap zeros (start .pre .room) ∙ (padded-zero (count-pos (lengths-of (shifted-regular (start .pre) .rules))) ∙ ap (λ (q : Poly). padded (stored (start .args .r)) (q .coeffs)) (sym (scaled-past (start .args .plain) (start .args .v) (start .args .n) (poly (start .args .h) (start .args .a .now)) (start .pre .is) (c5 .if1 .taken))))))
+    let start = c5 .before .before .before .before in (
+      c .shortest .ensures ∙ ap (λ (q : Poly). q .head)
+          (sym (scaled-past (start .args .plain) (start .args .v) (start .args .n)
+          (poly (start .args .h) (start .args .a .now)) (start .pre .is) (c5 .if1 .taken))),
+      c .before .before .before .clear .ensures
+          ∙ (ap zeros (start .pre .room) ∙ (padded-zero (count-pos (lengths-of (shifted-regular (start .pre) .rules)))
+          ∙ ap (λ (q : Poly). padded (stored (start .args .r)) (q .coeffs))
+          (sym (scaled-past (start .args .plain) (start .args .v) (start .args .n)
+          (poly (start .args .h) (start .args .a .now)) (start .pre .is) (c5 .if1 .taken))))),
+    )
 
 strides-of-requires : tie.Need-strides-of-requires
 strides-of-requires c κs = lengths-of ((c .before .before .before .before .before) .pre .rules)
@@ -44,13 +52,27 @@ mul-scale-rows-4 c =
 scale-rows-requires : tie.Need-scale-rows-requires
 scale-rows-requires c κs =
     let start = c .before .before .before .before .before .before .before .before in
-    scaling (start .pre) (ap (λ (l : List ℕ). at l (start .args .v)) (c .before .before .strides-of .ensures)) refl refl (c .before .before .before .before .if1 .left)
+    scaling (start .pre) (ap (λ (l : List ℕ). at l (start .args .v)) (c .before .before .strides-of .ensures)) refl refl
+    (c .before .before .before .before .if1 .left)
 
 returns-2 : tie.Need-returns-2
 returns-2 c =
     let c7 = c .before .before .before .before .before .before .before in
     let start = c7 .before .before .before .before in
-    let d = scaled-done (start .pre) (ap (λ (l : List ℕ). at l (start .args .v)) (c .before .before .before .before .before .strides-of .ensures)) refl refl (c7 .if1 .left) (start .args .plain) (start .args .a .now) (rw (c .before .before .before .before .first-factor .ensures) at (c .before .before .scale-rows .ensures)) in (ap (λ (q : Poly). q .head) (sym (scaled-rows (start .args .plain) (start .args .v) (start .args .n) (poly (start .args .h) (start .args .a .now)) (start .pre .is) (c7 .if1 .left))), d ∙ padded-full _ (ap (λ (q : Poly). length (q .coeffs)) (scaled-rows (start .args .plain) (start .args .v) (start .args .n) (poly (start .args .h) (start .args .a .now)) (start .pre .is) (c7 .if1 .left)) ∙ length-table _ (stored (start .args .r))))
+    let d =
+    scaled-done (start .pre) (ap (λ (l : List ℕ). at l (start .args .v))
+    (c .before .before .before .before .before .strides-of .ensures)) refl refl (c7 .if1 .left) (start .args .plain)
+    (start .args .a .now) (rw (c .before .before .before .before .first-factor .ensures) at
+    (c .before .before .scale-rows .ensures)) in (
+      ap (λ (q : Poly). q .head)
+          (sym (scaled-rows (start .args .plain) (start .args .v) (start .args .n)
+          (poly (start .args .h) (start .args .a .now)) (start .pre .is) (c7 .if1 .left))),
+      d
+          ∙ padded-full _ (ap (λ (q : Poly). length (q .coeffs))
+          (scaled-rows (start .args .plain) (start .args .v) (start .args .n)
+          (poly (start .args .h) (start .args .a .now)) (start .pre .is) (c7 .if1 .left))
+          ∙ length-table _ (stored (start .args .r))),
+    )
 
 pub take-rows-spec : {M : Type 1} → statement M
 take-rows-spec =

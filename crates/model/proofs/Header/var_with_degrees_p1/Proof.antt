@@ -9,7 +9,14 @@ use Rattle.model.proofs.two_at_most.Reads as two-at-most-reads
 
 returns : tie.Need-returns
 unfolding varWith
-returns c = simp (c .two-at-most4 .ensures, c .before .two-at-most3 .ensures, c .before .before .two-at-most2 .ensures, c .before .before .before .two-at-most .ensures, c .before .before .before .before .before .zero-with .ensures)
+returns c =
+    simp (
+      c .two-at-most4 .ensures,
+      c .before .two-at-most3 .ensures,
+      c .before .before .two-at-most2 .ensures,
+      c .before .before .before .two-at-most .ensures,
+      c .before .before .before .before .before .zero-with .ensures,
+    )
 
 pub var-with-degrees-p1-spec : {M : Type 1} → statement M
 var-with-degrees-p1-spec =

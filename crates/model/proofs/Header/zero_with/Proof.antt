@@ -8,7 +8,13 @@ use Rattle.model.proofs.limit_or_one.Reads as limit-or-one-reads
 
 returns : tie.Need-returns
 unfolding zeroWith
-returns c = simp (c .limit-or-one4 .ensures, c .before .limit-or-one3 .ensures, c .before .before .limit-or-one2 .ensures, c .before .before .before .limit-or-one .ensures)
+returns c =
+    simp (
+      c .limit-or-one4 .ensures,
+      c .before .limit-or-one3 .ensures,
+      c .before .before .limit-or-one2 .ensures,
+      c .before .before .before .limit-or-one .ensures,
+    )
 
 pub zero-with-spec : {M : Type 1} → statement M
 zero-with-spec =

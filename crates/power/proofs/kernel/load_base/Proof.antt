@@ -21,7 +21,9 @@ copy-requires c κs =
 returns : tie.Need-returns
 returns c =
     let start = c .before .before .before .before .before .before .before in
-    loaded-copy (start .args .e) (start .args .a .now) (drop (length (start .args .a .now)) (start .args .work .now)) (c .before .before .copy .ensures) (length-take-le (length (start .args .a .now)) (start .args .work .now) (start .pre (omega (arith, c .before .before .before .before .if1 .taken))))
+    loaded-copy (start .args .e) (start .args .a .now) (drop (length (start .args .a .now)) (start .args .work .now))
+    (c .before .before .copy .ensures) (length-take-le (length (start .args .a .now)) (start .args .work .now)
+    (start .pre (omega (arith, c .before .before .before .before .if1 .taken))))
 
 returns-2 : tie.Need-returns-2
 returns-2 c = loaded-none (omega (arith, c .if1 .left))

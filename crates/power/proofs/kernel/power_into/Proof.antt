@@ -24,7 +24,9 @@ returns c =
     let c4 = c .before .before .before .before in
     let c9 = c4 .before .before .before .before .before in
     let start = c9 .before .before .before .before .before in
-    let e = loaded-same (start .args .e) (start .args .limits) (start .args .la) (c9 .load-base .ensures) (start .pre .1) in (rw e at (c4 .power-loaded .ensures .0), rw e at (c4 .power-loaded .ensures .1))
+    let e =
+    loaded-same (start .args .e) (start .args .limits) (start .args .la) (c9 .load-base .ensures) (start .pre .1) in
+    (rw e at (c4 .power-loaded .ensures .0), rw e at (c4 .power-loaded .ensures .1))
 
 pub power-into-spec : {M : Type 1} → statement M
 power-into-spec =

@@ -15,7 +15,11 @@ count-of-requires c κs =
 mul-clear : tie.Need-mul-clear
 mul-clear c =
     let start = c .before .before .before .before .before .before .before .before .before .before in
-    omega (arith, ends-small (start .pre) (start .args .work .now) refl (c .before .before .before .before .before .power-front .ensures) (c .count-of .ensures), powers-most (start .pre))
+    omega (
+      arith,
+      ends-small (start .pre) (start .args .work .now) refl (c .before .before .before .before .before .power-front .ensures) (c .count-of .ensures),
+      powers-most (start .pre),
+    )
 
 sub-clear : tie.Need-sub-clear
 sub-clear c =
@@ -32,7 +36,18 @@ returns c =
     let c4 = c .before .before .before .before in
     let c9 = c4 .before .before .before .before .before in
     let start = c9 .before .before .before .before .before in
-    let k = c9 .power-front .kept .1 .1 .1 .1 .1 .0 in let o = start .pre .out in (c9 .power-front .ensures .lengths, ends-padded (start .pre) (start .args .work .now) refl (c9 .power-front .ensures) (k ∙ o) (c4 .count-of .ensures) (c .before .before .clear .ensures) (simp (length-take, length-drop) (omega (arith, k, o, ends-small (start .pre) (start .args .work .now) refl (c9 .power-front .ensures) (c4 .count-of .ensures)))))
+    let k = c9 .power-front .kept .1 .1 .1 .1 .1 .0 in
+    let o = start .pre .out in (
+      c9 .power-front .ensures .lengths,
+      ends-padded (start .pre) (start .args .work .now) refl (c9 .power-front .ensures) (k ∙ o) (c4 .count-of .ensures)
+          (c .before .before .clear .ensures) (simp (length-take, length-drop)
+          (omega (
+            arith,
+            k,
+            o,
+            ends-small (start .pre) (start .args .work .now) refl (c9 .power-front .ensures) (c4 .count-of .ensures),
+          ))),
+    )
 
 pub power-loaded-spec : {M : Type 1} → statement M
 power-loaded-spec =

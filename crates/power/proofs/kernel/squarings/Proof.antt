@@ -31,8 +31,11 @@ times-to-requires c κs =
     let c6 = c .before .before .before .before .before .before in
     let c9 = c6 .before .before .before in
     let c10 = c9 .before in
-    let start = c10 .before .before .before in
-    (turn-square (start .pre .0) (start .pre .1) (c10 .loop .inv .0) (simp length-set) (c9 .loop-test .taken) (c6 .take-bit .kept .0) (c6 .take-bit .kept .1 .1 .1 .1 .1 .1 .0 ∙ c10 .loop .inv .1), omega arith)
+    let start = c10 .before .before .before in (
+      turn-square (start .pre .0) (start .pre .1) (c10 .loop .inv .0) (simp length-set) (c9 .loop-test .taken)
+          (c6 .take-bit .kept .0) (c6 .take-bit .kept .1 .1 .1 .1 .1 .1 .0 ∙ c10 .loop .inv .1),
+      omega arith,
+    )
 
 loop-less : tie.Need-loop-less Inv-loop μ-loop
 loop-less c =
@@ -46,8 +49,11 @@ loop-again c =
     let c11 = c4 .before .before .before .before .before .before .before in
     let c14 = c11 .before .before .before in
     let c15 = c14 .before in
-    let start = c15 .before .before .before in
-    (turn-next (start .pre .0) (start .pre .1) (c15 .loop .inv .0) (simp length-set) (c14 .loop-test .taken) (c11 .take-bit .ensures) (c4 .times-to .ensures) (c4 .times-to .kept .0 ∙ c11 .take-bit .kept .0), c4 .times-to .kept .1 .1 .1 .1 .1 .1 .1 .1 .0 ∙ (c11 .take-bit .kept .1 .1 .1 .1 .1 .1 .0 ∙ c15 .loop .inv .1))
+    let start = c15 .before .before .before in (
+      turn-next (start .pre .0) (start .pre .1) (c15 .loop .inv .0) (simp length-set) (c14 .loop-test .taken)
+          (c11 .take-bit .ensures) (c4 .times-to .ensures) (c4 .times-to .kept .0 ∙ c11 .take-bit .kept .0),
+      c4 .times-to .kept .1 .1 .1 .1 .1 .1 .1 .1 .0 ∙ (c11 .take-bit .kept .1 .1 .1 .1 .1 .1 .0 ∙ c15 .loop .inv .1),
+    )
 
 times-front-requires : tie.Need-times-front-requires Inv-loop μ-loop
 times-front-requires c κs =
@@ -69,7 +75,10 @@ returns : tie.Need-returns Inv-loop μ-loop
 returns c =
     let c8 = c .before .before .before .before .before .before .before .before in
     let start = c8 .before .before .before in
-    rw (begun-base (start .pre .0) (start .pre .1) (start .args .work .now) refl) at (turn-last (start .pre .0) (start .pre .1) (c8 .loop .inv .0) (simp length-set) (omega (arith, c .before .before .before .before .before .before .before .loop-test .left)) (c .before .before .before .before .times-front .ensures))
+    rw (begun-base (start .pre .0) (start .pre .1) (start .args .work .now) refl) at
+    (turn-last (start .pre .0) (start .pre .1) (c8 .loop .inv .0) (simp length-set)
+    (omega (arith, c .before .before .before .before .before .before .before .loop-test .left))
+    (c .before .before .before .before .times-front .ensures))
 
 pub squarings-spec : {M : Type 1} → statement M
 squarings-spec =

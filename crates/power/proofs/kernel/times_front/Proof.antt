@@ -30,7 +30,9 @@ returns : tie.Need-returns
 returns c =
     let c8 = c .before .before .before .before .before .before .before .before in
     let start = c8 .before .before .before in
-    step-made (start .pre) (start .args .work .now) refl (c8 .count-of .ensures) (c .before .before .before .before .before .before .before .count-of2 .ensures) (c .before .before .before .before .times .ensures)
+    step-made (start .pre) (start .args .work .now) refl (c8 .count-of .ensures)
+    (c .before .before .before .before .before .before .before .count-of2 .ensures)
+    (c .before .before .before .before .times .ensures)
 
 pub times-front-spec : {M : Type 1} → statement M
 times-front-spec =

@@ -13,13 +13,20 @@ count-of-requires c κs =
 keep-requires : tie.Need-keep-requires
 keep-requires c κs =
     let start = c .before .before .before .before .before .before .before .before .before .before .before .before in
-    let s = start .pre .0 in let h = start .pre .1 in let z = made-small s (start .args .work .now) refl (c .before .before .before .before .before .before .before .times-front .ensures) (c .before .before .count-of .ensures) in (omega (arith, s .out), omega (arith, s .work))
+    let s = start .pre .0 in
+    let h = start .pre .1 in
+    let z =
+    made-small s (start .args .work .now) refl
+    (c .before .before .before .before .before .before .before .times-front .ensures)
+    (c .before .before .count-of .ensures) in
+    (omega (arith, s .out), omega (arith, s .work))
 
 returns : tie.Need-returns
 returns c =
     let c10 = c .before .before .before .before .before .before .before .before .before .before in
     let start = c10 .before .before .before .before .before in
-    made-placed (start .pre .0) (start .args .work .now) refl (c10 .times-front .ensures) (start .pre .1) (c .before .before .before .before .before .count-of .ensures) (c .before .before .keep .ensures)
+    made-placed (start .pre .0) (start .args .work .now) refl (c10 .times-front .ensures) (start .pre .1)
+    (c .before .before .before .before .before .count-of .ensures) (c .before .before .keep .ensures)
 
 pub times-to-spec : {M : Type 1} → statement M
 times-to-spec =

@@ -6,7 +6,9 @@ use borrow.Author.Needs.{needs}
 use Rattle.lists.specs.Part.{part}
 use Rattle.model.specs.Poly.{block}
 use Rattle.model.specs.Product.{grown}
-use Rattle.product.specs.Line.{room-full, room-lens, room-plain, room-four, room-five, made-four, made-five, made-plain, line-within, line-raises, line-none, First, up-shape, up-lens, up-wide, line-room, Second, lens-k, small-k, len3, line-joins, line-made}
+use Rattle.product.specs.Line.{room-full, room-lens, room-plain, room-four, room-five, made-four, made-five}
+use Rattle.product.specs.Line.{made-plain, line-within, line-raises, line-none, First, up-shape, up-lens}
+use Rattle.product.specs.Line.{up-wide, line-room, Second, lens-k, small-k, len3, line-joins, line-made}
 use borrow.Fn.Kinds.{In}
 use borrow.Fn.PlainCycle.{Measures, is, falls, and}
 use Rattle.product.proofs.kernel.linear_product.Reads as linear-product
@@ -53,7 +55,18 @@ abbrev product-below : ℕ → In 2 product-kinds.ps
 product-below t = and 2 product-kinds.ps (falls 2 product-kinds.ps _<_ μ-product t) product.Pre
 
 abbrev linear-product-claims : ℕ → linear-product-lts.Claims
-linear-product-claims t = (raise-to-reads.Asked, raise-to-reads.Learnt, count-of-reads.Asked, count-of-reads.Learnt, keep-reads.Asked, keep-reads.Learnt, product-below t, product.Post, add-blocks-reads.Asked, add-blocks-reads.Learnt)
+linear-product-claims t = (
+  raise-to-reads.Asked,
+  raise-to-reads.Learnt,
+  count-of-reads.Asked,
+  count-of-reads.Learnt,
+  keep-reads.Asked,
+  keep-reads.Learnt,
+  product-below t,
+  product.Post,
+  add-blocks-reads.Asked,
+  add-blocks-reads.Learnt,
+)
 
 abbrev product-claims : ℕ → product-lts.Claims
 product-claims t = (choose-reads.Asked, choose-reads.Learnt, linear-product-below t, linear-product.Post, plain-reads.Asked, plain-reads.Learnt)
@@ -63,7 +76,9 @@ shape : (t : ℕ) (c : linear-product-lts.After-raise-to (linear-product-claims 
     c .raise-to .result ≡ grown (start .args .limits) (start .args .line .variable) (start .args .n)
 shape t c =
     let start = c .before .before .before .before .before .before in
-    up-shape (start .args .limits) (start .args .line .variable) (start .args .line .m) (block (start .args .n) (part (start .args .p) (start .args .e) (start .args .work .now))) (c .raise-to .ensures)
+    up-shape (start .args .limits) (start .args .line .variable) (start .args .line .m)
+    (block (start .args .n) (part (start .args .p) (start .args .e) (start .args .work .now)))
+    (c .raise-to .ensures)
 
 wide : (t : ℕ) (c : linear-product-lts.After-count-of (linear-product-claims t) (linear-product-at t) linear-product.Post) →
     let start = c .before .before .before .before .before .before .before .before .before .before in
@@ -76,25 +91,56 @@ first : (t : ℕ) (c : linear-product-lts.After-keep (linear-product-claims t) (
     let c3 = c .before .before .before in
     let c7 = c3 .before .before .before .before in
     let start = c7 .before .before .before .before .before .before in
-    First (start .args .work .now) (length (start .args .out .now)) (start .args .p) (start .args .e) (start .args .n) (start .args .line .variable) (start .args .spare) (start .args .limits) (start .args .stage) (c7 .raise-to .result) (c3 .count-of .result) (start .args .line .m) (start .args .line .c) (start .args .out .now) (c7 .raise-to .last .1 .1 .1 .1 .0) (c .keep .last .1 .1 .0) (set (c .keep .last .1 .1 .0) (start .args .spare + c3 .count-of .result) (start .args .line .c))
+    First (start .args .work .now) (length (start .args .out .now)) (start .args .p) (start .args .e) (start .args .n)
+    (start .args .line .variable) (start .args .spare) (start .args .limits) (start .args .stage)
+    (c7 .raise-to .result) (c3 .count-of .result) (start .args .line .m) (start .args .line .c)
+    (start .args .out .now) (c7 .raise-to .last .1 .1 .1 .1 .0) (c .keep .last .1 .1 .0)
+    (set (c .keep .last .1 .1 .0) (start .args .spare + c3 .count-of .result) (start .args .line .c))
 first t c =
     let c12 = c .before .before .before .before .before .before .before .before .before .before .before .before in
     let start = c12 .before in
-    record { room = start .pre .1; up = c .before .before .before .before .before .before .before .raise-to .ensures; en = c .before .before .before .count-of .ensures; kept = c .keep .ensures; const = refl }
+    record {
+      room = start .pre .1;
+      up = c .before .before .before .before .before .before .before .raise-to .ensures;
+      en = c .before .before .before .count-of .ensures;
+      kept = c .keep .ensures;
+      const = refl;
+    }
 
 second : (t : ℕ) (c : linear-product-lts.After-product (linear-product-claims t) (linear-product-at t) linear-product.Post) →
     let c5 = c .before .before .before .before .before in
     let c8 = c5 .before .before .before in
     let c12 = c8 .before .before .before .before in
     let start = c12 .before .before .before .before .before .before in
-    Second (start .args .work .now) (length (start .args .out .now)) (start .args .p) (start .args .e) (start .args .n) (start .args .line .variable) (start .args .spare) (start .args .limits) (start .args .stage) (c12 .raise-to .result) (c8 .count-of .result) (start .args .line .m) (start .args .line .c) (start .args .out .now) (c12 .raise-to .last .1 .1 .1 .1 .0) (c5 .keep .last .1 .1 .0) (set (c5 .keep .last .1 .1 .0) (start .args .spare + c8 .count-of .result) (start .args .line .c)) (c .product .result) (c .product .last .0) (c .product .last .1 .1 .1 .1 .1 .1 .1 .1 .1 .1 .0)
+    Second (start .args .work .now) (length (start .args .out .now)) (start .args .p) (start .args .e) (start .args .n)
+    (start .args .line .variable) (start .args .spare) (start .args .limits) (start .args .stage)
+    (c12 .raise-to .result) (c8 .count-of .result) (start .args .line .m) (start .args .line .c)
+    (start .args .out .now) (c12 .raise-to .last .1 .1 .1 .1 .0) (c5 .keep .last .1 .1 .0)
+    (set (c5 .keep .last .1 .1 .0) (start .args .spare + c8 .count-of .result) (start .args .line .c))
+    (c .product .result) (c .product .last .0) (c .product .last .1 .1 .1 .1 .1 .1 .1 .1 .1 .1 .0)
 second t c = record { first = first t ((c .before .before .before .before .before)); made = c .product .ensures }
 
 linear-product-mul-raise-to : (t : ℕ) → linear-product-lts.Need-mul-raise-to (linear-product-claims t) (linear-product-at t) linear-product.Post
-linear-product-mul-raise-to t c = omega (arith, c .before .before .pre .1 .lies .ends, c .before .before .pre .1 .lies .below, line-within (c .before .before .pre .1), c .before .before .good .0 .0, c .before .before .good .0 .1)
+linear-product-mul-raise-to t c =
+    omega (
+      arith,
+      c .before .before .pre .1 .lies .ends,
+      c .before .before .pre .1 .lies .below,
+      line-within (c .before .before .pre .1),
+      c .before .before .good .0 .0,
+      c .before .before .good .0 .1,
+    )
 
 linear-product-sub-raise-to : (t : ℕ) → linear-product-lts.Need-sub-raise-to (linear-product-claims t) (linear-product-at t) linear-product.Post
-linear-product-sub-raise-to t c = omega (arith, c .before .before .pre .1 .lies .ends, c .before .before .pre .1 .lies .below, line-within (c .before .before .pre .1), c .before .before .good .0 .0, c .before .before .good .0 .1)
+linear-product-sub-raise-to t c =
+    omega (
+      arith,
+      c .before .before .pre .1 .lies .ends,
+      c .before .before .pre .1 .lies .below,
+      line-within (c .before .before .pre .1),
+      c .before .before .good .0 .0,
+      c .before .before .good .0 .1,
+    )
 
 linear-product-part-raise-to-start : (t : ℕ) → linear-product-lts.Need-part-raise-to-start (linear-product-claims t) (linear-product-at t) linear-product.Post
 linear-product-part-raise-to-start t c =
@@ -126,7 +172,14 @@ linear-product-count-of-requires t c κs =
     up-lens (start .pre .1) (shape t (c .before .before .before))
 
 linear-product-keep-requires : (t : ℕ) → linear-product-lts.Need-keep-requires (linear-product-claims t) (linear-product-at t) linear-product.Post
-linear-product-keep-requires t c κs = (omega (arith, wide t ((c .before .before)), (c .before .before .before .before .before .before .raise-to .kept .1 .1 .1 .1 .0)), omega (arith, wide t ((c .before .before))))
+linear-product-keep-requires t c κs = (
+  omega (
+    arith,
+    wide t ((c .before .before)),
+    (c .before .before .before .before .before .before .raise-to .kept .1 .1 .1 .1 .0),
+  ),
+  omega (arith, wide t ((c .before .before))),
+)
 
 linear-product-add-q : (t : ℕ) → linear-product-lts.Need-add-q (linear-product-claims t) (linear-product-at t) linear-product.Post
 linear-product-add-q t c =
@@ -168,8 +221,17 @@ linear-product-keep-requires-2 : (t : ℕ) → linear-product-lts.Need-keep-requ
 linear-product-keep-requires-2 t c κs =
     let c7 = c .before .before .before .before .before .before .before in
     let c15 = c7 .before .before .before .before .before .before .before .before in
-    let c19 = c15 .before .before .before .before in
-    (omega (arith, c .before .before .count-of2 .ensures, small-k (second t c7), wide t c15, c19 .raise-to .kept .1 .1 .1 .1 .0, c7 .product .kept .1 .1 .1 .1 .1 .1 .1 .1 .1 .1 .0), omega (arith, c .before .before .count-of2 .ensures, small-k (second t c7), wide t c15, len3 (second t c7)))
+    let c19 = c15 .before .before .before .before in (
+      omega (
+        arith,
+        c .before .before .count-of2 .ensures,
+        small-k (second t c7),
+        wide t c15,
+        c19 .raise-to .kept .1 .1 .1 .1 .0,
+        c7 .product .kept .1 .1 .1 .1 .1 .1 .1 .1 .1 .1 .0,
+      ),
+      omega (arith, c .before .before .count-of2 .ensures, small-k (second t c7), wide t c15, len3 (second t c7)),
+    )
 
 linear-product-add-u : (t : ℕ) → linear-product-lts.Need-add-u (linear-product-claims t) (linear-product-at t) linear-product.Post
 linear-product-add-u t c =
@@ -188,7 +250,8 @@ linear-product-mul-add-blocks t c =
 linear-product-sub-add-blocks : (t : ℕ) → linear-product-lts.Need-sub-add-blocks (linear-product-claims t) (linear-product-at t) linear-product.Post
 linear-product-sub-add-blocks t c = omega arith
 
-linear-product-part-add-blocks-start : (t : ℕ) → linear-product-lts.Need-part-add-blocks-start (linear-product-claims t) (linear-product-at t) linear-product.Post
+linear-product-part-add-blocks-start : (t : ℕ)
+    → linear-product-lts.Need-part-add-blocks-start (linear-product-claims t) (linear-product-at t) linear-product.Post
 linear-product-part-add-blocks-start t c = omega arith
 
 linear-product-part-add-blocks-end : (t : ℕ) → linear-product-lts.Need-part-add-blocks-end (linear-product-claims t) (linear-product-at t) linear-product.Post
@@ -207,21 +270,33 @@ linear-product-mul-add-blocks-2 t c =
 linear-product-sub-add-blocks-2 : (t : ℕ) → linear-product-lts.Need-sub-add-blocks-2 (linear-product-claims t) (linear-product-at t) linear-product.Post
 linear-product-sub-add-blocks-2 t c = omega arith
 
-linear-product-part-add-blocks-start-2 : (t : ℕ) → linear-product-lts.Need-part-add-blocks-start-2 (linear-product-claims t) (linear-product-at t) linear-product.Post
+linear-product-part-add-blocks-start-2 : (t : ℕ)
+    → linear-product-lts.Need-part-add-blocks-start-2 (linear-product-claims t)
+    (linear-product-at t) linear-product.Post
 linear-product-part-add-blocks-start-2 t c = omega arith
 
-linear-product-part-add-blocks-end-2 : (t : ℕ) → linear-product-lts.Need-part-add-blocks-end-2 (linear-product-claims t) (linear-product-at t) linear-product.Post
+linear-product-part-add-blocks-end-2 : (t : ℕ)
+    → linear-product-lts.Need-part-add-blocks-end-2 (linear-product-claims t) (linear-product-at t) linear-product.Post
 linear-product-part-add-blocks-end-2 t c =
     let c12 = c .before .before .before .before .before .before .before .before .before .before .before .before in
     let c20 = c12 .before .before .before .before .before .before .before .before in
-    omega (arith, c .before .before .before .before .before .before .before .count-of2 .ensures, small-k (second t c12), wide t c20, c .before .before .before .before .keep2 .kept .1 .1 .0, len3 (second t c12))
+    omega (
+      arith,
+      c .before .before .before .before .before .before .before .count-of2 .ensures,
+      small-k (second t c12),
+      wide t c20,
+      c .before .before .before .before .keep2 .kept .1 .1 .0,
+      len3 (second t c12),
+    )
 
 linear-product-add-blocks-requires : (t : ℕ) → linear-product-lts.Need-add-blocks-requires (linear-product-claims t) (linear-product-at t) linear-product.Post
 linear-product-add-blocks-requires t c κs =
     let c9 = c .before .before .before .before .before .before .before .before .before in
     let c14 = c9 .before .before .before .before .before in
     let c26 = c14 .before .before .before .before .before .before .before .before .before .before .before .before in
-    line-joins (second t c14) (c9 .count-of2 .ensures) (c .before .before .before .before .before .before .keep2 .ensures) (c14 .product .kept .1 .1 .1 .1 .1 .1 .1 .1 .1 .1 .0 ∙ c26 .raise-to .kept .1 .1 .1 .1 .0)
+    line-joins (second t c14) (c9 .count-of2 .ensures)
+    (c .before .before .before .before .before .before .keep2 .ensures)
+    (c14 .product .kept .1 .1 .1 .1 .1 .1 .1 .1 .1 .1 .0 ∙ c26 .raise-to .kept .1 .1 .1 .1 .0)
 
 linear-product-same-length-3 : (t : ℕ) → linear-product-lts.Need-same-length-3 (linear-product-claims t) (linear-product-at t) linear-product.Post
 linear-product-same-length-3 t c =
@@ -243,13 +318,30 @@ linear-product-returns-2 t c =
     let c17 = c12 .before .before .before .before .before in
     let c26 = c17 .before .before .before .before .before .before .before .before .before in
     let start = c26 .before .before .before .before .before .before .before .before .before in
-    line-made (second t c17) (c12 .count-of2 .ensures) (c9 .keep2 .ensures) (start .args .line) refl refl refl (c26 .if1 .left) (c .before .before .add-blocks .ensures)
+    line-made (second t c17) (c12 .count-of2 .ensures) (c9 .keep2 .ensures) (start .args .line) refl refl refl
+    (c26 .if1 .left) (c .before .before .add-blocks .ensures)
 
 product-mul-choose : (t : ℕ) → product-lts.Need-mul-choose (product-claims t) (product-at t) product.Post
-product-mul-choose t c = omega (arith, c .before .before .pre .1 .left .ends, c .before .before .pre .1 .left .below, c .before .before .pre .1 .within, c .before .before .good .0 .0, c .before .before .good .0 .1)
+product-mul-choose t c =
+    omega (
+      arith,
+      c .before .before .pre .1 .left .ends,
+      c .before .before .pre .1 .left .below,
+      c .before .before .pre .1 .within,
+      c .before .before .good .0 .0,
+      c .before .before .good .0 .1,
+    )
 
 product-sub-choose : (t : ℕ) → product-lts.Need-sub-choose (product-claims t) (product-at t) product.Post
-product-sub-choose t c = omega (arith, c .before .before .pre .1 .left .ends, c .before .before .pre .1 .left .below, c .before .before .pre .1 .within, c .before .before .good .0 .0, c .before .before .good .0 .1)
+product-sub-choose t c =
+    omega (
+      arith,
+      c .before .before .pre .1 .left .ends,
+      c .before .before .pre .1 .left .below,
+      c .before .before .pre .1 .within,
+      c .before .before .good .0 .0,
+      c .before .before .good .0 .1,
+    )
 
 product-part-choose-start : (t : ℕ) → product-lts.Need-part-choose-start (product-claims t) (product-at t) product.Post
 product-part-choose-start t c =
@@ -302,7 +394,12 @@ product-returns : (t : ℕ) → product-lts.Need-returns (product-claims t) (pro
 product-returns t c =
     let c9 = c .before .before .before .before .before .before .before .before .before in
     let start = c9 .before .before .before .before .before .before in
-    made-four (start .args .limits) (start .args .stage) (block (start .args .la) (part (start .args .pa) (start .args .ea) (start .args .work .now))) (block (start .args .lb) (part (start .args .pb) (start .args .eb) (start .args .work .now))) (c9 .choose .result) (c9 .choose .ensures) (c .before .before .before .before .before .before .before .if1 .taken) (c .before .before .before .before .linear-product .ensures)
+    made-four (start .args .limits) (start .args .stage)
+    (block (start .args .la) (part (start .args .pa) (start .args .ea) (start .args .work .now)))
+    (block (start .args .lb) (part (start .args .pb) (start .args .eb) (start .args .work .now)))
+    (c9 .choose .result) (c9 .choose .ensures)
+    (c .before .before .before .before .before .before .before .if1 .taken)
+    (c .before .before .before .before .linear-product .ensures)
 
 product-linear-product-requires-2 : (t : ℕ) → product-lts.Need-linear-product-requires-2 (product-claims t) (product-at t) product.Post
 product-linear-product-requires-2 t c κs =
@@ -320,7 +417,12 @@ product-returns-2 : (t : ℕ) → product-lts.Need-returns-2 (product-claims t) 
 product-returns-2 t c =
     let c10 = c .before .before .before .before .before .before .before .before .before .before in
     let start = c10 .before .before .before .before .before .before in
-    made-five (start .args .limits) (start .args .stage) (block (start .args .la) (part (start .args .pa) (start .args .ea) (start .args .work .now))) (block (start .args .lb) (part (start .args .pb) (start .args .eb) (start .args .work .now))) (c10 .choose .result) (c10 .choose .ensures) (c .before .before .before .before .before .before .before .if2 .taken) (c .before .before .before .before .linear-product2 .ensures)
+    made-five (start .args .limits) (start .args .stage)
+    (block (start .args .la) (part (start .args .pa) (start .args .ea) (start .args .work .now)))
+    (block (start .args .lb) (part (start .args .pb) (start .args .eb) (start .args .work .now)))
+    (c10 .choose .result) (c10 .choose .ensures)
+    (c .before .before .before .before .before .before .before .if2 .taken)
+    (c .before .before .before .before .linear-product2 .ensures)
 
 product-mul-plain : (t : ℕ) → product-lts.Need-mul-plain (product-claims t) (product-at t) product.Post
 product-mul-plain t c =
@@ -379,7 +481,11 @@ product-returns-3 t c =
     let c8 = c .before .before .before .before .before .before .before .before in
     let c10 = c8 .before .before in
     let start = c10 .before .before .before .before .before .before in
-    made-plain (start .args .limits) (start .args .stage) (block (start .args .la) (part (start .args .pa) (start .args .ea) (start .args .work .now))) (block (start .args .lb) (part (start .args .pb) (start .args .eb) (start .args .work .now))) (c10 .choose .result) (c10 .choose .ensures) (c8 .if1 .left) (c .before .before .before .before .before .before .before .if2 .left) (c .before .before .plain .ensures) refl
+    made-plain (start .args .limits) (start .args .stage)
+    (block (start .args .la) (part (start .args .pa) (start .args .ea) (start .args .work .now)))
+    (block (start .args .lb) (part (start .args .pb) (start .args .eb) (start .args .work .now)))
+    (c10 .choose .result) (c10 .choose .ensures) (c8 .if1 .left)
+    (c .before .before .before .before .before .before .before .if2 .left) (c .before .before .plain .ensures) refl
 
 pub +linear-product+product-spec : {M : Type 1} → statement M
 +linear-product+product-spec = close μ-linear-product μ-product (λ t. linear-product-lts.spec (linear-product-claims t)

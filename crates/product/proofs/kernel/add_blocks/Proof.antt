@@ -19,14 +19,23 @@ slice-aggregate-combine c =
 combine-requires : tie.Need-combine-requires
 combine-requires c κs =
     let start = c .before .before .before .before .before .before in
-    joins-combine (start .pre) (c .before .before .max-shape .ensures) (length-take-le _ (start .args .out .now) (joins-fits (start .pre) (c .before .before .max-shape .ensures) (c .before .count-of .ensures)) ∙ c .before .count-of .ensures)
+    joins-combine (start .pre) (c .before .before .max-shape .ensures)
+    (length-take-le _ (start .args .out .now)
+    (joins-fits (start .pre) (c .before .before .max-shape .ensures) (c .before .count-of .ensures))
+    ∙ c .before .count-of .ensures)
 
 returns : tie.Need-returns
 returns c =
     let c4 = c .before .before .before .before in
     let c5 = c4 .before in
     let start = c5 .before .before .before .before in
-    let j = joined-is (start .args .n) (start .args .m) (start .args .a .now) (start .args .b .now) (c5 .max-shape .ensures) (c .before .before .combine .ensures) in put-front (c4 .count-of .result) (j .0) (j .1) (c .before .before .combine .kept .1 .1 .1 .1 .1 .1 .0 ∙ length-take-le _ (start .args .out .now) (joins-fits (start .pre) (c5 .max-shape .ensures) (c4 .count-of .ensures))) refl
+    let j =
+    joined-is (start .args .n) (start .args .m) (start .args .a .now) (start .args .b .now) (c5 .max-shape .ensures)
+    (c .before .before .combine .ensures) in
+    put-front (c4 .count-of .result) (j .0) (j .1)
+    (c .before .before .combine .kept .1 .1 .1 .1 .1 .1 .0
+    ∙ length-take-le _ (start .args .out .now)
+    (joins-fits (start .pre) (c5 .max-shape .ensures) (c4 .count-of .ensures))) refl
 
 pub add-blocks-spec : {M : Type 1} → statement M
 add-blocks-spec =

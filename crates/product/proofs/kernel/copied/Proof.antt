@@ -26,7 +26,12 @@ same-length c = search needs
 returns : tie.Need-returns
 returns c =
     let start = c .before .before .before .before .before .before in
-    put-front (length (start .args .a .now)) refl (c .before .before .copy .ensures ∙ take-all (length (take (length (start .args .a .now)) (start .args .out .now))) (start .args .a .now) (omega (arith, length-take-le (length (start .args .a .now)) (start .args .out .now) (start .pre)))) (c .before .before .copy .kept .1 .0 ∙ length-take-le (length (start .args .a .now)) (start .args .out .now) (start .pre)) refl
+    put-front (length (start .args .a .now)) refl
+    (c .before .before .copy .ensures ∙ take-all
+    (length (take (length (start .args .a .now)) (start .args .out .now))) (start .args .a .now)
+    (omega (arith, length-take-le (length (start .args .a .now)) (start .args .out .now) (start .pre))))
+    (c .before .before .copy .kept .1 .0 ∙ length-take-le (length (start .args .a .now))
+    (start .args .out .now) (start .pre)) refl
 
 pub copied-spec : {M : Type 1} → statement M
 copied-spec =

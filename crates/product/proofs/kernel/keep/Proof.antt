@@ -11,7 +11,11 @@ use Rattle.product.proofs.kernel.keep.Tie as tie
 returns : tie.Need-returns
 returns c =
     let start = c .before .before .before .before .before .before in
-    let e : start .args .at + start .args .n - start .args .at ≡ start .args .n = omega arith in kept-mid (start .args .at) (start .args .n) (start .args .work .now) (start .args .from .now) (length (take (start .args .at + start .args .n - start .args .at) (drop (start .args .at) (start .args .work .now)))) (c .before .before .copy .ensures) (simp (length-take, length-drop) (omega (arith, start .pre))) (start .pre .0) (start .pre .1) e
+    let e : start .args .at + start .args .n - start .args .at ≡ start .args .n = omega arith in
+    kept-mid (start .args .at) (start .args .n) (start .args .work .now) (start .args .from .now)
+    (length (take (start .args .at + start .args .n - start .args .at)
+    (drop (start .args .at) (start .args .work .now)))) (c .before .before .copy .ensures)
+    (simp (length-take, length-drop) (omega (arith, start .pre))) (start .pre .0) (start .pre .1) e
 
 pub keep-spec : {M : Type 1} → statement M
 keep-spec =

@@ -22,16 +22,26 @@ slice-aggregate-line-up c =
 
 line-up-requires : tie.Need-line-up-requires
 line-up-requires c κs =
-    let start = c .before .before .before .before .before in
-    (raises-raise (start .pre .0) (c .before .before .grown-to .ensures) (length-take-le _ (start .args .out .now) (raises-fits (start .pre .0) (c .before .before .grown-to .ensures) (c .before .count-of .ensures)) ∙ c .before .count-of .ensures), lined-in (start .pre .0) (c .before .before .grown-to .ensures) (start .args .line .variable) (start .pre .0 .var))
+    let start = c .before .before .before .before .before in (
+      raises-raise (start .pre .0) (c .before .before .grown-to .ensures)
+          (length-take-le _ (start .args .out .now)
+          (raises-fits (start .pre .0) (c .before .before .grown-to .ensures) (c .before .count-of .ensures))
+          ∙ c .before .count-of .ensures),
+      lined-in (start .pre .0) (c .before .before .grown-to .ensures) (start .args .line .variable) (start .pre .0 .var),
+    )
 
 returns : tie.Need-returns
 returns c =
     let c4 = c .before .before .before .before in
     let c5 = c4 .before in
     let start = c5 .before .before .before in
-    let j = lined-block (start .pre .0) (c5 .grown-to .ensures) (start .args .line .c) (start .args .line .m) (start .args .a .now) (start .pre .1) (c .before .before .line-up .ensures) in
-    put-front (c4 .count-of .result) (j .0) (j .1) (c .before .before .line-up .kept .1 .1 .1 .1 .1 .1 .0 ∙ length-take-le _ (start .args .out .now) (raises-fits (start .pre .0) (c5 .grown-to .ensures) (c4 .count-of .ensures))) refl
+    let j =
+    lined-block (start .pre .0) (c5 .grown-to .ensures) (start .args .line .c) (start .args .line .m)
+    (start .args .a .now) (start .pre .1) (c .before .before .line-up .ensures) in
+    put-front (c4 .count-of .result) (j .0) (j .1)
+    (c .before .before .line-up .kept .1 .1 .1 .1 .1 .1 .0
+    ∙ length-take-le _ (start .args .out .now)
+    (raises-fits (start .pre .0) (c5 .grown-to .ensures) (c4 .count-of .ensures))) refl
 
 pub line-to-spec : {M : Type 1} → statement M
 line-to-spec =

@@ -43,13 +43,24 @@ line-rows-requires : tie.Need-line-rows-requires
 line-rows-requires c κs =
     let start = c .before .before .before .before in
     let t = raise-rows (start .pre .0) (ap (λ (l : List ℕ). at l (start .args .v)) (c .before .strides-of .ensures)) refl refl in
-    let l = lined-rows (start .pre .0) (ap (λ (l : List ℕ). at l (start .args .v)) (c .before .strides-of .ensures)) refl refl (start .pre .1) in
-    (record { turns = t .turns; full = t .full; room = t .room; small = omega (arith, t .small); most = omega (arith, t .most); pos = t .pos }, (omega (arith, l), omega (arith, l)))
+    let l = lined-rows (start .pre .0) (ap (λ (l : List ℕ). at l (start .args .v)) (c .before .strides-of .ensures)) refl refl (start .pre .1) in (
+      record {
+        turns = t .turns;
+        full = t .full;
+        room = t .room;
+        small = omega (arith, t .small);
+        most = omega (arith, t .most);
+        pos = t .pos;
+      },
+      (omega (arith, l), omega (arith, l)),
+    )
 
 returns : tie.Need-returns
 returns c =
     let start = c .before .before .before .before .before .before .before in
-    lined-is (start .pre .0) (ap (λ (l : List ℕ). at l (start .args .v)) (c .before .before .before .before .strides-of .ensures)) refl refl (start .args .c) (start .args .m) (start .args .a .now) (c .before .before .line-rows .ensures)
+    lined-is (start .pre .0) (ap (λ (l : List ℕ). at l (start .args .v))
+    (c .before .before .before .before .strides-of .ensures)) refl refl (start .args .c) (start .args .m)
+    (start .args .a .now) (c .before .before .line-rows .ensures)
 
 pub line-up-spec : {M : Type 1} → statement M
 line-up-spec =

@@ -39,7 +39,8 @@ raise-to-requires c κs = (c .before .before .before .before .before) .pre .rais
 returns : tie.Need-returns
 returns c =
     let start = c .before .before .before .before .before .before .before .before in
-    line-raised (start .args .limits) (start .args .line) (block (start .args .n) (start .args .a .now)) (c .before .before .before .before .if1 .taken) (c .before .before .raise-to .ensures)
+    line-raised (start .args .limits) (start .args .line) (block (start .args .n) (start .args .a .now))
+    (c .before .before .before .before .if1 .taken) (c .before .before .raise-to .ensures)
 
 linear-product-requires : tie.Need-linear-product-requires
 linear-product-requires c κs =
@@ -50,7 +51,9 @@ returns-2 : tie.Need-returns-2
 returns-2 c =
     let c9 = c .before .before .before .before .before .before .before .before .before in
     let start = c9 .before .before .before .before .before .before .before in
-    whole-line (start .args .a .now) (start .pre) refl (c9 .keep .ensures) (λ y. linearProduct (λ x. productOf 0 (start .args .limits) x (constantBlock (start .args .line .c))) (start .args .limits) (start .args .line) y) (c .before .before .before .before .linear-product .ensures)
+    whole-line (start .args .a .now) (start .pre) refl (c9 .keep .ensures)
+    (λ y. linearProduct (λ x. productOf 0 (start .args .limits) x (constantBlock (start .args .line .c)))
+    (start .args .limits) (start .args .line) y) (c .before .before .before .before .linear-product .ensures)
 
 line-to-requires : tie.Need-line-to-requires
 line-to-requires c κs = ((c .before .before .before .before .before .before) .pre .raises, big (c .before))
@@ -59,7 +62,9 @@ returns-3 : tie.Need-returns-3
 returns-3 c =
     let c4 = c .before .before .before .before in
     let start = c4 .before .before .before .before .before in
-    line-scaled (start .args .limits) (start .args .line) (block (start .args .n) (start .args .a .now)) (c .before .before .before .before .before .if1 .left) (tests c4 .1) (big c4) (c .before .before .line-to .ensures)
+    line-scaled (start .args .limits) (start .args .line) (block (start .args .n) (start .args .a .now))
+    (c .before .before .before .before .before .if1 .left) (tests c4 .1) (big c4)
+    (c .before .before .line-to .ensures)
 
 pub line-whole-spec : {M : Type 1} → statement M
 line-whole-spec =

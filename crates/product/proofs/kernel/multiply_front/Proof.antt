@@ -6,14 +6,17 @@ use Rattle.model.specs.Poly.{block}
 use Rattle.model.specs.Product.{isZero}
 use Rattle.blocks.specs.Same.{sameLengths}
 use Rattle.product.specs.Ways.{put-stands}
-use Rattle.product.specs.Times.{zero-is, zero-put, times-some, times-any, times-small, times-lens, times-two, times-room, times-stands, times-whole, whole-stands}
+use Rattle.product.specs.Times.{zero-is, zero-put, times-some, times-any, times-small, times-lens, times-two}
+use Rattle.product.specs.Times.{times-room, times-stands, times-whole, whole-stands}
 use borrow.Author.Needs.{needs}
 use Rattle.product.proofs.kernel.multiply_front.Statement.{statement}
 use Rattle.product.proofs.kernel.multiply_front.Tie as tie
 
 zeros : (c : tie.After-is-zero2) →
     let start = c .before .before .before .before .before .before .before .before in
-    (c .before .is-zero .result || c .is-zero2 .result) ≡ (isZero (block (start .args .la) (start .args .a .now)) || isZero (block (start .args .lb) (start .args .b .now)))
+    (c .before .is-zero .result || c .is-zero2 .result)
+    ≡ (isZero (block (start .args .la) (start .args .a .now)) || isZero
+    (block (start .args .lb) (start .args .b .now)))
 zeros c =
     let a = (c .before .before .before .before .before .before .before .before) .args in
     zero-is (block (a .la) (a .a .now)) (block (a .lb) (a .b .now)) (c .before .is-zero .ensures) (c .is-zero2 .ensures)
@@ -44,7 +47,9 @@ returns c =
     let c12 = c .before .before .before .before .before .before .before .before .before .before .before .before in
     let start = c12 .before in
     let a = start .args in
-    put-stands (zero-put (a .limits) (block (a .la) (a .a .now)) (block (a .lb) (a .b .now)) (sym (zeros (c .before .before .before .before .before)) ∙ c .before .before .before .before .if1 .taken) (c .before .before .zero-to .ensures))
+    put-stands (zero-put (a .limits) (block (a .la) (a .a .now)) (block (a .lb) (a .b .now))
+    (sym (zeros (c .before .before .before .before .before)) ∙ c .before .before .before .before .if1 .taken)
+    (c .before .before .zero-to .ensures))
 
 product-whole-requires : tie.Need-product-whole-requires
 product-whole-requires c κs =
@@ -62,7 +67,9 @@ returns-2 c =
     let c14 = c13 .before in
     let start = c14 .before .before .before .before .before in
     let a = start .args in
-    whole-stands (start .pre) (c14 .cut-to .ensures) (c13 .cut-to2 .ensures) (same-a c7) (same-b c7) (a .a .now) (a .b .now) refl refl (sym (zeros c11) ∙ c10 .if1 .left) (c .before .before .before .before .product-whole .ensures)
+    whole-stands (start .pre) (c14 .cut-to .ensures) (c13 .cut-to2 .ensures) (same-a c7) (same-b c7) (a .a .now)
+    (a .b .now) refl refl (sym (zeros c11) ∙ c10 .if1 .left)
+    (c .before .before .before .before .product-whole .ensures)
 
 load-two-requires : tie.Need-load-two-requires
 load-two-requires c κs =
@@ -104,7 +111,9 @@ product-requires c κs =
     let c14 = c12 .before .before in
     let c15 = c14 .before in
     let start = c15 .before .before .before .before .before in
-    times-room (start .pre) (c15 .cut-to .ensures) (c14 .cut-to2 .ensures) (c .before .before .before .before .before .before .load-two .kept .1 .1 .1 .1 .1 .1 .1 .0) (c .before .before .before .count-of .ensures) (c .before .before .count-of2 .ensures)
+    times-room (start .pre) (c15 .cut-to .ensures) (c14 .cut-to2 .ensures)
+    (c .before .before .before .before .before .before .load-two .kept .1 .1 .1 .1 .1 .1 .1 .0)
+    (c .before .before .before .count-of .ensures) (c .before .before .count-of2 .ensures)
 
 returns-3 : tie.Need-returns-3
 returns-3 c =
@@ -116,7 +125,11 @@ returns-3 c =
     let c20 = c19 .before in
     let start = c20 .before .before .before .before .before in
     let a = start .args in
-    times-stands (start .pre) (c20 .cut-to .ensures) (c19 .cut-to2 .ensures) (c11 .load-two .kept .1 .1 .1 .1 .1 .1 .1 .0) (c8 .count-of .ensures) (c .before .before .before .before .before .before .before .count-of2 .ensures) (a .a .now) (a .b .now) (sym (zeros c17) ∙ c16 .if1 .left) (c11 .load-two .ensures) (c .before .before .before .before .product .ensures)
+    times-stands (start .pre) (c20 .cut-to .ensures) (c19 .cut-to2 .ensures)
+    (c11 .load-two .kept .1 .1 .1 .1 .1 .1 .1 .0) (c8 .count-of .ensures)
+    (c .before .before .before .before .before .before .before .count-of2 .ensures) (a .a .now) (a .b .now)
+    (sym (zeros c17) ∙ c16 .if1 .left) (c11 .load-two .ensures)
+    (c .before .before .before .before .product .ensures)
 
 pub multiply-front-spec : {M : Type 1} → statement M
 multiply-front-spec =

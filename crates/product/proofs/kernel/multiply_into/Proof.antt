@@ -14,17 +14,30 @@ count-of-requires c κs =
 mul-clear : tie.Need-mul-clear
 mul-clear c =
     let start = c .before .before .before .before .before .before .before .before .before .before .before .before in
-    omega (arith, into-small (start .pre) (start .args .a .now) (start .args .b .now) (c .before .before .before .before .before .multiply-front .ensures) (c .count-of .ensures), times-small (start .pre))
+    omega (
+      arith,
+      into-small (start .pre) (start .args .a .now) (start .args .b .now)
+          (c .before .before .before .before .before .multiply-front .ensures) (c .count-of .ensures),
+      times-small (start .pre),
+    )
 
 sub-clear : tie.Need-sub-clear
 sub-clear c =
     let start = c .before .before .before .before .before .before .before .before .before .before .before .before in
-    omega (arith, into-small (start .pre) (start .args .a .now) (start .args .b .now) (c .before .before .before .before .before .multiply-front .ensures) (c .count-of .ensures))
+    omega (
+      arith,
+      into-small (start .pre) (start .args .a .now) (start .args .b .now)
+          (c .before .before .before .before .before .multiply-front .ensures) (c .count-of .ensures),
+    )
 
 part-clear-start : tie.Need-part-clear-start
 part-clear-start c =
     let start = c .before .before .before .before .before .before .before .before .before .before .before .before in
-    omega (arith, into-small (start .pre) (start .args .a .now) (start .args .b .now) (c .before .before .before .before .before .multiply-front .ensures) (c .count-of .ensures))
+    omega (
+      arith,
+      into-small (start .pre) (start .args .a .now) (start .args .b .now)
+          (c .before .before .before .before .before .multiply-front .ensures) (c .count-of .ensures),
+    )
 
 part-clear-end : tie.Need-part-clear-end
 part-clear-end c =
@@ -36,7 +49,16 @@ returns c =
     let c4 = c .before .before .before .before in
     let c9 = c4 .before .before .before .before .before in
     let start = c9 .before .before .before .before .before .before .before in
-    let k = c9 .multiply-front .kept .1 .1 .1 .1 .1 .1 .0 in let o = start .pre .out in (c9 .multiply-front .ensures .lengths, into-padded (start .pre) (start .args .a .now) (start .args .b .now) (c9 .multiply-front .ensures) (k ∙ o) (c4 .count-of .ensures) (c .before .before .clear .ensures) (simp (length-take, length-drop) (omega (arith, k, o, into-small (start .pre) (start .args .a .now) (start .args .b .now) (c9 .multiply-front .ensures) (c4 .count-of .ensures)))))
+    let k = c9 .multiply-front .kept .1 .1 .1 .1 .1 .1 .0 in
+    let o = start .pre .out in (
+      c9 .multiply-front .ensures .lengths,
+      into-padded (start .pre) (start .args .a .now) (start .args .b .now) (c9 .multiply-front .ensures) (k ∙ o)
+          (c4 .count-of .ensures) (c .before .before .clear .ensures)
+          (simp (
+            length-take,
+            length-drop,
+          ) (omega (arith, k, o, into-small (start .pre) (start .args .a .now) (start .args .b .now) (c9 .multiply-front .ensures) (c4 .count-of .ensures)))),
+    )
 
 pub multiply-into-spec : {M : Type 1} → statement M
 multiply-into-spec =

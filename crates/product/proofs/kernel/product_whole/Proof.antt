@@ -24,7 +24,9 @@ returns c =
     let c9 = c .before .before .before .before .before .before .before .before .before in
     let start = c9 .before .before .before .before .before in
     let a = start .args in
-    stands-four (a .limits) (block (a .la) (a .a .now)) (block (a .lb) (a .b .now)) (c9 .choose .result) (c9 .choose .ensures) (c .before .before .before .before .before .before .before .if1 .taken) (c .before .before .before .before .line-whole .ensures)
+    stands-four (a .limits) (block (a .la) (a .a .now)) (block (a .lb) (a .b .now)) (c9 .choose .result)
+    (c9 .choose .ensures) (c .before .before .before .before .before .before .before .if1 .taken)
+    (c .before .before .before .before .line-whole .ensures)
 
 line-whole-requires-2 : tie.Need-line-whole-requires-2
 line-whole-requires-2 c κs =
@@ -37,14 +39,18 @@ returns-2 c =
     let c10 = c .before .before .before .before .before .before .before .before .before .before in
     let start = c10 .before .before .before .before .before in
     let a = start .args in
-    stands-five (a .limits) (block (a .la) (a .a .now)) (block (a .lb) (a .b .now)) (c10 .choose .result) (c10 .choose .ensures) (c .before .before .before .before .before .before .before .if2 .taken) (c .before .before .before .before .line-whole2 .ensures)
+    stands-five (a .limits) (block (a .la) (a .a .now)) (block (a .lb) (a .b .now)) (c10 .choose .result)
+    (c10 .choose .ensures) (c .before .before .before .before .before .before .before .if2 .taken)
+    (c .before .before .before .before .line-whole2 .ensures)
 
 returns-3 : tie.Need-returns-3
 returns-3 c =
     let c7 = c .before .before .before .before .before .before .before in
     let start = c7 .before .before .before .before .before in
     let a = start .args in
-    stands-plain (a .limits) (block (a .la) (a .a .now)) (block (a .lb) (a .b .now)) (c7 .choose .result) (c7 .choose .ensures) (c .before .before .before .before .before .if1 .left) (c .before .before .before .before .if2 .left) (c .before .before .plain .ensures)
+    stands-plain (a .limits) (block (a .la) (a .a .now)) (block (a .lb) (a .b .now)) (c7 .choose .result)
+    (c7 .choose .ensures) (c .before .before .before .before .before .if1 .left)
+    (c .before .before .before .before .if2 .left) (c .before .before .plain .ensures)
 
 pub product-whole-spec : {M : Type 1} → statement M
 product-whole-spec =

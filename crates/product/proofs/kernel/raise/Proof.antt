@@ -30,7 +30,9 @@ raise-rows-requires c κs =
 returns : tie.Need-returns
 returns c =
     let start = c .before .before .before .before .before .before .before in
-    raise-is (start .pre) (ap (λ (l : List ℕ). at l (start .args .v)) (c .before .before .before .before .strides-of .ensures)) refl refl (start .args .m) (start .args .a .now) (c .before .before .raise-rows .ensures)
+    raise-is (start .pre) (ap (λ (l : List ℕ). at l (start .args .v))
+    (c .before .before .before .before .strides-of .ensures)) refl refl (start .args .m) (start .args .a .now)
+    (c .before .before .raise-rows .ensures)
 
 pub raise-spec : {M : Type 1} → statement M
 raise-spec =

@@ -22,14 +22,23 @@ slice-aggregate-raise c =
 raise-requires : tie.Need-raise-requires
 raise-requires c κs =
     let start = c .before .before .before .before .before in
-    raises-raise (start .pre) (c .before .before .grown-to .ensures) (length-take-le _ (start .args .out .now) (raises-fits (start .pre) (c .before .before .grown-to .ensures) (c .before .count-of .ensures)) ∙ c .before .count-of .ensures)
+    raises-raise (start .pre) (c .before .before .grown-to .ensures)
+    (length-take-le _ (start .args .out .now)
+    (raises-fits (start .pre) (c .before .before .grown-to .ensures) (c .before .count-of .ensures))
+    ∙ c .before .count-of .ensures)
 
 returns : tie.Need-returns
 returns c =
     let c4 = c .before .before .before .before in
     let c5 = c4 .before in
     let start = c5 .before .before .before in
-    let j = raised-is (start .args .limits) (start .args .n) (start .args .line .variable) (start .args .line .m) (start .args .a .now) (c5 .grown-to .ensures) (c .before .before .raise .ensures) in put-front (c4 .count-of .result) (j .0) (j .1) (c .before .before .raise .kept .1 .1 .1 .1 .1 .0 ∙ length-take-le _ (start .args .out .now) (raises-fits (start .pre) (c5 .grown-to .ensures) (c4 .count-of .ensures))) refl
+    let j =
+    raised-is (start .args .limits) (start .args .n) (start .args .line .variable) (start .args .line .m)
+    (start .args .a .now) (c5 .grown-to .ensures) (c .before .before .raise .ensures) in
+    put-front (c4 .count-of .result) (j .0) (j .1)
+    (c .before .before .raise .kept .1 .1 .1 .1 .1 .0
+    ∙ length-take-le _ (start .args .out .now)
+    (raises-fits (start .pre) (c5 .grown-to .ensures) (c4 .count-of .ensures))) refl
 
 pub raise-to-spec : {M : Type 1} → statement M
 raise-to-spec =

@@ -26,7 +26,10 @@ same-length c = search needs
 returns : tie.Need-returns
 returns c =
     let start = c .before .before .before .before .before .before in
-    put-front (length (start .args .a .now)) refl (c .before .before .scale .ensures ∙ ap (λ (k : ℕ). table k (scaledAt (start .args .c) (start .args .a .now))) (start .pre .0)) (c .before .before .scale .kept .1 .1 .0 ∙ length-take-le _ (start .args .out .now) (start .pre .1)) refl
+    put-front (length (start .args .a .now)) refl
+    (c .before .before .scale .ensures ∙ ap (λ (k : ℕ). table k (scaledAt (start .args .c) (start .args .a .now)))
+    (start .pre .0)) (c .before .before .scale .kept .1 .1 .0
+    ∙ length-take-le _ (start .args .out .now) (start .pre .1)) refl
 
 pub scaled-to-spec : {M : Type 1} → statement M
 scaled-to-spec =

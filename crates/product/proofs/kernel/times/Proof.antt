@@ -29,14 +29,28 @@ returns : tie.Need-returns
 returns c =
     let c8 = c .before .before .before .before .before .before .before .before in
     let start = c8 .before .before .before .before .before in
-    put-made (zero-put (start .args .limits) (block (start .args .la) (part (start .args .pa) (start .args .ea) (start .args .work .now))) (block (start .args .lb) (part (start .args .pb) (start .args .eb) (start .args .work .now))) (sym (zero-is (block (start .args .la) (part (start .args .pa) (start .args .ea) (start .args .work .now))) (block (start .args .lb) (part (start .args .pb) (start .args .eb) (start .args .work .now))) (c8 .is-zero .ensures) (c .before .before .before .before .before .is-zero2 .ensures)) ∙ c .before .before .before .before .if1 .taken) (c .before .before .zero-to .ensures))
+    put-made (zero-put (start .args .limits) (block (start .args .la)
+    (part (start .args .pa) (start .args .ea) (start .args .work .now)))
+    (block (start .args .lb) (part (start .args .pb) (start .args .eb) (start .args .work .now)))
+    (sym (zero-is (block (start .args .la) (part (start .args .pa) (start .args .ea) (start .args .work .now)))
+    (block (start .args .lb) (part (start .args .pb) (start .args .eb) (start .args .work .now)))
+    (c8 .is-zero .ensures) (c .before .before .before .before .before .is-zero2 .ensures))
+    ∙ c .before .before .before .before .if1 .taken) (c .before .before .zero-to .ensures))
 
 returns-2 : tie.Need-returns-2
 returns-2 c =
     let c8 = c .before .before .before .before .before .before .before .before in
     let c11 = c8 .before .before .before in
     let start = c11 .before .before .before .before .before in
-    other-made (start .args .limits) (block (start .args .la) (part (start .args .pa) (start .args .ea) (start .args .work .now))) (block (start .args .lb) (part (start .args .pb) (start .args .eb) (start .args .work .now))) (room-sits (start .pre) .0) (room-sits (start .pre) .1) (sym (zero-is (block (start .args .la) (part (start .args .pa) (start .args .ea) (start .args .work .now))) (block (start .args .lb) (part (start .args .pb) (start .args .eb) (start .args .work .now))) (c11 .is-zero .ensures) (c8 .is-zero2 .ensures)) ∙ c .before .before .before .before .before .before .before .if1 .left) (c .before .before .before .before .product .ensures)
+    other-made (start .args .limits) (block (start .args .la)
+    (part (start .args .pa) (start .args .ea) (start .args .work .now)))
+    (block (start .args .lb) (part (start .args .pb) (start .args .eb) (start .args .work .now)))
+    (room-sits (start .pre) .0) (room-sits (start .pre) .1)
+    (sym (zero-is (block (start .args .la) (part (start .args .pa) (start .args .ea) (start .args .work .now)))
+    (block (start .args .lb) (part (start .args .pb) (start .args .eb) (start .args .work .now)))
+    (c11 .is-zero .ensures) (c8 .is-zero2 .ensures))
+    ∙ c .before .before .before .before .before .before .before .if1 .left)
+    (c .before .before .before .before .product .ensures)
 
 pub times-spec : {M : Type 1} → statement M
 times-spec =

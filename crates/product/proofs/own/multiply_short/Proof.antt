@@ -19,7 +19,9 @@ mul-room : tie.Need-mul-room
 mul-room c = omega (arith, counted (c), c .before .before .before .before .before .before .pre .good .most)
 
 slice-aggregate-short-into : tie.Need-slice-aggregate-short-into
-slice-aggregate-short-into c = sym (length-take-le _ _ (omega (arith, counted (c .before), c .before .before .before .before .before .before .before .pre .full)))
+slice-aggregate-short-into c =
+    sym (length-take-le _ _
+    (omega (arith, counted (c .before), c .before .before .before .before .before .before .before .pre .full)))
 
 slice-relend-prefix-short-into : tie.Need-slice-relend-prefix-short-into
 slice-relend-prefix-short-into c = omega (arith, counted (c .before), c .before .before .before .before .before .before .before .pre .lent)
@@ -33,7 +35,13 @@ short-into-requires : tie.Need-short-into-requires
 short-into-requires c κs =
     let c4 = c .before .before .before .before in
     let start = c4 .before .before .before .before in
-    record { lens = lengths-of {h = c4 .header-of .result} (rw (c4 .header-of .ensures) (start .pre .good .regular .rules)); full = length-take-le _ _ (omega (arith, counted (c .before .before), start .pre .full)) ∙ c .before .before .stored-of .ensures; room = length-take-le _ _ (omega (arith, counted (c .before .before), start .pre .lent)) ∙ c .before .before .stored-of .ensures; var = start .pre .var }
+    record {
+      lens =
+          lengths-of {h = c4 .header-of .result} (rw (c4 .header-of .ensures) (start .pre .good .regular .rules));
+      full = length-take-le _ _ (omega (arith, counted (c .before .before), start .pre .full)) ∙ c .before .before .stored-of .ensures;
+      room = length-take-le _ _ (omega (arith, counted (c .before .before), start .pre .lent)) ∙ c .before .before .stored-of .ensures;
+      var = start .pre .var;
+    }
 
 slice-relend-prefix-clear : tie.Need-slice-relend-prefix-clear
 slice-relend-prefix-clear c =
@@ -49,8 +57,16 @@ returns : tie.Need-returns
 returns c =
     let c9 = c .before .before .before .before .before .before .before .before .before in
     let c11 = c9 .before .before in
-    let start = c11 .before .before .before .before in
-    (refl, (short-written (headerOf (start .args .ah)) (counted c9) (start .args .out .now) (start .args .w) (c11 .header-of .ensures) (start .args .a .now) (c .before .before .before .before .before .before .short-into .ensures), short-cleared (headerOf (start .args .ah)) (counted c9) (start .args .scratch .now) (c .before .before .clear .ensures) (length-take-le _ _ (omega (arith, counted c9, start .pre .room)))))
+    let start = c11 .before .before .before .before in (
+      refl,
+      (
+        short-written (headerOf (start .args .ah)) (counted c9) (start .args .out .now) (start .args .w)
+            (c11 .header-of .ensures) (start .args .a .now)
+            (c .before .before .before .before .before .before .short-into .ensures),
+        short-cleared (headerOf (start .args .ah)) (counted c9) (start .args .scratch .now)
+            (c .before .before .clear .ensures) (length-take-le _ _ (omega (arith, counted c9, start .pre .room))),
+      ),
+    )
 
 pub multiply-short-spec : {M : Type 1} → statement M
 multiply-short-spec =

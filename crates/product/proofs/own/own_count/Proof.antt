@@ -10,7 +10,9 @@ use borrow.Author.Needs.{needs}
 use Rattle.product.proofs.own.own_count.Statement.{statement}
 use Rattle.product.proofs.own.own_count.Tie as tie
 
-tested : (c : tie.Else1) → ((c .before .before .is-good .result && c .before .keeps-header .result) && eqb (c .before .before .before .before .before .args .bh % 2 ^ 13) 0) ≡ true
+tested : (c : tie.Else1)
+    → ((c .before .before .is-good .result && c .before .keeps-header .result) && eqb
+    (c .before .before .before .before .before .args .bh % 2 ^ 13) 0) ≡ true
 tested c = not-false _ (rw (and-mask (c .before .before .before .before .before .args .bh) 13) at (c .if1 .left))
 
 returns : tie.Need-returns
@@ -19,22 +21,39 @@ returns c = λ z. absurd (z refl)
 stored-of-requires : tie.Need-stored-of-requires
 stored-of-requires c κs =
     let start = c .before .before .before .before .before in
-    tested-good (start .args .ah) (start .args .am) (start .args .bh) (start .args .bm) (start .args .lent) (start .args .scratch) (c .before .before .before .before .header-of .ensures) (c .before .before .before .header-of2 .ensures) (c .before .before .is-good .ensures) (c .before .keeps-header .ensures) (tested c) .regular .rules
+    tested-good (start .args .ah) (start .args .am) (start .args .bh) (start .args .bm) (start .args .lent)
+    (start .args .scratch) (c .before .before .before .before .header-of .ensures)
+    (c .before .before .before .header-of2 .ensures) (c .before .before .is-good .ensures)
+    (c .before .keeps-header .ensures) (tested c) .regular .rules
 
 stored-of-requires-2 : tie.Need-stored-of-requires-2
 stored-of-requires-2 c κs =
     let start = c .before .before .before .before .before .before in
-    tested-ruled (start .args .ah) (start .args .am) (start .args .bh) (start .args .bm) (start .args .lent) (start .args .scratch) (c .before .before .before .before .before .header-of .ensures) (c .before .before .before .before .header-of2 .ensures) (c .before .before .before .is-good .ensures) (c .before .before .keeps-header .ensures) (tested (c .before))
+    tested-ruled (start .args .ah) (start .args .am) (start .args .bh) (start .args .bm) (start .args .lent)
+    (start .args .scratch) (c .before .before .before .before .before .header-of .ensures)
+    (c .before .before .before .before .header-of2 .ensures) (c .before .before .before .is-good .ensures)
+    (c .before .before .keeps-header .ensures) (tested (c .before))
 
 mul-if2 : tie.Need-mul-if2
 mul-if2 c =
     let start = c .before .before .before .before .before .before .before in
-    let m = tested-good (start .args .ah) (start .args .am) (start .args .bh) (start .args .bm) (start .args .lent) (start .args .scratch) (c .before .before .before .before .before .before .header-of .ensures) (c .before .before .before .before .before .header-of2 .ensures) (c .before .before .before .before .is-good .ensures) (c .before .before .before .keeps-header .ensures) (tested (c .before .before)) .most in omega (arith, m, c .before .stored-of .ensures)
+    let m =
+    tested-good (start .args .ah) (start .args .am) (start .args .bh) (start .args .bm) (start .args .lent)
+    (start .args .scratch) (c .before .before .before .before .before .before .header-of .ensures)
+    (c .before .before .before .before .before .header-of2 .ensures)
+    (c .before .before .before .before .is-good .ensures) (c .before .before .before .keeps-header .ensures)
+    (tested (c .before .before)) .most in
+    omega (arith, m, c .before .stored-of .ensures)
 
 returns-2 : tie.Need-returns-2
 returns-2 c =
     let start = c .before .before .before .before .before .before .before .before in
-    λ z. tested-owns (start .args .ah) (start .args .am) (start .args .bh) (start .args .bm) (start .args .lent) (start .args .scratch) (c .before .before .before .before .before .before .before .header-of .ensures) (c .before .before .before .before .before .before .header-of2 .ensures) (c .before .before .before .before .before .is-good .ensures) (c .before .before .before .before .keeps-header .ensures) (tested (c .before .before .before)) (c .before .before .stored-of .ensures) (c .before .stored-of2 .ensures) (c .if2 .taken)
+    λ z. tested-owns (start .args .ah) (start .args .am) (start .args .bh) (start .args .bm) (start .args .lent)
+    (start .args .scratch) (c .before .before .before .before .before .before .before .header-of .ensures)
+    (c .before .before .before .before .before .before .header-of2 .ensures)
+    (c .before .before .before .before .before .is-good .ensures)
+    (c .before .before .before .before .keeps-header .ensures) (tested (c .before .before .before))
+    (c .before .before .stored-of .ensures) (c .before .stored-of2 .ensures) (c .if2 .taken)
 
 returns-3 : tie.Need-returns-3
 returns-3 c = λ z. absurd (z refl)

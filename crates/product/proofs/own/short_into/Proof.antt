@@ -13,7 +13,8 @@ use Rattle.product.proofs.own.short_into.Tie as tie
 returns : tie.Need-returns
 returns c =
     let start = c .before .before .before .before .before .before .before .before .before in
-    scaled-short (start .args .w) (start .args .t3) (start .args .a .now) (c .before .before .before .before .if1 .taken) (start .pre .full) (c .before .before .scale .ensures)
+    scaled-short (start .args .w) (start .args .t3) (start .args .a .now)
+    (c .before .before .before .before .if1 .taken) (start .pre .full) (c .before .before .scale .ensures)
 
 mul-s : tie.Need-mul-s
 mul-s c = omega (arith, c .before .before .before .before .before .before .pre .var (c .before .if1 .left))
@@ -30,18 +31,30 @@ array-read-width c = omega (arith, c .before .before .before .before .before .be
 mul-width-2 : tie.Need-mul-width-2
 mul-width-2 c =
     let start = c .before .before .before .before .before .before in
-    omega (arith, raise-small (short-raising (start .pre) (c .before .if1 .left)) (ap (λ (l : List ℕ). at l (start .args .w .line .variable)) (c .strides-of .ensures)) refl refl .0)
+    omega (
+      arith,
+      raise-small (short-raising (start .pre) (c .before .if1 .left))
+          (ap (λ (l : List ℕ). at l (start .args .w .line .variable)) (c .strides-of .ensures)) refl refl .0,
+    )
 
 line-rows-requires : tie.Need-line-rows-requires
 line-rows-requires c κs =
     let start = c .before .before .before .before .before .before .before in
-    let t = short-raising (start .pre) (c .before .before .if1 .left) in (raise-rows t (ap (λ (l : List ℕ). at l (start .args .w .line .variable)) (c .before .strides-of .ensures)) refl refl, lined-rows t (ap (λ (l : List ℕ). at l (start .args .w .line .variable)) (c .before .strides-of .ensures)) refl refl (le-refl _))
+    let t = short-raising (start .pre) (c .before .before .if1 .left) in (
+      raise-rows t (ap (λ (l : List ℕ). at l (start .args .w .line .variable)) (c .before .strides-of .ensures)) refl
+          refl,
+      lined-rows t (ap (λ (l : List ℕ). at l (start .args .w .line .variable)) (c .before .strides-of .ensures)) refl refl (le-refl _),
+    )
 
 returns-2 : tie.Need-returns-2
 returns-2 c =
     let c5 = c .before .before .before .before .before in
     let start = c5 .before .before .before .before .before in
-    lined-short (start .args .w) (start .args .t3) (start .args .a .now) (c5 .if1 .left) (lined-is (short-raising (start .pre) (c5 .if1 .left)) (ap (λ (l : List ℕ). at l (start .args .w .line .variable)) (c .before .before .before .before .strides-of .ensures)) refl refl (start .args .w .line .c) (start .args .w .line .m) (start .args .a .now) (c .before .before .line-rows .ensures))
+    lined-short (start .args .w) (start .args .t3) (start .args .a .now) (c5 .if1 .left)
+    (lined-is (short-raising (start .pre) (c5 .if1 .left))
+    (ap (λ (l : List ℕ). at l (start .args .w .line .variable))
+    (c .before .before .before .before .strides-of .ensures)) refl refl (start .args .w .line .c)
+    (start .args .w .line .m) (start .args .a .now) (c .before .before .line-rows .ensures))
 
 pub short-into-spec : {M : Type 1} → statement M
 short-into-spec =

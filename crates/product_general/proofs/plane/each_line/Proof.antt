@@ -59,8 +59,13 @@ lines-requires c κs =
     let c3 = c .before .before .before in
     let start = c3 .before .before .before .before .before in
     let a = start .args in
-    let l = c .before .before .before .before .loop in
-    ((omega (arith, here-left c3, length-on (l .j * a .tx) (a .xs .now)), omega (arith, here-right c3, length-on ((a .k - l .j) * a .ty) (a .ys .now))), omega (arith, start .pre .size, l .inv .1 .len))
+    let l = c .before .before .before .before .loop in (
+      (
+        omega (arith, here-left c3, length-on (l .j * a .tx) (a .xs .now)),
+        omega (arith, here-right c3, length-on ((a .k - l .j) * a .ty) (a .ys .now)),
+      ),
+      omega (arith, start .pre .size, l .inv .1 .len),
+    )
 
 add-j : tie.Need-add-j Inv-loop μ-loop
 add-j c =
@@ -75,8 +80,11 @@ loop-again c =
     let start = c .before .before .before .before .before .before .before .before .before .before .before in
     let a = start .args in
     let l = c .before .before .before .before .before .before .before .loop in
-    let f = l .inv .1 .from in
-    (omega (arith, c .before .before .before .before .before .before .loop-test .taken), paired-more (l .inv .1) (lines-step (a .xs .now) (a .ys .now) (l .row) (a .tx) (a .nx) (a .ty) (a .ny) (a .k) (l .j) (l .inv .1 .len) (c .before .before .lines .ensures)))
+    let f = l .inv .1 .from in (
+      omega (arith, c .before .before .before .before .before .before .loop-test .taken),
+      paired-more (l .inv .1) (lines-step (a .xs .now) (a .ys .now) (l .row) (a .tx) (a .nx) (a .ty) (a .ny) (a .k)
+          (l .j) (l .inv .1 .len) (c .before .before .lines .ensures)),
+    )
 
 same-length : tie.Need-same-length Inv-loop μ-loop
 same-length c = c .before .loop .inv .1 .len
@@ -85,7 +93,9 @@ returns : tie.Need-returns Inv-loop μ-loop
 unfolding linesOf
 returns c =
     let start = c .before .before .before .before .before in
-    let f = c .before .loop .inv .1 .from in paired-end (start .args .b - start .args .a) (c .before .loop .inv .1) (omega (arith, c .before .loop .inv .0, c .loop-test .left))
+    let f = c .before .loop .inv .1 .from in
+    paired-end (start .args .b - start .args .a) (c .before .loop .inv .1)
+    (omega (arith, c .before .loop .inv .0, c .loop-test .left))
 
 pub each-line-spec : {M : Type 1} → statement M
 each-line-spec =

@@ -70,8 +70,13 @@ loop-again c =
     let start = c7 .before .before .before .before in
     let a = start .args in
     let l = c7 .loop in
-    let e : c7 .loop .k * start .args .s + start .args .s - c7 .loop .k * start .args .s ≡ start .args .s = omega arith in
-    (omega (arith, c6 .loop-test .taken), plane-next (a .xs .now) (a .mx) (a .tx) (a .nx) (a .ys .now) (a .my) (a .ty) (a .ny) (a .s) (l .k) (l .inv .1) (c .before .before .before .before .before .from .ensures) (c .before .before .before .before .upto .ensures) e (row-there (a .s) (c6 .loop-test .taken) (start .pre .full)) (c .before .before .each-line .ensures))
+    let e : c7 .loop .k * start .args .s + start .args .s - c7 .loop .k * start .args .s ≡ start .args .s = omega arith in (
+      omega (arith, c6 .loop-test .taken),
+      plane-next (a .xs .now) (a .mx) (a .tx) (a .nx) (a .ys .now) (a .my) (a .ty) (a .ny) (a .s) (l .k) (l .inv .1)
+          (c .before .before .before .before .before .from .ensures)
+          (c .before .before .before .before .upto .ensures) e
+          (row-there (a .s) (c6 .loop-test .taken) (start .pre .full)) (c .before .before .each-line .ensures),
+    )
 
 same-length : tie.Need-same-length Inv-loop μ-loop
 same-length c = c .before .loop .inv .1 .len

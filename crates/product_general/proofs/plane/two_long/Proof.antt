@@ -72,7 +72,9 @@ returns c =
     let a = start .args in
     let p = start .pre in
     let h = p .1 .1 .0 .some in
-    rows-plane (a .t2) (a .t5) (a .t7) (p .0 .result) (p .1 .1 .0) (p .1 .1 .1) (a .xs .now) (a .ys .now) (a .res .now) (stride-at (a .t2) (p .0 .by-x) h) (stride-at (a .t5) (p .0 .by-y) h) (stride-at (a .t7) (p .0 .by-r) h) (p .1 .0 .full) (c .before .before .plane .ensures)
+    rows-plane (a .t2) (a .t5) (a .t7) (p .0 .result) (p .1 .1 .0) (p .1 .1 .1) (a .xs .now) (a .ys .now) (a .res .now)
+    (stride-at (a .t2) (p .0 .by-x) h) (stride-at (a .t5) (p .0 .by-y) h) (stride-at (a .t7) (p .0 .by-r) h)
+    (p .1 .0 .full) (c .before .before .plane .ensures)
 
 pub two-long-spec : {M : Type 1} → statement M
 two-long-spec =

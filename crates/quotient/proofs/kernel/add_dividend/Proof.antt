@@ -49,7 +49,10 @@ part-join-block-start : tie.Need-part-join-block-start
 part-join-block-start c = omega (arith, dividend-in ((c .before .before .before .before) .pre) (omega (arith, c .before .if1 .left)) (c .count-of .ensures))
 
 join-block-requires : tie.Need-join-block-requires
-join-block-requires c κs = adding-row ((c .before .before .before .before .before .before) .pre) (omega (arith, c .before .before .before .if1 .left)) (c .before .before .count-of .ensures) (simp (length-take, length-drop) (omega arith)) refl
+join-block-requires c κs =
+    adding-row ((c .before .before .before .before .before .before) .pre)
+    (omega (arith, c .before .before .before .if1 .left)) (c .before .before .count-of .ensures)
+    (simp (length-take, length-drop) (omega arith)) refl
 
 same-length : tie.Need-same-length
 same-length c =
@@ -59,7 +62,9 @@ same-length c =
 returns-2 : tie.Need-returns-2
 returns-2 c =
     let start = c .before .before .before .before .before .before .before .before .before in
-    row-added (start .args .xs .now) (start .pre) (omega (arith, c .before .before .before .before .before .before .if1 .left)) (start .args .row .now) (c .before .before .before .before .before .count-of .ensures) (c .before .before .join-block .ensures)
+    row-added (start .args .xs .now) (start .pre)
+    (omega (arith, c .before .before .before .before .before .before .if1 .left)) (start .args .row .now)
+    (c .before .before .before .before .before .count-of .ensures) (c .before .before .join-block .ensures)
 
 pub add-dividend-spec : {M : Type 1} → statement M
 add-dividend-spec =

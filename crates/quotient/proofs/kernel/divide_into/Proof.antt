@@ -12,7 +12,9 @@ use Rattle.shape.proofs.limits.cut_to.Reads as cut-to-reads
 use Rattle.shape_words.proofs.places.count_of.Reads as count-of-reads
 
 load-two-requires : tie.Need-load-two-requires
-load-two-requires c κs = into-two (c .before .before .before .before .before .before .before .pre) (c .before .before .cut-to .ensures) (c .before .cut-to2 .ensures)
+load-two-requires c κs =
+    into-two (c .before .before .before .before .before .before .before .pre) (c .before .before .cut-to .ensures)
+    (c .before .cut-to2 .ensures)
 
 count-of-requires : tie.Need-count-of-requires
 count-of-requires c κs =
@@ -22,15 +24,20 @@ count-of-requires c κs =
 count-of-requires-2 : tie.Need-count-of-requires-2
 count-of-requires-2 c κs =
     let start = c .before .before .before .before .before .before .before .before .before .before .before in
-    right-lengths (start .pre) (c .before .before .before .before .before .before .cut-to .ensures) (c .before .before .before .before .before .cut-to2 .ensures)
+    right-lengths (start .pre) (c .before .before .before .before .before .before .cut-to .ensures)
+    (c .before .before .before .before .before .cut-to2 .ensures)
 
 divide-loaded-requires : tie.Need-divide-loaded-requires
 divide-loaded-requires c κs =
     let c3 = c .before .before .before in
     let c8 = c3 .before .before .before .before .before in
     let c9 = c8 .before in
-    let start = c9 .before .before .before .before .before in
-    (rw (c .before .before .before .before .before .before .load-two .kept .1 .1 .1 .1 .1 .1 .1 .0) (into-recur (start .pre) (c9 .cut-to .ensures) (c8 .cut-to2 .ensures) (c3 .count-of .ensures) (c .before .before .count-of2 .ensures)), same-count (start .pre) (c9 .cut-to .ensures) (c8 .cut-to2 .ensures) (c3 .count-of .ensures) (c .before .before .count-of2 .ensures))
+    let start = c9 .before .before .before .before .before in (
+      rw (c .before .before .before .before .before .before .load-two .kept .1 .1 .1 .1 .1 .1 .1 .0)
+          (into-recur (start .pre) (c9 .cut-to .ensures) (c8 .cut-to2 .ensures) (c3 .count-of .ensures)
+          (c .before .before .count-of2 .ensures)),
+      same-count (start .pre) (c9 .cut-to .ensures) (c8 .cut-to2 .ensures) (c3 .count-of .ensures) (c .before .before .count-of2 .ensures),
+    )
 
 returns : tie.Need-returns
 returns c =
@@ -39,7 +46,10 @@ returns c =
     let c13 = c11 .before .before in
     let c14 = c13 .before in
     let start = c14 .before .before .before .before .before in
-    into-loaded (start .pre) (c14 .cut-to .ensures) (c13 .cut-to2 .ensures) (c8 .count-of .ensures) (c .before .before .before .before .before .before .before .count-of2 .ensures) (start .args .a .now) (start .args .b .now) (c11 .load-two .last .1 .1 .1 .1 .1 .1 .1 .0) (c11 .load-two .ensures) (c11 .load-two .kept .1 .1 .1 .1 .1 .1 .1 .0) (c .before .before .before .before .divide-loaded .ensures)
+    into-loaded (start .pre) (c14 .cut-to .ensures) (c13 .cut-to2 .ensures) (c8 .count-of .ensures)
+    (c .before .before .before .before .before .before .before .count-of2 .ensures) (start .args .a .now)
+    (start .args .b .now) (c11 .load-two .last .1 .1 .1 .1 .1 .1 .1 .0) (c11 .load-two .ensures)
+    (c11 .load-two .kept .1 .1 .1 .1 .1 .1 .1 .0) (c .before .before .before .before .divide-loaded .ensures)
 
 pub divide-into-spec : {M : Type 1} → statement M
 divide-into-spec =

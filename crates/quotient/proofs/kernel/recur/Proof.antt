@@ -28,8 +28,11 @@ add-each-first c =
 
 each-first-requires : tie.Need-each-first-requires
 each-first-requires c κs =
-    let start = c .before .before .before .before .before .before in
-    (recur-dividing (start .pre) (c .before .before .before .strides-of .ensures) (c .before .before .strides-of2 .ensures), (recur-first (start .pre), recur-room (start .pre)))
+    let start = c .before .before .before .before .before .before in (
+      recur-dividing (start .pre) (c .before .before .before .strides-of .ensures)
+          (c .before .before .strides-of2 .ensures),
+      (recur-first (start .pre), recur-room (start .pre)),
+    )
 
 mul-copy : tie.Need-mul-copy
 mul-copy c =
@@ -50,7 +53,9 @@ copy-requires : tie.Need-copy-requires
 copy-requires c κs =
     let c7 = c .before .before .before .before .before .before .before in
     let start = c7 .before .before .before .before .before .before .before in
-    let n = c7 .each-first .ensures .len in let m = c7 .each-first .kept .1 .1 .1 .1 .1 .1 .1 .1 .1 .1 .1 .0 in simp (length-take, length-drop) (omega (arith, (start .pre) .work, (start .pre) .out))
+    let n = c7 .each-first .ensures .len in
+    let m = c7 .each-first .kept .1 .1 .1 .1 .1 .1 .1 .1 .1 .1 .1 .0 in
+    simp (length-take, length-drop) (omega (arith, (start .pre) .work, (start .pre) .out))
 
 same-length : tie.Need-same-length
 same-length c =

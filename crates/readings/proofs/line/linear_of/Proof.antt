@@ -23,12 +23,16 @@ is : (c : tie.After-fits-in Inv-loop μ-loop) →
     c .fits-in .result ≡ linearIn (block (start .args .t2) (start .args .a .now)) (4 - c .before .before .loop .left)
 is c =
     let start = c .before .before .before .before .before in
-    fits-is (start .args .a .now) (start .args .t2) (start .pre .1) (c .before .before .before .strides-of .ensures) (4 - c .before .before .loop .left) (c .fits-in .ensures)
+    fits-is (start .args .a .now) (start .args .t2) (start .pre .1) (c .before .before .before .strides-of .ensures)
+    (4 - c .before .before .loop .left) (c .fits-in .ensures)
 
-low : (c : tie.After-fits-in Inv-loop μ-loop) → c .fits-in .result ≡ true → at (c .before .before .before .strides-of .result) (4 - c .before .before .loop .left) < length ((c .before .before .before .before .before) .args .a .now)
+low : (c : tie.After-fits-in Inv-loop μ-loop) → c .fits-in .result ≡ true
+    → at (c .before .before .before .strides-of .result) (4 - c .before .before .loop .left)
+    < length ((c .before .before .before .before .before) .args .a .now)
 low c t =
     let start = c .before .before .before .before .before in
-    fits-low (start .args .a .now) (start .args .t2) (start .pre .1) (c .before .before .before .strides-of .ensures) (4 - c .before .before .loop .left) (c .fits-in .ensures) (start .pre .0) (omega arith) t
+    fits-low (start .args .a .now) (start .args .t2) (start .pre .1) (c .before .before .before .strides-of .ensures)
+    (4 - c .before .before .loop .left) (c .fits-in .ensures) (start .pre .0) (omega arith) t
 
 strides-of-requires : tie.Need-strides-of-requires Inv-loop μ-loop
 strides-of-requires c κs = (c .before) .pre .0
@@ -52,19 +56,25 @@ unfolding lineOf
 returns c =
     let c5 = c .before .before .before .before .before in
     let start = c5 .before .before .before in
-    rw (c .before .before .before .before .before .before .strides-of .ensures) (sym (c5 .loop .inv .1 ∙ from-found (block (start .args .t2) (start .args .a .now)) (4 - c5 .loop .left) (omega arith) (sym (is (c .before .before .before)) ∙ c .before .before .if1 .taken)))
+    rw (c .before .before .before .before .before .before .strides-of .ensures)
+    (sym (c5 .loop .inv .1 ∙ from-found (block (start .args .t2) (start .args .a .now)) (4 - c5 .loop .left)
+    (omega arith) (sym (is (c .before .before .before)) ∙ c .before .before .if1 .taken)))
 
 loop-again : tie.Need-loop-again Inv-loop μ-loop
 loop-again c =
     let c3 = c .before .before .before in
     let start = c3 .before .before .before in
-    let e : 4 - (c3 .loop .left - 1) ≡ 4 - c3 .loop .left + 1 = omega arith in
-    (omega arith, rw e (c3 .loop .inv .1 ∙ from-next (block (start .args .t2) (start .args .a .now)) (4 - c3 .loop .left) (omega arith) (sym (is (c .before)) ∙ c .if1 .left)))
+    let e : 4 - (c3 .loop .left - 1) ≡ 4 - c3 .loop .left + 1 = omega arith in (
+      omega arith,
+      rw e (c3 .loop .inv .1 ∙ from-next (block (start .args .t2) (start .args .a .now)) (4 - c3 .loop .left)
+          (omega arith) (sym (is (c .before)) ∙ c .if1 .left)),
+    )
 
 returns-2 : tie.Need-returns-2 Inv-loop μ-loop
 returns-2 c =
     let start = c .before .before .before .before .before in
-    c .none .ensures ∙ sym (c .before .before .loop .inv .1 ∙ from-end (block (start .args .t2) (start .args .a .now)) (4 - c .before .before .loop .left) (omega arith))
+    c .none .ensures ∙ sym (c .before .before .loop .inv .1
+    ∙ from-end (block (start .args .t2) (start .args .a .now)) (4 - c .before .before .loop .left) (omega arith))
 
 pub linear-of-spec : {M : Type 1} → statement M
 linear-of-spec =

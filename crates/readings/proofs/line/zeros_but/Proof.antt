@@ -31,7 +31,9 @@ loop-again c =
     (omega arith, zeros-more (start .args .a .now) (start .args .s) (c3 .loop .k) (c3 .loop .inv .1) (not-false _ (c .if1 .left)))
 
 returns-2 : tie.Need-returns-2 Inv-loop μ-loop
-returns-2 c = let e : c .before .loop .k ≡ length ((c .before .before) .args .a .now) = omega (arith, c .before .loop .inv .0) in sym (c .before .loop .inv .1) ∙ ap (zerosBut ((c .before .before) .args .a .now) ((c .before .before) .args .s)) e
+returns-2 c = let e : c .before .loop .k ≡ length ((c .before .before) .args .a .now) =
+    omega (arith, c .before .loop .inv .0) in
+    sym (c .before .loop .inv .1) ∙ ap (zerosBut ((c .before .before) .args .a .now) ((c .before .before) .args .s)) e
 
 pub zeros-but-spec : {M : Type 1} → statement M
 zeros-but-spec =

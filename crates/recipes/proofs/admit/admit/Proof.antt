@@ -31,7 +31,8 @@ noted-len c = c .before .before .before .before .judge .ensures .len
 returns : tie.Need-returns
 returns c =
     let start = c .before .before .before .before .before .before .before .before .before in
-    admit-check (start .args .headers .now) (start .args .steps .now) (start .args .coefficients) (start .args .pool) (start .args .words) (start .args .scratch) (c .before .before .before .before .judge .ensures) (c .if1 .taken)
+    admit-check (start .args .headers .now) (start .args .steps .now) (start .args .coefficients) (start .args .pool)
+    (start .args .words) (start .args .scratch) (c .before .before .before .before .judge .ensures) (c .if1 .taken)
 
 total-of-requires : tie.Need-total-of-requires
 total-of-requires c κs = (pass c .inputs, omega (arith, pass c .fit))
@@ -39,7 +40,10 @@ total-of-requires c κs = (pass c .inputs, omega (arith, pass c .fit))
 returns-2 : tie.Need-returns-2
 returns-2 c =
     let start = c .before .before .before .before .before .before .before .before .before .before .before .before in
-    rw (c .by .ensures) (admit-2 (start .args .headers .now) (start .args .steps .now) (start .args .coefficients) (start .args .pool) (start .args .words) (start .args .scratch) (c .before .before .before .before .before .before .before .judge .ensures) (c .before .before .before .if1 .left) (c .before .before .total-of .ensures) (c .before .if2 .taken))
+    rw (c .by .ensures) (admit-2 (start .args .headers .now) (start .args .steps .now) (start .args .coefficients)
+    (start .args .pool) (start .args .words) (start .args .scratch)
+    (c .before .before .before .before .before .before .before .judge .ensures)
+    (c .before .before .before .if1 .left) (c .before .before .total-of .ensures) (c .before .if2 .taken))
 
 part-total-of-end : tie.Need-part-total-of-end
 part-total-of-end c =
@@ -57,7 +61,11 @@ returns-3 c =
     let c7 = c .before .before .before .before .before .before .before in
     let c11 = c7 .before .before .before .before in
     let start = c11 .before .before .before .before .before in
-    rw (c .by2 .ensures) (admit-5 (start .args .headers .now) (start .args .steps .now) (start .args .coefficients) (start .args .pool) (start .args .words) (start .args .scratch) (c11 .judge .ensures) (c7 .if1 .left) (c .before .before .before .before .before .before .total-of .ensures) (c .before .before .before .before .before .if2 .left) (c .before .before .total-of2 .ensures ∙ ap total (pass c7 .part)) (not-true _ (c .before .if3 .taken)))
+    rw (c .by2 .ensures) (admit-5 (start .args .headers .now) (start .args .steps .now) (start .args .coefficients)
+    (start .args .pool) (start .args .words) (start .args .scratch) (c11 .judge .ensures) (c7 .if1 .left)
+    (c .before .before .before .before .before .before .total-of .ensures)
+    (c .before .before .before .before .before .if2 .left)
+    (c .before .before .total-of2 .ensures ∙ ap total (pass c7 .part)) (not-true _ (c .before .if3 .taken)))
 
 part-largest-of-end : tie.Need-part-largest-of-end
 part-largest-of-end c =
@@ -74,7 +82,11 @@ mul-if4 : tie.Need-mul-if4
 mul-if4 c =
     let c9 = c .before .before .before .before .before .before .before .before .before in
     let start = c9 .before .before .before .before .before .before .before .before .before in
-    omega (arith, c .largest-of .ensures ∙ ap largest (pass c9 .part), largest-most (announcedSteps (start .args .headers .now) (start .args .steps .now)) (pass c9 .steps))
+    omega (
+      arith,
+      c .largest-of .ensures ∙ ap largest (pass c9 .part),
+      largest-most (announcedSteps (start .args .headers .now) (start .args .steps .now)) (pass c9 .steps),
+    )
 
 returns-4 : tie.Need-returns-4
 returns-4 c =
@@ -83,7 +95,12 @@ returns-4 c =
     let c11 = c10 .before in
     let c15 = c11 .before .before .before .before in
     let start = c15 .before .before .before .before .before in
-    rw (c .by3 .ensures) (admit-6 (start .args .headers .now) (start .args .steps .now) (start .args .coefficients) (start .args .pool) (start .args .words) (start .args .scratch) (c15 .judge .ensures) (c11 .if1 .left) (c10 .total-of .ensures) (c9 .if2 .left) (c .before .before .before .before .before .before .total-of2 .ensures ∙ ap total (pass c11 .part)) (not-false _ (c .before .before .before .before .before .if3 .left)) (c .before .before .largest-of .ensures ∙ ap largest (pass c11 .part)) (c .before .if4 .taken))
+    rw (c .by3 .ensures) (admit-6 (start .args .headers .now) (start .args .steps .now) (start .args .coefficients)
+    (start .args .pool) (start .args .words) (start .args .scratch) (c15 .judge .ensures) (c11 .if1 .left)
+    (c10 .total-of .ensures) (c9 .if2 .left)
+    (c .before .before .before .before .before .before .total-of2 .ensures ∙ ap total (pass c11 .part))
+    (not-false _ (c .before .before .before .before .before .if3 .left))
+    (c .before .before .largest-of .ensures ∙ ap largest (pass c11 .part)) (c .before .if4 .taken))
 
 returns-5 : tie.Need-returns-5
 returns-5 c =
@@ -92,7 +109,12 @@ returns-5 c =
     let c11 = c10 .before in
     let c15 = c11 .before .before .before .before in
     let start = c15 .before .before .before .before .before in
-    rw (c .none .ensures) (admit-none (start .args .headers .now) (start .args .steps .now) (start .args .coefficients) (start .args .pool) (start .args .words) (start .args .scratch) (c15 .judge .ensures) (c11 .if1 .left) (c10 .total-of .ensures) (c9 .if2 .left) (c .before .before .before .before .before .before .total-of2 .ensures ∙ ap total (pass c11 .part)) (not-false _ (c .before .before .before .before .before .if3 .left)) (c .before .before .largest-of .ensures ∙ ap largest (pass c11 .part)) (c .before .if4 .left))
+    rw (c .none .ensures) (admit-none (start .args .headers .now) (start .args .steps .now) (start .args .coefficients)
+    (start .args .pool) (start .args .words) (start .args .scratch) (c15 .judge .ensures) (c11 .if1 .left)
+    (c10 .total-of .ensures) (c9 .if2 .left)
+    (c .before .before .before .before .before .before .total-of2 .ensures ∙ ap total (pass c11 .part))
+    (not-false _ (c .before .before .before .before .before .if3 .left))
+    (c .before .before .largest-of .ensures ∙ ap largest (pass c11 .part)) (c .before .if4 .left))
 
 pub admit-spec : {M : Type 1} → statement M
 admit-spec =

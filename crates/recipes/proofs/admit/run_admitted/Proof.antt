@@ -76,8 +76,10 @@ slice-aggregate-run-steps-2 c = sym (length-take-le _ _ (fits (c .before .before
 run-steps-requires : tie.Need-run-steps-requires
 run-steps-requires c κs =
     let c7 = c .before .before .before .before .before .before .before in
-    let start = c7 .before .before .before .before .before .before .before .before .before .before in
-    (admitted-exactly (start .pre .0) (length-take-le _ _ (fits c7) ∙ ap (λ (k : ℕ). 8 * k) (most-is c7)), running-none (start .pre .0) (start .args .pool .now) (c .before .before .before .before .before .note-starts .ensures) (omega arith))
+    let start = c7 .before .before .before .before .before .before .before .before .before .before in (
+      admitted-exactly (start .pre .0) (length-take-le _ _ (fits c7) ∙ ap (λ (k : ℕ). 8 * k) (most-is c7)),
+      running-none (start .pre .0) (start .args .pool .now) (c .before .before .before .before .before .note-starts .ensures) (omega arith),
+    )
 
 part-note-inputs-end : tie.Need-part-note-inputs-end
 part-note-inputs-end c =
@@ -103,8 +105,19 @@ returns c =
     let c12 = c .before .before .before .before .before .before .before .before .before .before .before .before in
     let c17 = c12 .before .before .before .before .before in
     let c25 = c17 .before .before .before .before .before .before .before .before in
-    let start = c25 .before .before .before .before .before .before .before .before .before .before in
-    (c17 .run-steps .ensures .1, (words-end (length (start .args .headers .now)) (length (start .args .steps .now)) (c17 .run-steps .last .1 .1 .1 .0) _ (start .args .words .now) (c17 .run-steps .ensures .0) (omega (arith, run-passed (start .pre .0) .fit, start .pre .0 .many, c17 .run-steps .kept .1 .1 .1 .0)) (c .before .before .before .before .before .before .note-inputs .ensures), scratch-end (largest (announcedSteps (start .args .headers .now) (start .args .steps .now))) (start .args .scratch .now) (c17 .run-steps .last .1 .1 .1 .1 .1 .1 .0) (ap (λ (k : ℕ). 8 * k) (most-is c25)) (used c17) (c .before .before .clear .ensures) (length-take-le _ _ (again c17))))
+    let start = c25 .before .before .before .before .before .before .before .before .before .before in (
+      c17 .run-steps .ensures .1,
+      (
+        words-end (length (start .args .headers .now)) (length (start .args .steps .now))
+            (c17 .run-steps .last .1 .1 .1 .0) _ (start .args .words .now) (c17 .run-steps .ensures .0)
+            (omega (arith, run-passed (start .pre .0) .fit, start .pre .0 .many, c17 .run-steps .kept .1 .1 .1 .0))
+            (c .before .before .before .before .before .before .note-inputs .ensures),
+        scratch-end (largest (announcedSteps (start .args .headers .now) (start .args .steps .now)))
+            (start .args .scratch .now) (c17 .run-steps .last .1 .1 .1 .1 .1 .1 .0)
+            (ap (λ (k : ℕ). 8 * k) (most-is c25)) (used c17) (c .before .before .clear .ensures)
+            (length-take-le _ _ (again c17)),
+      ),
+    )
 
 pub run-admitted-spec : {M : Type 1} → statement M
 run-admitted-spec =

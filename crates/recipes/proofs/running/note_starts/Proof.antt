@@ -42,12 +42,18 @@ stored-of-requires c κs =
 add-from : tie.Need-add-from Inv-loop μ-loop
 add-from c =
     let start = c .before .before .before .before .before .before .before in
-    record { fits = starting-fits (c .before .before .before .before .loop .inv) (start .pre .0) (c .stored-of .ensures ∙ ap stored (c .before .header-of .ensures)) (start .pre .1 .1) }
+    record {
+      fits =
+          starting-fits (c .before .before .before .before .loop .inv) (start .pre .0)
+          (c .stored-of .ensures ∙ ap stored (c .before .header-of .ensures)) (start .pre .1 .1);
+    }
 
 loop-again : tie.Need-loop-again Inv-loop μ-loop
 loop-again c =
     let start = c .before .before .before .before .before .before .before in
-    starting-more (c .before .before .before .before .loop .inv) (start .pre .0) (c .stored-of .ensures ∙ ap stored (c .before .header-of .ensures)) (c .before .before .before .loop-test .taken) (start .pre .1 .0)
+    starting-more (c .before .before .before .before .loop .inv) (start .pre .0)
+    (c .stored-of .ensures ∙ ap stored (c .before .header-of .ensures))
+    (c .before .before .before .loop-test .taken) (start .pre .1 .0)
 
 same-length : tie.Need-same-length Inv-loop μ-loop
 same-length c = c .before .loop .inv .begun .len

@@ -16,7 +16,9 @@ use Rattle.recipes.proofs.running.step_word.Reads as step-word-reads
 use Rattle.shape_words.proofs.word.header_of.Reads as header-of-reads
 
 abbrev Inv-loop : tie.InvT-loop
-Inv-loop headers coefficients steps known₀ starts₀ pool₀ scratch₀ inputs at₀ i₀ known starts pool scratch at i = Running headers coefficients steps known₀ pool₀ i at known starts pool × (length starts ≡ length starts₀) × (length scratch ≡ length scratch₀)
+Inv-loop headers coefficients steps known₀ starts₀ pool₀ scratch₀ inputs at₀ i₀ known starts pool scratch at i =
+    Running headers coefficients steps known₀ pool₀ i at known starts pool × (length starts ≡ length starts₀)
+    × (length scratch ≡ length scratch₀)
 
 abbrev μ-loop : tie.MeasureT-loop
 μ-loop headers coefficients steps known₀ starts₀ pool₀ scratch₀ inputs at₀ i₀ known starts pool scratch at i = length steps - i
@@ -24,11 +26,14 @@ abbrev μ-loop : tie.MeasureT-loop
 counted : (c : tie.After-stored-of Inv-loop μ-loop) →
     let c6 = c .before .before .before .before .before .before in
     let start = c6 .before .before .before .before .before .before .before .before in
-    c .stored-of .result ≡ stored (announcedStep (getD (start .args .steps .now) (c6 .loop .i) 0) (announcedPlaces (start .args .headers .now) (take (c6 .loop .i) (start .args .steps .now))))
+    c .stored-of .result ≡ stored (announcedStep (getD (start .args .steps .now) (c6 .loop .i) 0)
+    (announcedPlaces (start .args .headers .now) (take (c6 .loop .i) (start .args .steps .now))))
 counted c =
     let c12 = c .before .before .before .before .before .before .before .before .before .before .before .before in
     let start = c12 .before .before in
-    c .stored-of .ensures ∙ (ap stored (c .before .header-of .ensures) ∙ room-is (start .pre .0) (c .before .before .before .before .before .before .loop .inv .0) (c .before .before .before .before .before .loop-test .taken))
+    c .stored-of .ensures ∙ (ap stored (c .before .header-of .ensures)
+    ∙ room-is (start .pre .0) (c .before .before .before .before .before .before .loop .inv .0)
+    (c .before .before .before .before .before .loop-test .taken))
 
 loop-holds : tie.Need-loop-holds Inv-loop μ-loop
 loop-holds c = (c .before .before .before .before .before .before .before .pre .1, refl, refl)
@@ -46,21 +51,31 @@ mul-header-of c =
 slice-read-header-of : tie.Need-slice-read-header-of Inv-loop μ-loop
 slice-read-header-of c =
     let start = c .before .before .before .before .before .before .before .before .before .before .before .before in
-    omega (arith, fit (start .pre .0), c .before .before .before .loop-test .taken, c .before .before .before .before .loop .inv .0 .len-known, start .pre .0 .many)
+    omega (
+      arith,
+      fit (start .pre .0),
+      c .before .before .before .loop-test .taken,
+      c .before .before .before .before .loop .inv .0 .len-known,
+      start .pre .0 .many,
+    )
 
 stored-of-requires : tie.Need-stored-of-requires Inv-loop μ-loop
 stored-of-requires c κs =
     let c12 = c .before .before .before .before .before .before .before .before .before .before .before .before in
     let start = c12 .before in
-    rw (c .header-of .ensures) (room-ruled (start .pre .0) (c .before .before .before .before .before .loop .inv .0) (c .before .before .before .before .loop-test .taken))
+    rw (c .header-of .ensures) (room-ruled (start .pre .0) (c .before .before .before .before .before .loop .inv .0)
+    (c .before .before .before .before .loop-test .taken))
 
 step-word-requires : tie.Need-step-word-requires Inv-loop μ-loop
 step-word-requires c κs =
     let c4 = c .before .before .before .before in
     let c9 = c4 .before .before .before .before .before in
     let c10 = c9 .before in
-    let start = c10 .before .before .before .before .before .before .before .before in
-    (rw (c .before .before .before .before .before .before .before .step-of .ensures) (step-in (start .pre .0) (c10 .loop .inv .0) (c9 .loop-test .taken) (counted c4) (c10 .loop .inv .0 .len-pool)), rw (c10 .loop .inv .2) (step-lent (start .pre .0) (c10 .loop .inv .0) (c9 .loop-test .taken) (counted c4) (c10 .loop .inv .0 .len-pool)))
+    let start = c10 .before .before .before .before .before .before .before .before in (
+      rw (c .before .before .before .before .before .before .before .step-of .ensures)
+          (step-in (start .pre .0) (c10 .loop .inv .0) (c9 .loop-test .taken) (counted c4) (c10 .loop .inv .0 .len-pool)),
+      rw (c10 .loop .inv .2) (step-lent (start .pre .0) (c10 .loop .inv .0) (c9 .loop-test .taken) (counted c4) (c10 .loop .inv .0 .len-pool)),
+    )
 
 mul-known : tie.Need-mul-known Inv-loop μ-loop
 mul-known c =
@@ -98,7 +113,10 @@ add-at c =
     let c14 = c9 .before .before .before .before .before in
     let c15 = c14 .before in
     let start = c15 .before .before .before .before .before .before .before .before in
-    let g = step-lent (start .pre .0) (c15 .loop .inv .0) (c14 .loop-test .taken) (counted c9) (c15 .loop .inv .0 .len-pool) in omega (arith, g .room, c15 .loop .inv .0 .len-pool, start .good)
+    let g =
+    step-lent (start .pre .0) (c15 .loop .inv .0) (c14 .loop-test .taken) (counted c9)
+    (c15 .loop .inv .0 .len-pool) in
+    omega (arith, g .room, c15 .loop .inv .0 .len-pool, start .good)
 
 add-i : tie.Need-add-i Inv-loop μ-loop
 add-i c =
@@ -114,8 +132,13 @@ loop-again c =
     let c12 = c9 .before .before .before in
     let c14 = c12 .before .before in
     let c15 = c14 .before in
-    let start = c15 .before .before .before .before .before .before .before .before in
-    (running-more (start .pre .0) (c15 .loop .inv .0) (c14 .loop-test .taken) (counted c9) (c15 .loop .inv .0 .len-pool) (rw (c12 .step-of .ensures) at (c4 .step-word .ensures .0)) (rw (c12 .step-of .ensures) at (c4 .step-word .ensures .1)), length-set (c15 .loop .starts) (length (start .args .headers .now) + c15 .loop .i) (c15 .loop .at) ∙ c15 .loop .inv .1, c4 .step-word .kept .1 .1 .1 .1 .1 .1 .1 .1 .0 ∙ c15 .loop .inv .2)
+    let start = c15 .before .before .before .before .before .before .before .before in (
+      running-more (start .pre .0) (c15 .loop .inv .0) (c14 .loop-test .taken) (counted c9) (c15 .loop .inv .0 .len-pool)
+          (rw (c12 .step-of .ensures) at (c4 .step-word .ensures .0))
+          (rw (c12 .step-of .ensures) at (c4 .step-word .ensures .1)),
+      length-set (c15 .loop .starts) (length (start .args .headers .now) + c15 .loop .i) (c15 .loop .at) ∙ c15 .loop .inv .1,
+      c4 .step-word .kept .1 .1 .1 .1 .1 .1 .1 .1 .0 ∙ c15 .loop .inv .2,
+    )
 
 same-length : tie.Need-same-length Inv-loop μ-loop
 same-length c = c .before .loop .inv .0 .len-known

@@ -20,7 +20,8 @@ use Rattle.shape_words.proofs.word.pack.Reads as pack-reads
 
 named : (c : tie.Else1) →
     let start = c .before .before .before .before .before .before .before in
-    Named (start .args .s) (start .args .inputs) (start .args .known .now) (start .args .starts .now) (length (start .args .coefficients .now)) (start .args .at) (start .args .room)
+    Named (start .args .s) (start .args .inputs) (start .args .known .now) (start .args .starts .now)
+    (length (start .args .coefficients .now)) (start .args .at) (start .args .room)
 named c = c .before .before .before .before .before .before .before .pre .0 .named (c .if1 .left)
 
 pack-requires : tie.Need-pack-requires
@@ -29,8 +30,21 @@ pack-requires c κs = rw (c .none .ensures) (none-regular .rules)
 returns : tie.Need-returns
 returns c =
     let c6 = c .before .before .before .before .before .before in
-    let start = c6 .before .before .before .before .before .before .before in
-    (c .pack .ensures ∙ (ap wordOf (c .before .none .ensures) ∙ ap (λ (p : Poly). wordOf (p .head)) (constant-value (start .args .s) (lyingAt (start .args .inputs) (start .args .known .now) (start .args .starts .now) (start .args .coefficients .now) (take (start .args .at) (start .args .pool .now)) (start .args .s .a)) (lyingAt (start .args .inputs) (start .args .known .now) (start .args .starts .now) (start .args .coefficients .now) (take (start .args .at) (start .args .pool .now)) (start .args .s .b)) (c6 .if1 .taken))), kept-as (ap (λ (p : Poly). padded (start .args .room) (p .coeffs)) (constant-value (start .args .s) (lyingAt (start .args .inputs) (start .args .known .now) (start .args .starts .now) (start .args .coefficients .now) (take (start .args .at) (start .args .pool .now)) (start .args .s .a)) (lyingAt (start .args .inputs) (start .args .known .now) (start .args .starts .now) (start .args .coefficients .now) (take (start .args .at) (start .args .pool .now)) (start .args .s .b)) (c6 .if1 .taken))) (c .before .before .before .before .constant-to .ensures))
+    let start = c6 .before .before .before .before .before .before .before in (
+      c .pack .ensures ∙ (ap wordOf (c .before .none .ensures)
+          ∙ ap (λ (p : Poly). wordOf (p .head)) (constant-value (start .args .s)
+          (lyingAt (start .args .inputs) (start .args .known .now) (start .args .starts .now)
+          (start .args .coefficients .now) (take (start .args .at) (start .args .pool .now)) (start .args .s .a))
+          (lyingAt (start .args .inputs) (start .args .known .now) (start .args .starts .now)
+          (start .args .coefficients .now) (take (start .args .at) (start .args .pool .now)) (start .args .s .b))
+          (c6 .if1 .taken))),
+      kept-as (ap (λ (p : Poly). padded (start .args .room) (p .coeffs))
+          (constant-value (start .args .s) (lyingAt (start .args .inputs) (start .args .known .now)
+          (start .args .starts .now) (start .args .coefficients .now) (take (start .args .at) (start .args .pool .now))
+          (start .args .s .a)) (lyingAt (start .args .inputs) (start .args .known .now) (start .args .starts .now)
+          (start .args .coefficients .now) (take (start .args .at) (start .args .pool .now)) (start .args .s .b))
+          (c6 .if1 .taken))) (c .before .before .before .before .constant-to .ensures),
+    )
 
 mul-perform : tie.Need-mul-perform
 mul-perform c = omega (arith, named c .a-known, c .before .before .before .before .before .before .before .good)

@@ -9,7 +9,10 @@ announced-of-requires c κs =
     (rw (c .before .head-at .ensures) (start .pre .at _ .rules), rw (c .head-at2 .ensures) (start .pre .at _ .rules))
 
 returns : tie.Need-returns
-returns c = announced-is _ _ (c .before .before .before .before .step-of .ensures) (c .before .before .before .family-of .ensures) (c .before .before .head-at .ensures) (c .before .head-at2 .ensures) (c .announced-of .ensures)
+returns c =
+    announced-is _ _ (c .before .before .before .before .step-of .ensures)
+    (c .before .before .before .family-of .ensures) (c .before .before .head-at .ensures) (c .before .head-at2 .ensures)
+    (c .announced-of .ensures)
 
 pub announce-spec : {M : Type 1} → statement M
 announce-spec =

@@ -24,7 +24,8 @@ same-length c =
 returns : tie.Need-returns
 returns c =
     let start = c .before .before .before .before .before .before in
-    constant-kept (start .args .at) (start .args .room) (start .args .pool .now) (wholeF (start .args .n)) (start .pre .0) (start .pre .1) (c .before .before .pad .ensures)
+    constant-kept (start .args .at) (start .args .room) (start .args .pool .now) (wholeF (start .args .n))
+    (start .pre .0) (start .pre .1) (c .before .before .pad .ensures)
 
 pub constant-to-spec : {M : Type 1} → statement M
 constant-to-spec =

@@ -29,7 +29,12 @@ use Rattle.shape_words.proofs.word.pack.Reads as pack-reads
 is-announced : (c : tie.After-announced-of) →
     let start = c .before .before .before .before .before .before .before in
     c .announced-of .result ≡ announced (familyOf (start .args .s)) (headerOf (start .args .xw)) (headerOf (start .args .yw))
-is-announced c = c .announced-of .ensures ∙ rw (c .before .family-of .ensures, c .before .before .before .header-of .ensures, c .before .before .header-of2 .ensures)
+is-announced c =
+    c .announced-of .ensures ∙ rw (
+      c .before .family-of .ensures,
+      c .before .before .before .header-of .ensures,
+      c .before .before .header-of2 .ensures,
+    )
 
 fewer : (c : tie.After-stored-of) →
     let start = c .before .before .before .before .before .before .before .before in
@@ -40,16 +45,33 @@ fewer c =
 
 head-is : (c : tie.After-value-to) →
     let start = c .before .before .before .before .before .before .before .before .before .before .before in
-    c .value-to .result ≡ valueOf (start .args .s) (lying (start .args .xi) (start .args .coefficients .now) (take (start .args .at) (start .args .pool .now)) (start .args .xf) (headerOf (start .args .xw))) (lying (start .args .yi) (start .args .coefficients .now) (take (start .args .at) (start .args .pool .now)) (start .args .yf) (headerOf (start .args .yw))) .head
-head-is c = rw (c .before .before .before .before .before .before .before .header-of .ensures, c .before .before .before .before .before .before .header-of2 .ensures) at (c .value-to .ensures .0)
+    c .value-to .result ≡ valueOf (start .args .s)
+    (lying (start .args .xi) (start .args .coefficients .now) (take (start .args .at) (start .args .pool .now))
+    (start .args .xf) (headerOf (start .args .xw)))
+    (lying (start .args .yi) (start .args .coefficients .now) (take (start .args .at) (start .args .pool .now))
+    (start .args .yf) (headerOf (start .args .yw))) .head
+head-is c =
+    rw (
+      c .before .before .before .before .before .before .before .header-of .ensures,
+      c .before .before .before .before .before .before .header-of2 .ensures,
+    ) at (c .value-to .ensures .0)
 
-given : (c : tie.Start) → length ((lying (c .args .xi) (c .args .coefficients .now) (take (c .args .at) (c .args .pool .now)) (c .args .xf) (headerOf (c .args .xw))) .coeffs) ≡ stored (headerOf (c .args .xw))
-given c = let g = c .pre .1 .1 in let l : c .args .at ≤ length (c .args .pool .now) = omega (arith, g .room) in length-operand (c .args .xf) (stored (headerOf (c .args .xw))) (source (c .args .xi) (c .args .coefficients .now) (take (c .args .at) (c .args .pool .now))) (lies-source (c .args .coefficients .now) (take (c .args .at) (c .args .pool .now)) (c .pre .1 .0 .left) (length-take-le _ _ l))
+given : (c : tie.Start)
+    → length ((lying (c .args .xi) (c .args .coefficients .now) (take (c .args .at) (c .args .pool .now)) (c .args .xf)
+    (headerOf (c .args .xw))) .coeffs) ≡ stored (headerOf (c .args .xw))
+given c = let g = c .pre .1 .1 in
+    let l : c .args .at ≤ length (c .args .pool .now) = omega (arith, g .room) in
+    length-operand (c .args .xf) (stored (headerOf (c .args .xw)))
+    (source (c .args .xi) (c .args .coefficients .now) (take (c .args .at) (c .args .pool .now)))
+    (lies-source (c .args .coefficients .now) (take (c .args .at) (c .args .pool .now))
+    (c .pre .1 .0 .left) (length-take-le _ _ l))
 
 announced-of-requires : tie.Need-announced-of-requires
 announced-of-requires c κs =
-    let start = c .before .before .before .before .before .before in
-    (rw (c .before .before .header-of .ensures) (start .pre .0 .left .regular .rules), rw (c .before .header-of2 .ensures) (start .pre .0 .right .regular .rules))
+    let start = c .before .before .before .before .before .before in (
+      rw (c .before .before .header-of .ensures) (start .pre .0 .left .regular .rules),
+      rw (c .before .header-of2 .ensures) (start .pre .0 .right .regular .rules),
+    )
 
 stored-of-requires : tie.Need-stored-of-requires
 stored-of-requires c κs =
@@ -60,8 +82,12 @@ value-to-requires : tie.Need-value-to-requires
 value-to-requires c κs =
     let c5 = c .before .before .before .before .before in
     let c6 = c5 .before in
-    let start = c6 .before .before .before .before in
-    (rw (c6 .header-of .ensures, c5 .header-of2 .ensures) (making (start .pre .0) (start .pre .1 .1) (is-announced (c .before .before .before)) (c .before .before .stored-of .ensures)), (rw (c6 .header-of .ensures, c5 .header-of2 .ensures) (start .pre .1 .0), lent-fewer (start .pre .0) (start .pre .1 .1) (fewer (c .before .before))))
+    let start = c6 .before .before .before .before in (
+      rw (c6 .header-of .ensures, c5 .header-of2 .ensures)
+          (making (start .pre .0) (start .pre .1 .1) (is-announced (c .before .before .before))
+          (c .before .before .stored-of .ensures)),
+      (rw (c6 .header-of .ensures, c5 .header-of2 .ensures) (start .pre .1 .0), lent-fewer (start .pre .0) (start .pre .1 .1) (fewer (c .before .before))),
+    )
 
 add-pad : tie.Need-add-pad
 add-pad c =
@@ -79,7 +105,9 @@ pad-requires : tie.Need-pad-requires
 pad-requires c κs =
     let c8 = c .before .before .before .before .before .before .before .before in
     let start = c8 .before .before .before .before .before .before .before .before in
-    let g = start .pre .1 .1 in let l = c .before .before .before .before .before .value-to .kept .1 .1 .1 .1 .1 .1 .1 .1 .1 .1 .0 in (omega (arith, fewer c8), omega (arith, g .room, l))
+    let g = start .pre .1 .1 in
+    let l = c .before .before .before .before .before .value-to .kept .1 .1 .1 .1 .1 .1 .1 .1 .1 .1 .0 in
+    (omega (arith, fewer c8), omega (arith, g .room, l))
 
 pack-requires : tie.Need-pack-requires
 pack-requires c κs =
@@ -87,7 +115,12 @@ pack-requires c κs =
     let c11 = c8 .before .before .before in
     let c12 = c11 .before in
     let start = c12 .before .before .before .before .before .before .before in
-    rw (head-is c8) (value-ruled (making (start .pre .0) (start .pre .1 .1) (is-announced c12) (c11 .stored-of .ensures)) ((lying (start .args .xi) (start .args .coefficients .now) (take (start .args .at) (start .args .pool .now)) (start .args .xf) (headerOf (start .args .xw))) .coeffs) ((lying (start .args .yi) (start .args .coefficients .now) (take (start .args .at) (start .args .pool .now)) (start .args .yf) (headerOf (start .args .yw))) .coeffs) (given start))
+    rw (head-is c8)
+    (value-ruled (making (start .pre .0) (start .pre .1 .1) (is-announced c12) (c11 .stored-of .ensures))
+    ((lying (start .args .xi) (start .args .coefficients .now) (take (start .args .at) (start .args .pool .now))
+    (start .args .xf) (headerOf (start .args .xw))) .coeffs)
+    ((lying (start .args .yi) (start .args .coefficients .now) (take (start .args .at) (start .args .pool .now))
+    (start .args .yf) (headerOf (start .args .yw))) .coeffs) (given start))
 
 returns : tie.Need-returns
 returns c =
@@ -96,8 +129,16 @@ returns c =
     let c13 = c12 .before in
     let c15 = c13 .before .before in
     let c16 = c15 .before in
-    let start = c16 .before .before .before .before in
-    (c .pack .ensures ∙ ap wordOf (head-is c9), value-padded (making (start .pre .0) (start .pre .1 .1) (is-announced c13) (c12 .stored-of .ensures)) ((lying (start .args .xi) (start .args .coefficients .now) (take (start .args .at) (start .args .pool .now)) (start .args .xf) (headerOf (start .args .xw))) .coeffs) ((lying (start .args .yi) (start .args .coefficients .now) (take (start .args .at) (start .args .pool .now)) (start .args .yf) (headerOf (start .args .yw))) .coeffs) (given start) (fewer c12) (rw (c16 .header-of .ensures, c15 .header-of2 .ensures) at (c9 .value-to .ensures .1)) (c .before .before .before .pad .ensures))
+    let start = c16 .before .before .before .before in (
+      c .pack .ensures ∙ ap wordOf (head-is c9),
+      value-padded (making (start .pre .0) (start .pre .1 .1) (is-announced c13) (c12 .stored-of .ensures))
+          ((lying (start .args .xi) (start .args .coefficients .now) (take (start .args .at) (start .args .pool .now))
+          (start .args .xf) (headerOf (start .args .xw))) .coeffs)
+          ((lying (start .args .yi) (start .args .coefficients .now) (take (start .args .at) (start .args .pool .now))
+          (start .args .yf) (headerOf (start .args .yw))) .coeffs) (given start) (fewer c12)
+          (rw (c16 .header-of .ensures, c15 .header-of2 .ensures) at (c9 .value-to .ensures .1))
+          (c .before .before .before .pad .ensures),
+    )
 
 pub perform-spec : {M : Type 1} → statement M
 perform-spec =

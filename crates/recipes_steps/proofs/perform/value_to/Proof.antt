@@ -29,8 +29,19 @@ returns : tie.Need-returns
 returns c =
     let c4 = c .before .before .before .before in
     let c7 = c4 .before .before .before in
-    let start = c7 .before .before .before .before in
-    (c4 .power-to .ensures .0 ∙ ap (λ (p : Poly). p .head) (power-value (start .pre .0) (c7 .if1 .taken) (lying (start .args .xi) (start .args .coefficients .now) (take (start .args .at) (start .args .pool .now)) (start .args .xf) (start .args .x)) (lying (start .args .yi) (start .args .coefficients .now) (take (start .args .at) (start .args .pool .now)) (start .args .yf) (start .args .y))), kept-as (ap (λ (p : Poly). padded (start .args .n) (p .coeffs)) (power-value (start .pre .0) (c7 .if1 .taken) (lying (start .args .xi) (start .args .coefficients .now) (take (start .args .at) (start .args .pool .now)) (start .args .xf) (start .args .x)) (lying (start .args .yi) (start .args .coefficients .now) (take (start .args .at) (start .args .pool .now)) (start .args .yf) (start .args .y)))) (c4 .power-to .ensures .1))
+    let start = c7 .before .before .before .before in (
+      c4 .power-to .ensures .0 ∙ ap (λ (p : Poly). p .head)
+          (power-value (start .pre .0) (c7 .if1 .taken)
+          (lying (start .args .xi) (start .args .coefficients .now) (take (start .args .at) (start .args .pool .now))
+          (start .args .xf) (start .args .x)) (lying (start .args .yi) (start .args .coefficients .now)
+          (take (start .args .at) (start .args .pool .now)) (start .args .yf) (start .args .y))),
+      kept-as (ap (λ (p : Poly). padded (start .args .n) (p .coeffs))
+          (power-value (start .pre .0) (c7 .if1 .taken)
+          (lying (start .args .xi) (start .args .coefficients .now) (take (start .args .at) (start .args .pool .now))
+          (start .args .xf) (start .args .x)) (lying (start .args .yi) (start .args .coefficients .now)
+          (take (start .args .at) (start .args .pool .now)) (start .args .yf) (start .args .y))))
+          (c4 .power-to .ensures .1),
+    )
 
 pair-to-requires : tie.Need-pair-to-requires
 pair-to-requires c κs =
@@ -41,8 +52,19 @@ returns-2 : tie.Need-returns-2
 returns-2 c =
     let c4 = c .before .before .before .before in
     let c7 = c4 .before .before .before in
-    let start = c7 .before .before .before .before .before in
-    (c4 .pair-to .ensures .0 ∙ ap (λ (p : Poly). p .head) (pair-value (start .pre .0) (c7 .if2 .taken) (lying (start .args .xi) (start .args .coefficients .now) (take (start .args .at) (start .args .pool .now)) (start .args .xf) (start .args .x)) (lying (start .args .yi) (start .args .coefficients .now) (take (start .args .at) (start .args .pool .now)) (start .args .yf) (start .args .y))), kept-as (ap (λ (p : Poly). padded (start .args .n) (p .coeffs)) (pair-value (start .pre .0) (c7 .if2 .taken) (lying (start .args .xi) (start .args .coefficients .now) (take (start .args .at) (start .args .pool .now)) (start .args .xf) (start .args .x)) (lying (start .args .yi) (start .args .coefficients .now) (take (start .args .at) (start .args .pool .now)) (start .args .yf) (start .args .y)))) (c4 .pair-to .ensures .1))
+    let start = c7 .before .before .before .before .before in (
+      c4 .pair-to .ensures .0 ∙ ap (λ (p : Poly). p .head)
+          (pair-value (start .pre .0) (c7 .if2 .taken)
+          (lying (start .args .xi) (start .args .coefficients .now) (take (start .args .at) (start .args .pool .now))
+          (start .args .xf) (start .args .x)) (lying (start .args .yi) (start .args .coefficients .now)
+          (take (start .args .at) (start .args .pool .now)) (start .args .yf) (start .args .y))),
+      kept-as (ap (λ (p : Poly). padded (start .args .n) (p .coeffs))
+          (pair-value (start .pre .0) (c7 .if2 .taken)
+          (lying (start .args .xi) (start .args .coefficients .now) (take (start .args .at) (start .args .pool .now))
+          (start .args .xf) (start .args .x)) (lying (start .args .yi) (start .args .coefficients .now)
+          (take (start .args .at) (start .args .pool .now)) (start .args .yf) (start .args .y))))
+          (c4 .pair-to .ensures .1),
+    )
 
 substitute-to-requires : tie.Need-substitute-to-requires
 substitute-to-requires c κs =
@@ -53,13 +75,27 @@ returns-3 : tie.Need-returns-3
 returns-3 c =
     let c4 = c .before .before .before .before in
     let c7 = c4 .before .before .before in
-    let start = c7 .before .before .before .before .before .before in
-    (c4 .substitute-to .ensures .0 ∙ ap (λ (p : Poly). p .head) (substitute-value (start .pre .0) (c7 .if3 .taken) (lying (start .args .xi) (start .args .coefficients .now) (take (start .args .at) (start .args .pool .now)) (start .args .xf) (start .args .x)) (lying (start .args .yi) (start .args .coefficients .now) (take (start .args .at) (start .args .pool .now)) (start .args .yf) (start .args .y))), kept-as (ap (λ (p : Poly). padded (start .args .n) (p .coeffs)) (substitute-value (start .pre .0) (c7 .if3 .taken) (lying (start .args .xi) (start .args .coefficients .now) (take (start .args .at) (start .args .pool .now)) (start .args .xf) (start .args .x)) (lying (start .args .yi) (start .args .coefficients .now) (take (start .args .at) (start .args .pool .now)) (start .args .yf) (start .args .y)))) (c4 .substitute-to .ensures .1))
+    let start = c7 .before .before .before .before .before .before in (
+      c4 .substitute-to .ensures .0 ∙ ap (λ (p : Poly). p .head)
+          (substitute-value (start .pre .0) (c7 .if3 .taken)
+          (lying (start .args .xi) (start .args .coefficients .now) (take (start .args .at) (start .args .pool .now))
+          (start .args .xf) (start .args .x)) (lying (start .args .yi) (start .args .coefficients .now)
+          (take (start .args .at) (start .args .pool .now)) (start .args .yf) (start .args .y))),
+      kept-as (ap (λ (p : Poly). padded (start .args .n) (p .coeffs))
+          (substitute-value (start .pre .0) (c7 .if3 .taken)
+          (lying (start .args .xi) (start .args .coefficients .now) (take (start .args .at) (start .args .pool .now))
+          (start .args .xf) (start .args .x)) (lying (start .args .yi) (start .args .coefficients .now)
+          (take (start .args .at) (start .args .pool .now)) (start .args .yf) (start .args .y))))
+          (c4 .substitute-to .ensures .1),
+    )
 
 change-to-requires : tie.Need-change-to-requires
 change-to-requires c κs =
-    let start = c .before .before .before .before .before .before .before .before .before in
-    (to-change (start .pre .0) (c .before .before .before .before .before .if1 .left) (c .before .before .before .before .if2 .left) (c .before .before .before .if3 .left), (start .pre .1 .0 .left, start .pre .1 .1))
+    let start = c .before .before .before .before .before .before .before .before .before in (
+      to-change (start .pre .0) (c .before .before .before .before .before .if1 .left)
+          (c .before .before .before .before .if2 .left) (c .before .before .before .if3 .left),
+      (start .pre .1 .0 .left, start .pre .1 .1),
+    )
 
 returns-4 : tie.Need-returns-4
 returns-4 c =
@@ -67,8 +103,19 @@ returns-4 c =
     let c8 = c4 .before .before .before .before in
     let c9 = c8 .before in
     let c10 = c9 .before in
-    let start = c10 .before .before .before .before in
-    (c4 .change-to .ensures .0 ∙ ap (λ (p : Poly). p .head) (change-value (start .pre .0) (c10 .if1 .left) (c9 .if2 .left) (c8 .if3 .left) (lying (start .args .xi) (start .args .coefficients .now) (take (start .args .at) (start .args .pool .now)) (start .args .xf) (start .args .x)) (lying (start .args .yi) (start .args .coefficients .now) (take (start .args .at) (start .args .pool .now)) (start .args .yf) (start .args .y))), kept-as (ap (λ (p : Poly). padded (start .args .n) (p .coeffs)) (change-value (start .pre .0) (c10 .if1 .left) (c9 .if2 .left) (c8 .if3 .left) (lying (start .args .xi) (start .args .coefficients .now) (take (start .args .at) (start .args .pool .now)) (start .args .xf) (start .args .x)) (lying (start .args .yi) (start .args .coefficients .now) (take (start .args .at) (start .args .pool .now)) (start .args .yf) (start .args .y)))) (c4 .change-to .ensures .1))
+    let start = c10 .before .before .before .before in (
+      c4 .change-to .ensures .0 ∙ ap (λ (p : Poly). p .head)
+          (change-value (start .pre .0) (c10 .if1 .left) (c9 .if2 .left) (c8 .if3 .left)
+          (lying (start .args .xi) (start .args .coefficients .now) (take (start .args .at) (start .args .pool .now))
+          (start .args .xf) (start .args .x)) (lying (start .args .yi) (start .args .coefficients .now)
+          (take (start .args .at) (start .args .pool .now)) (start .args .yf) (start .args .y))),
+      kept-as (ap (λ (p : Poly). padded (start .args .n) (p .coeffs))
+          (change-value (start .pre .0) (c10 .if1 .left) (c9 .if2 .left) (c8 .if3 .left)
+          (lying (start .args .xi) (start .args .coefficients .now) (take (start .args .at) (start .args .pool .now))
+          (start .args .xf) (start .args .x)) (lying (start .args .yi) (start .args .coefficients .now)
+          (take (start .args .at) (start .args .pool .now)) (start .args .yf) (start .args .y))))
+          (c4 .change-to .ensures .1),
+    )
 
 pub value-to-spec : {M : Type 1} → statement M
 value-to-spec =

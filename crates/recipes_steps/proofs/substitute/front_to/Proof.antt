@@ -20,20 +20,39 @@ slice-aggregate-way-from c = sym (length-take-le _ _ (omega (arith, c .before .b
 
 way-from-requires : tie.Need-way-from-requires
 way-from-requires c κs =
-    let start = c .before .before .before .before .before in
-    (start .pre .0 .right .rules, lies-source (start .args .coefficients .now) (take (start .args .at) (start .args .pool .now)) (start .pre .1 .1 .0) (length-take-le _ _ (omega (arith, start .pre .1 .1 .1))))
+    let start = c .before .before .before .before .before in (
+      start .pre .0 .right .rules,
+      lies-source (start .args .coefficients .now) (take (start .args .at) (start .args .pool .now))
+          (start .pre .1 .1 .0) (length-take-le _ _ (omega (arith, start .pre .1 .1 .1))),
+    )
 
 horner-to-requires : tie.Need-horner-to-requires
 horner-to-requires c κs =
     let c4 = c .before .before .before .before in
-    let start = c4 .before .before .before .before .before .before in
-    (horner-puts (start .pre .0) (lying (start .args .xi) (start .args .coefficients .now) (take (start .args .at) (start .args .pool .now)) (start .args .xf) (start .args .x) .coeffs) (lying (start .args .yi) (start .args .coefficients .now) (take (start .args .at) (start .args .pool .now)) (start .args .yf) (start .args .y) .coeffs) (c4 .way-from .ensures) (c .before .before .if1 .taken), (horner-some (start .pre .0) (lying (start .args .xi) (start .args .coefficients .now) (take (start .args .at) (start .args .pool .now)) (start .args .xf) (start .args .x) .coeffs) (lying (start .args .yi) (start .args .coefficients .now) (take (start .args .at) (start .args .pool .now)) (start .args .yf) (start .args .y) .coeffs) (c4 .way-from .ensures) (c .before .before .if1 .taken), ((start .pre .0 .left .rules, start .pre .0 .right .rules), ((start .pre .1 .0, start .pre .1 .1 .0), start .pre .1 .1 .1))))
+    let start = c4 .before .before .before .before .before .before in (
+      horner-puts (start .pre .0) (lying (start .args .xi) (start .args .coefficients .now)
+          (take (start .args .at) (start .args .pool .now)) (start .args .xf) (start .args .x) .coeffs)
+          (lying (start .args .yi) (start .args .coefficients .now) (take (start .args .at) (start .args .pool .now))
+          (start .args .yf) (start .args .y) .coeffs) (c4 .way-from .ensures) (c .before .before .if1 .taken),
+      (
+        horner-some (start .pre .0) (lying (start .args .xi) (start .args .coefficients .now)
+            (take (start .args .at) (start .args .pool .now)) (start .args .xf) (start .args .x) .coeffs)
+            (lying (start .args .yi) (start .args .coefficients .now) (take (start .args .at) (start .args .pool .now))
+            (start .args .yf) (start .args .y) .coeffs) (c4 .way-from .ensures) (c .before .before .if1 .taken),
+        ((start .pre .0 .left .rules, start .pre .0 .right .rules), ((start .pre .1 .0, start .pre .1 .1 .0), start .pre .1 .1 .1)),
+      ),
+    )
 
 returns : tie.Need-returns
 returns c =
     let c9 = c .before .before .before .before .before .before .before .before .before in
     let start = c9 .before .before .before .before .before .before in
-    wrote-same (horner-is (start .pre .0) (lying (start .args .xi) (start .args .coefficients .now) (take (start .args .at) (start .args .pool .now)) (start .args .xf) (start .args .x) .coeffs) (lying (start .args .yi) (start .args .coefficients .now) (take (start .args .at) (start .args .pool .now)) (start .args .yf) (start .args .y) .coeffs) (c9 .way-from .ensures) (c .before .before .before .before .before .before .before .if1 .taken)) (c .before .before .before .before .horner-to .ensures)
+    wrote-same (horner-is (start .pre .0) (lying (start .args .xi) (start .args .coefficients .now)
+    (take (start .args .at) (start .args .pool .now)) (start .args .xf) (start .args .x) .coeffs)
+    (lying (start .args .yi) (start .args .coefficients .now) (take (start .args .at) (start .args .pool .now))
+    (start .args .yf) (start .args .y) .coeffs) (c9 .way-from .ensures)
+    (c .before .before .before .before .before .before .before .if1 .taken))
+    (c .before .before .before .before .horner-to .ensures)
 
 slice-aggregate-plain-from : tie.Need-slice-aggregate-plain-from
 slice-aggregate-plain-from c =
@@ -47,8 +66,19 @@ slice-aggregate-plain-from-2 c =
 
 plain-from-requires : tie.Need-plain-from-requires
 plain-from-requires c κs =
-    let start = c .before .before .before .before .before .before .before .before .before .before in
-    (plain-room (start .pre .0) (lying (start .args .xi) (start .args .coefficients .now) (take (start .args .at) (start .args .pool .now)) (start .args .xf) (start .args .x) .coeffs) (lying (start .args .yi) (start .args .coefficients .now) (take (start .args .at) (start .args .pool .now)) (start .args .yf) (start .args .y) .coeffs) (c .before .before .before .before .way-from .ensures) (c .before .before .if1 .left) (length-take-le (start .args .n) (start .args .work .now) (omega (arith, start .pre .0 .work))), (start .pre .0 .left .rules, lies-source (start .args .coefficients .now) (take (start .args .at) (start .args .pool .now)) (start .pre .1 .0) (length-take-le _ _ (omega (arith, start .pre .1 .1 .1)))))
+    let start = c .before .before .before .before .before .before .before .before .before .before in (
+      plain-room (start .pre .0) (lying (start .args .xi) (start .args .coefficients .now)
+          (take (start .args .at) (start .args .pool .now)) (start .args .xf) (start .args .x) .coeffs)
+          (lying (start .args .yi) (start .args .coefficients .now) (take (start .args .at) (start .args .pool .now))
+          (start .args .yf) (start .args .y) .coeffs) (c .before .before .before .before .way-from .ensures)
+          (c .before .before .if1 .left) (length-take-le (start .args .n) (start .args .work .now)
+          (omega (arith, start .pre .0 .work))),
+      (
+        start .pre .0 .left .rules,
+        lies-source (start .args .coefficients .now) (take (start .args .at) (start .args .pool .now))
+            (start .pre .1 .0) (length-take-le _ _ (omega (arith, start .pre .1 .1 .1))),
+      ),
+    )
 
 returns-2 : tie.Need-returns-2
 returns-2 c =
@@ -56,7 +86,16 @@ returns-2 c =
     let c10 = c7 .before .before .before in
     let c12 = c10 .before .before in
     let start = c12 .before .before .before .before .before .before in
-    wrote-of (front-kept (c7 .plain-from .last .1 .1 .1 .1 .1 .1 .1 .1 .0) (drop (start .args .n) (start .args .work .now)) (c .before .before .keep .ensures) (c7 .plain-from .kept .1 .1 .1 .1 .1 .1 .1 .1 .0 ∙ (length-take-le (start .args .n) (start .args .work .now) (omega (arith, start .pre .0 .work)))) refl) (stands-same (sym (plain-is (start .pre .0) (lying (start .args .xi) (start .args .coefficients .now) (take (start .args .at) (start .args .pool .now)) (start .args .xf) (start .args .x) .coeffs) (lying (start .args .yi) (start .args .coefficients .now) (take (start .args .at) (start .args .pool .now)) (start .args .yf) (start .args .y) .coeffs) (c12 .way-from .ensures) (c10 .if1 .left))) (c7 .plain-from .ensures))
+    wrote-of (front-kept (c7 .plain-from .last .1 .1 .1 .1 .1 .1 .1 .1 .0)
+    (drop (start .args .n) (start .args .work .now)) (c .before .before .keep .ensures)
+    (c7 .plain-from .kept .1 .1 .1 .1 .1 .1 .1 .1 .0
+    ∙ (length-take-le (start .args .n) (start .args .work .now) (omega (arith, start .pre .0 .work)))) refl)
+    (stands-same (sym (plain-is (start .pre .0)
+    (lying (start .args .xi) (start .args .coefficients .now) (take (start .args .at) (start .args .pool .now))
+    (start .args .xf) (start .args .x) .coeffs)
+    (lying (start .args .yi) (start .args .coefficients .now) (take (start .args .at) (start .args .pool .now))
+    (start .args .yf) (start .args .y) .coeffs) (c12 .way-from .ensures) (c10 .if1 .left)))
+    (c7 .plain-from .ensures))
 
 pub front-to-spec : {M : Type 1} → statement M
 front-to-spec =

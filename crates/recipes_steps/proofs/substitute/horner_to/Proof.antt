@@ -32,23 +32,32 @@ use Rattle.substitution.proofs.kernel.row_lengths.Reads as row-lengths-reads
 wrote : (c : tie.After-first-turn) →
     let c12 = c .before .before .before .before .before .before .before .before .before .before .before .before in
     let start = c12 .before .before in
-    Kept (start .args .at) (start .args .at + start .args .n) (c .first-turn .last .1 .1 .1 .0) (start .args .pool .now) (putMid (start .args .at) ((start .args .at + start .args .n) - start .args .at) (start .args .pool .now) (c .first-turn .last .1 .1 .1 .0))
+    Kept (start .args .at) (start .args .at + start .args .n) (c .first-turn .last .1 .1 .1 .0) (start .args .pool .now)
+    (putMid (start .args .at) ((start .args .at + start .args .n) - start .args .at) (start .args .pool .now)
+    (c .first-turn .last .1 .1 .1 .0))
 wrote c =
     let c12 = c .before .before .before .before .before .before .before .before .before .before .before .before in
     let start = c12 .before .before in
-    part-kept (start .args .at) (start .args .at + start .args .n) (start .args .pool .now) (c .first-turn .last .1 .1 .1 .0) (c .first-turn .kept .1 .1 .1 .0 ∙ (length-part (start .args .at) (start .args .at + start .args .n) (start .args .pool .now) (omega arith) (start .pre .1 .1 .1 .1))) (omega arith) (start .pre .1 .1 .1 .1)
+    part-kept (start .args .at) (start .args .at + start .args .n) (start .args .pool .now)
+    (c .first-turn .last .1 .1 .1 .0) (c .first-turn .kept .1 .1 .1 .0
+    ∙ (length-part (start .args .at) (start .args .at + start .args .n) (start .args .pool .now) (omega arith)
+    (start .pre .1 .1 .1 .1))) (omega arith) (start .pre .1 .1 .1 .1)
 
 loaded : (c : tie.After-put-from) →
     let c3 = c .before .before .before in
     let c10 = c3 .before .before .before .before .before .before .before in
     let c22 = c10 .before .before .before .before .before .before .before .before .before .before .before .before in
     let start = c22 .before .before in
-    Kept 0 (count (c3 .cut-to .result)) (cutPlaces (start .args .y .lengths) (c3 .cut-to .result) (lying (start .args .yi) (start .args .coefficients .now) (take (start .args .at) (start .args .pool .now)) (start .args .yf) (start .args .y) .coeffs)) (c10 .first-turn .last .0) (c .put-from .last .1 .1 .1 .1 .1 .1 .0)
+    Kept 0 (count (c3 .cut-to .result)) (cutPlaces (start .args .y .lengths) (c3 .cut-to .result)
+    (lying (start .args .yi) (start .args .coefficients .now) (take (start .args .at) (start .args .pool .now))
+    (start .args .yf) (start .args .y) .coeffs)) (c10 .first-turn .last .0) (c .put-from .last .1 .1 .1 .1 .1 .1 .0)
 loaded c =
     let c10 = c .before .before .before .before .before .before .before .before .before .before in
     let c22 = c10 .before .before .before .before .before .before .before .before .before .before .before .before in
     let start = c22 .before .before in
-    kept-as (ap (cutPlaces (start .args .y .lengths) (c .before .before .before .cut-to .result)) (same-operand (start .args .yi) (start .args .coefficients .now) (start .args .yf) (start .args .y) (wrote c10 .below .head))) (c .put-from .ensures)
+    kept-as (ap (cutPlaces (start .args .y .lengths) (c .before .before .before .cut-to .result))
+    (same-operand (start .args .yi) (start .args .coefficients .now) (start .args .yf) (start .args .y)
+    (wrote c10 .below .head))) (c .put-from .ensures)
 
 highest-requires : tie.Need-highest-requires
 highest-requires c κs =
@@ -61,8 +70,17 @@ slice-aggregate-row-from c = sym (length-take-le _ _ (omega (arith, c .before .b
 row-from-requires : tie.Need-row-from-requires
 row-from-requires c κs =
     let c3 = c .before .before .before in
-    let start = c3 .before .before .before .before .before in
-    (row-picks (start .pre .0) (c3 .row-lengths .ensures) (omega (arith, c .before .before .highest .ensures)) refl, (omega (arith, row-fits (start .pre .0) (c3 .row-lengths .ensures), start .pre .0 .work), (start .pre .1 .1 .0 .0, lies-source (start .args .coefficients .now) (take (start .args .at) (start .args .pool .now)) (start .pre .1 .1 .1 .0 .0) (length-take-le _ _ (omega (arith, start .pre .1 .1 .1 .1))))))
+    let start = c3 .before .before .before .before .before in (
+      row-picks (start .pre .0) (c3 .row-lengths .ensures) (omega (arith, c .before .before .highest .ensures)) refl,
+      (
+        omega (arith, row-fits (start .pre .0) (c3 .row-lengths .ensures), start .pre .0 .work),
+        (
+          start .pre .1 .1 .0 .0,
+          lies-source (start .args .coefficients .now) (take (start .args .at) (start .args .pool .now))
+              (start .pre .1 .1 .1 .0 .0) (length-take-le _ _ (omega (arith, start .pre .1 .1 .1 .1))),
+        ),
+      ),
+    )
 
 mul-first-turn : tie.Need-mul-first-turn
 mul-first-turn c =
@@ -73,7 +91,9 @@ first-turn-requires : tie.Need-first-turn-requires
 first-turn-requires c κs =
     let c8 = c .before .before .before .before .before .before .before .before in
     let start = c8 .before .before .before .before .before in
-    puts-adding (start .pre .0) (c8 .row-lengths .ensures) ((length-part (start .args .at) (start .args .at + start .args .n) (start .args .pool .now) (omega arith) (start .pre .1 .1 .1 .1)) ∙ omega arith) (c .before .before .before .before .row-from .ensures .below .len)
+    puts-adding (start .pre .0) (c8 .row-lengths .ensures)
+    ((length-part (start .args .at) (start .args .at + start .args .n) (start .args .pool .now) (omega arith)
+    (start .pre .1 .1 .1 .1)) ∙ omega arith) (c .before .before .before .before .row-from .ensures .below .len)
 
 returns : tie.Need-returns
 returns c =
@@ -82,7 +102,12 @@ returns c =
     let c13 = c10 .before .before .before in
     let c14 = c13 .before in
     let start = c14 .before .before .before .before .before in
-    wrote-of (wrote c5) (start-one (start .pre .0) (lying (start .args .xi) (start .args .coefficients .now) (take (start .args .at) (start .args .pool .now)) (start .args .xf) (start .args .x) .coeffs) (lying (start .args .yi) (start .args .coefficients .now) (take (start .args .at) (start .args .pool .now)) (start .args .yf) (start .args .y) .coeffs) (start .pre .1 .0) (c13 .highest .ensures) (c14 .row-lengths .ensures) (c10 .row-from .ensures) (c5 .first-turn .ensures) (c .if1 .taken))
+    wrote-of (wrote c5) (start-one (start .pre .0)
+    (lying (start .args .xi) (start .args .coefficients .now) (take (start .args .at) (start .args .pool .now))
+    (start .args .xf) (start .args .x) .coeffs)
+    (lying (start .args .yi) (start .args .coefficients .now) (take (start .args .at) (start .args .pool .now))
+    (start .args .yf) (start .args .y) .coeffs) (start .pre .1 .0) (c13 .highest .ensures)
+    (c14 .row-lengths .ensures) (c10 .row-from .ensures) (c5 .first-turn .ensures) (c .if1 .taken))
 
 slice-reshare-prefix-put-from : tie.Need-slice-reshare-prefix-put-from
 slice-reshare-prefix-put-from c =
@@ -102,8 +127,25 @@ put-from-requires c κs =
     let c9 = c .before .before .before .before .before .before .before .before .before in
     let c14 = c9 .before .before .before .before .before in
     let c17 = c14 .before .before .before in
-    let start = c17 .before .before .before .before .before .before in
-    (put-loads (start .pre .0) (c .before .before .cut-to .ensures) refl, (omega (arith, put-small (start .pre .0) (omega (arith, c .before .before .before .before .if1 .left, c17 .highest .ensures)) (c .before .before .cut-to .ensures), start .pre .0 .work, c9 .first-turn .ensures .below .len, c14 .row-from .ensures .below .len), (start .pre .1 .1 .0 .1, lies-source (start .args .coefficients .now) (take (start .args .at) (putMid (start .args .at) ((start .args .at + start .args .n) - start .args .at) (start .args .pool .now) (c9 .first-turn .last .1 .1 .1 .0))) (start .pre .1 .1 .1 .0 .1) (length-take-le _ _ (omega (arith, wrote c9 .below .len, start .pre .1 .1 .1 .1))))))
+    let start = c17 .before .before .before .before .before .before in (
+      put-loads (start .pre .0) (c .before .before .cut-to .ensures) refl,
+      (
+        omega (
+          arith,
+          put-small (start .pre .0) (omega (arith, c .before .before .before .before .if1 .left, c17 .highest .ensures)) (c .before .before .cut-to .ensures),
+          start .pre .0 .work,
+          c9 .first-turn .ensures .below .len,
+          c14 .row-from .ensures .below .len,
+        ),
+        (
+          start .pre .1 .1 .0 .1,
+          lies-source (start .args .coefficients .now)
+              (take (start .args .at) (putMid (start .args .at) ((start .args .at + start .args .n) - start .args .at)
+              (start .args .pool .now) (c9 .first-turn .last .1 .1 .1 .0))) (start .pre .1 .1 .1 .0 .1)
+              (length-take-le _ _ (omega (arith, wrote c9 .below .len, start .pre .1 .1 .1 .1))),
+        ),
+      ),
+    )
 
 rows-to-requires : tie.Need-rows-to-requires
 rows-to-requires c κs =
@@ -114,8 +156,25 @@ rows-to-requires c κs =
     let c19 = c14 .before .before .before .before .before in
     let c22 = c19 .before .before .before in
     let c23 = c22 .before in
-    let start = c23 .before .before .before .before .before in
-    (start-room (start .pre .0) (lying (start .args .xi) (start .args .coefficients .now) (take (start .args .at) (start .args .pool .now)) (start .args .xf) (start .args .x) .coeffs) (lying (start .args .yi) (start .args .coefficients .now) (take (start .args .at) (start .args .pool .now)) (start .args .yf) (start .args .y) .coeffs) (start .pre .1 .0) (c22 .highest .ensures) (c23 .row-lengths .ensures) (c19 .row-from .ensures) (c14 .first-turn .ensures) (omega (arith, c9 .if1 .left)) (c7 .cut-to .ensures) (loaded c4) refl (loaded c4 .below .len ∙ (c14 .first-turn .ensures .below .len ∙ c19 .row-from .ensures .below .len)), (ap (take (count (c14 .first-turn .result))) (wrote c14 .holds) ∙ start-front (start .pre .0) (lying (start .args .xi) (start .args .coefficients .now) (take (start .args .at) (start .args .pool .now)) (start .args .xf) (start .args .x) .coeffs) (lying (start .args .yi) (start .args .coefficients .now) (take (start .args .at) (start .args .pool .now)) (start .args .yf) (start .args .y) .coeffs) (start .pre .1 .0) (c22 .highest .ensures) (c23 .row-lengths .ensures) (c19 .row-from .ensures) (c14 .first-turn .ensures) (omega (arith, c9 .if1 .left)) (c7 .cut-to .ensures) (loaded c4), (start .pre .1 .1 .0 .0, (start .pre .1 .1 .1 .0 .0, omega (arith, wrote c14 .below .len, start .pre .1 .1 .1 .1)))))
+    let start = c23 .before .before .before .before .before in (
+      start-room (start .pre .0) (lying (start .args .xi) (start .args .coefficients .now)
+          (take (start .args .at) (start .args .pool .now)) (start .args .xf) (start .args .x) .coeffs)
+          (lying (start .args .yi) (start .args .coefficients .now) (take (start .args .at) (start .args .pool .now))
+          (start .args .yf) (start .args .y) .coeffs) (start .pre .1 .0) (c22 .highest .ensures)
+          (c23 .row-lengths .ensures) (c19 .row-from .ensures) (c14 .first-turn .ensures) (omega (arith, c9 .if1 .left))
+          (c7 .cut-to .ensures) (loaded c4) refl (loaded c4 .below .len
+          ∙ (c14 .first-turn .ensures .below .len ∙ c19 .row-from .ensures .below .len)),
+      (
+        ap (take (count (c14 .first-turn .result))) (wrote c14 .holds)
+            ∙ start-front (start .pre .0) (lying (start .args .xi) (start .args .coefficients .now)
+            (take (start .args .at) (start .args .pool .now)) (start .args .xf) (start .args .x) .coeffs)
+            (lying (start .args .yi) (start .args .coefficients .now) (take (start .args .at) (start .args .pool .now))
+            (start .args .yf) (start .args .y) .coeffs) (start .pre .1 .0) (c22 .highest .ensures)
+            (c23 .row-lengths .ensures) (c19 .row-from .ensures) (c14 .first-turn .ensures) (omega (arith, c9 .if1 .left))
+            (c7 .cut-to .ensures) (loaded c4),
+        (start .pre .1 .1 .0 .0, (start .pre .1 .1 .1 .0 .0, omega (arith, wrote c14 .below .len, start .pre .1 .1 .1 .1))),
+      ),
+    )
 
 returns-2 : tie.Need-returns-2
 returns-2 c =
@@ -127,7 +186,18 @@ returns-2 c =
     let c27 = c24 .before .before .before in
     let c28 = c27 .before in
     let start = c28 .before .before .before .before .before in
-    turns-wrote (ap (λ (z : List Float). turns (start .args .limits) (start .args .v) (block (start .args .x .lengths) z) (c27 .highest .result) (putIn (c12 .cut-to .result) (c9 .put-from .last .1 .1 .1 .1 .1 .1 .0)) (valueIn (start .args .n) (c19 .first-turn .result) (c9 .put-from .last .1 .1 .1 .1 .1 .1 .0))) (same-operand (start .args .xi) (start .args .coefficients .now) (start .args .xf) (start .args .x) (wrote c19 .below .head))) (wrote c19) (c .before .before .before .before .rows-to .ensures) (start-stands (start .pre .0) (lying (start .args .xi) (start .args .coefficients .now) (take (start .args .at) (start .args .pool .now)) (start .args .xf) (start .args .x) .coeffs) (lying (start .args .yi) (start .args .coefficients .now) (take (start .args .at) (start .args .pool .now)) (start .args .yf) (start .args .y) .coeffs) (start .pre .1 .0) (c27 .highest .ensures) (c28 .row-lengths .ensures) (c24 .row-from .ensures) (c19 .first-turn .ensures) (omega (arith, c14 .if1 .left)) (c12 .cut-to .ensures) (loaded c9))
+    turns-wrote (ap (λ (z : List Float). turns (start .args .limits) (start .args .v)
+    (block (start .args .x .lengths) z) (c27 .highest .result)
+    (putIn (c12 .cut-to .result) (c9 .put-from .last .1 .1 .1 .1 .1 .1 .0))
+    (valueIn (start .args .n) (c19 .first-turn .result) (c9 .put-from .last .1 .1 .1 .1 .1 .1 .0)))
+    (same-operand (start .args .xi) (start .args .coefficients .now) (start .args .xf) (start .args .x)
+    (wrote c19 .below .head))) (wrote c19) (c .before .before .before .before .rows-to .ensures)
+    (start-stands (start .pre .0) (lying (start .args .xi) (start .args .coefficients .now)
+    (take (start .args .at) (start .args .pool .now)) (start .args .xf) (start .args .x) .coeffs)
+    (lying (start .args .yi) (start .args .coefficients .now) (take (start .args .at) (start .args .pool .now))
+    (start .args .yf) (start .args .y) .coeffs) (start .pre .1 .0) (c27 .highest .ensures)
+    (c28 .row-lengths .ensures) (c24 .row-from .ensures) (c19 .first-turn .ensures) (omega (arith, c14 .if1 .left))
+    (c12 .cut-to .ensures) (loaded c9))
 
 pub horner-to-spec : {M : Type 1} → statement M
 horner-to-spec =

@@ -21,17 +21,23 @@ use Rattle.substitution.proofs.kernel.zero_put.Reads as zero-put-reads
 
 part-is : (c : tie.After-operand) →
     let start = c .before .before .before .before .before in
-    c .operand .result .now ≡ take (stored (start .args .x)) (drop (start .args .xf) (source (start .args .xi) (start .args .coefficients .now) (start .args .pool .now)))
+    c .operand .result .now ≡ take (stored (start .args .x))
+    (drop (start .args .xf) (source (start .args .xi) (start .args .coefficients .now) (start .args .pool .now)))
 part-is c =
     let start = c .before .before .before .before .before in
-    c .operand .ensures ∙ ap (λ (k : ℕ). take k (drop (start .args .xf) (source (start .args .xi) (start .args .coefficients .now) (start .args .pool .now)))) (c .before .stored-of .ensures)
+    c .operand .ensures
+    ∙ ap (λ (k : ℕ). take k (drop (start .args .xf)
+    (source (start .args .xi) (start .args .coefficients .now) (start .args .pool .now))))
+    (c .before .stored-of .ensures)
 
 full : (c : tie.After-operand) →
     let start = c .before .before .before .before .before in
-    length (take (stored (start .args .x)) (drop (start .args .xf) (source (start .args .xi) (start .args .coefficients .now) (start .args .pool .now)))) ≡ stored (start .args .x)
+    length (take (stored (start .args .x)) (drop (start .args .xf)
+    (source (start .args .xi) (start .args .coefficients .now) (start .args .pool .now)))) ≡ stored (start .args .x)
 full c =
     let start = c .before .before .before .before .before in
-    length-operand (start .args .xf) (stored (start .args .x)) (source (start .args .xi) (start .args .coefficients .now) (start .args .pool .now)) (start .pre .1 .1)
+    length-operand (start .args .xf) (stored (start .args .x))
+    (source (start .args .xi) (start .args .coefficients .now) (start .args .pool .now)) (start .pre .1 .1)
 
 part-full : (c : tie.After-operand) → length (c .operand .result .now) ≡ stored (c .before .before .before .before .before .args .x)
 part-full c = ap length (part-is c) ∙ full c
@@ -46,7 +52,14 @@ returns c =
     let c4 = c .before .before .before .before in
     let c6 = c4 .before .before in
     let start = c6 .before .before .before .before .before in
-    stands-same (plain-0 (start .args .w) (start .args .limits) (start .args .v) (block (start .args .x .lengths) (take (stored (start .args .x)) (drop (start .args .xf) (source (start .args .xi) (start .args .coefficients .now) (start .args .pool .now))))) (c4 .if1 .taken)) (copied-stands (start .args .x .lengths) (take (stored (start .args .x)) (drop (start .args .xf) (source (start .args .xi) (start .args .coefficients .now) (start .args .pool .now)))) (c .before .before .copy .ensures ∙ ap (take (length (start .args .out .now))) (part-is c6)) (start .pre .0 .same (c4 .if1 .taken) ∙ sym (full c6)))
+    stands-same (plain-0 (start .args .w) (start .args .limits) (start .args .v)
+    (block (start .args .x .lengths) (take (stored (start .args .x))
+    (drop (start .args .xf) (source (start .args .xi) (start .args .coefficients .now) (start .args .pool .now)))))
+    (c4 .if1 .taken)) (copied-stands (start .args .x .lengths)
+    (take (stored (start .args .x)) (drop (start .args .xf)
+    (source (start .args .xi) (start .args .coefficients .now) (start .args .pool .now))))
+    (c .before .before .copy .ensures ∙ ap (take (length (start .args .out .now))) (part-is c6))
+    (start .pre .0 .same (c4 .if1 .taken) ∙ sym (full c6)))
 
 zero-put-requires : tie.Need-zero-put-requires
 zero-put-requires c κs =
@@ -56,7 +69,12 @@ zero-put-requires c κs =
 returns-2 : tie.Need-returns-2
 returns-2 c =
     let start = c .before .before .before .before .before .before .before .before .before .before .before .before in
-    stands-same (plain-1 (start .args .w) (start .args .limits) (start .args .v) (block (start .args .x .lengths) (take (stored (start .args .x)) (drop (start .args .xf) (source (start .args .xi) (start .args .coefficients .now) (start .args .pool .now))))) (c .before .before .before .before .if2 .taken)) (rw (part-is (c .before .before .before .before .before .before .before)) at (put-stands (c .before .before .zero-put .ensures)))
+    stands-same (plain-1 (start .args .w) (start .args .limits) (start .args .v)
+    (block (start .args .x .lengths) (take (stored (start .args .x))
+    (drop (start .args .xf) (source (start .args .xi) (start .args .coefficients .now) (start .args .pool .now)))))
+    (c .before .before .before .before .if2 .taken))
+    (rw (part-is (c .before .before .before .before .before .before .before)) at
+    (put-stands (c .before .before .zero-put .ensures)))
 
 line-put-requires : tie.Need-line-put-requires
 line-put-requires c κs =
@@ -67,7 +85,12 @@ returns-3 : tie.Need-returns-3
 returns-3 c =
     let c8 = c .before .before .before .before .before .before .before .before in
     let start = c8 .before .before .before .before .before in
-    stands-same (plain-2 (start .args .w) (start .args .limits) (start .args .v) (block (start .args .x .lengths) (take (stored (start .args .x)) (drop (start .args .xf) (source (start .args .xi) (start .args .coefficients .now) (start .args .pool .now))))) (c .before .before .before .before .before .before .if1 .left) (c .before .before .before .before .before .if2 .left)) (rw (part-is c8) at (put-stands (c .before .before .line-put .ensures)))
+    stands-same (plain-2 (start .args .w) (start .args .limits) (start .args .v)
+    (block (start .args .x .lengths) (take (stored (start .args .x))
+    (drop (start .args .xf) (source (start .args .xi) (start .args .coefficients .now) (start .args .pool .now)))))
+    (c .before .before .before .before .before .before .if1 .left)
+    (c .before .before .before .before .before .if2 .left))
+    (rw (part-is c8) at (put-stands (c .before .before .line-put .ensures)))
 
 pub plain-from-spec : {M : Type 1} → statement M
 plain-from-spec =

@@ -20,17 +20,23 @@ use Rattle.shape_words.proofs.places.count_of.Reads as count-of-reads
 
 part-is : (c : tie.After-operand) →
     let start = c .before .before .before .before .before in
-    c .operand .result .now ≡ take (stored (start .args .y)) (drop (start .args .yf) (source (start .args .yi) (start .args .coefficients .now) (start .args .pool .now)))
+    c .operand .result .now ≡ take (stored (start .args .y))
+    (drop (start .args .yf) (source (start .args .yi) (start .args .coefficients .now) (start .args .pool .now)))
 part-is c =
     let start = c .before .before .before .before .before in
-    c .operand .ensures ∙ ap (λ (k : ℕ). take k (drop (start .args .yf) (source (start .args .yi) (start .args .coefficients .now) (start .args .pool .now)))) (c .before .stored-of .ensures)
+    c .operand .ensures
+    ∙ ap (λ (k : ℕ). take k (drop (start .args .yf)
+    (source (start .args .yi) (start .args .coefficients .now) (start .args .pool .now))))
+    (c .before .stored-of .ensures)
 
 full : (c : tie.After-operand) →
     let start = c .before .before .before .before .before in
-    length (take (stored (start .args .y)) (drop (start .args .yf) (source (start .args .yi) (start .args .coefficients .now) (start .args .pool .now)))) ≡ stored (start .args .y)
+    length (take (stored (start .args .y)) (drop (start .args .yf)
+    (source (start .args .yi) (start .args .coefficients .now) (start .args .pool .now)))) ≡ stored (start .args .y)
 full c =
     let start = c .before .before .before .before .before in
-    length-operand (start .args .yf) (stored (start .args .y)) (source (start .args .yi) (start .args .coefficients .now) (start .args .pool .now)) (start .pre .1 .1 .1)
+    length-operand (start .args .yf) (stored (start .args .y))
+    (source (start .args .yi) (start .args .coefficients .now) (start .args .pool .now)) (start .pre .1 .1 .1)
 
 part-full : (c : tie.After-operand) → length (c .operand .result .now) ≡ stored (c .before .before .before .before .before .args .y)
 part-full c = ap length (part-is c) ∙ full c
@@ -50,7 +56,8 @@ returns : tie.Need-returns
 returns c =
     let c4 = c .before .before .before .before in
     let start = c4 .before .before .before .before .before .before .before in
-    front-kept (start .args .work .now) (rw (part-is (c .before .before .before .before .before .before)) at (c .before .before .load .ensures)) (length-table _ (count (start .args .c))) (c4 .count-of .ensures) (small c4)
+    front-kept (start .args .work .now) (rw (part-is (c .before .before .before .before .before .before)) at
+    (c .before .before .load .ensures)) (length-table _ (count (start .args .c))) (c4 .count-of .ensures) (small c4)
 
 pub put-from-spec : {M : Type 1} → statement M
 put-from-spec =

@@ -14,17 +14,23 @@ use Rattle.substitution.proofs.kernel.load_row.Reads as load-row-reads
 
 part-is : (c : tie.After-operand) →
     let start = c .before .before .before .before .before in
-    c .operand .result .now ≡ take (stored (start .args .x)) (drop (start .args .xf) (source (start .args .xi) (start .args .coefficients .now) (start .args .pool .now)))
+    c .operand .result .now ≡ take (stored (start .args .x))
+    (drop (start .args .xf) (source (start .args .xi) (start .args .coefficients .now) (start .args .pool .now)))
 part-is c =
     let start = c .before .before .before .before .before in
-    c .operand .ensures ∙ ap (λ (k : ℕ). take k (drop (start .args .xf) (source (start .args .xi) (start .args .coefficients .now) (start .args .pool .now)))) (c .before .stored-of .ensures)
+    c .operand .ensures
+    ∙ ap (λ (k : ℕ). take k (drop (start .args .xf)
+    (source (start .args .xi) (start .args .coefficients .now) (start .args .pool .now))))
+    (c .before .stored-of .ensures)
 
 full : (c : tie.After-operand) →
     let start = c .before .before .before .before .before in
-    length (take (stored (start .args .x)) (drop (start .args .xf) (source (start .args .xi) (start .args .coefficients .now) (start .args .pool .now)))) ≡ stored (start .args .x)
+    length (take (stored (start .args .x)) (drop (start .args .xf)
+    (source (start .args .xi) (start .args .coefficients .now) (start .args .pool .now)))) ≡ stored (start .args .x)
 full c =
     let start = c .before .before .before .before .before in
-    length-operand (start .args .xf) (stored (start .args .x)) (source (start .args .xi) (start .args .coefficients .now) (start .args .pool .now)) (start .pre .1 .1 .1)
+    length-operand (start .args .xf) (stored (start .args .x))
+    (source (start .args .xi) (start .args .coefficients .now) (start .args .pool .now)) (start .pre .1 .1 .1)
 
 part-full : (c : tie.After-operand) → length (c .operand .result .now) ≡ stored (c .before .before .before .before .before .args .x)
 part-full c = ap length (part-is c) ∙ full c

@@ -18,7 +18,10 @@ use Rattle.recipes_steps.proofs.substitute.row_from.Reads as row-from-r
 use Rattle.substitution_turn.proofs.turn.Reads as turn-reads
 
 abbrev Inv-loop : tie.InvT-loop
-Inv-loop x xi xf v k b c limits n coefficients pool₀ at work₀ row end left₀ value₀ pool work left value = RunsTo (x .lengths) v (lying xi coefficients (take at pool₀) xf x .coeffs) left value b c limits n (stored x) (turns limits v (block (x .lengths) (lying xi coefficients (take at pool₀) xf x .coeffs)) k (putIn b work₀) (valueIn n value₀ work₀)) at pool₀ pool work
+Inv-loop x xi xf v k b c limits n coefficients pool₀ at work₀ row end left₀ value₀ pool work left value =
+    RunsTo (x .lengths) v (lying xi coefficients (take at pool₀) xf x .coeffs) left value b c limits n (stored x)
+    (turns limits v (block (x .lengths) (lying xi coefficients (take at pool₀) xf x .coeffs)) k (putIn b work₀)
+    (valueIn n value₀ work₀)) at pool₀ pool work
 
 abbrev μ-loop : tie.MeasureT-loop
 μ-loop x xi xf v k b c limits n coefficients pool₀ at work₀ row end left₀ value₀ pool work left value = left
@@ -32,19 +35,38 @@ add-end c = omega (arith, c .before .before .before .pre .1 .1 .1 .1, c .before 
 loop-holds : tie.Need-loop-holds Inv-loop μ-loop
 loop-holds c =
     let start = c .before .before .before in
-    runs-first (lying (start .args .xi) (start .args .coefficients .now) (take (start .args .at) (start .args .pool .now)) (start .args .xf) (start .args .x) .coeffs) (start .args .pool .now) (start .args .work .now) (start .pre .0) (start .pre .1 .0) (start .pre .1 .1 .1 .1)
+    runs-first (lying (start .args .xi) (start .args .coefficients .now)
+    (take (start .args .at) (start .args .pool .now)) (start .args .xf) (start .args .x) .coeffs)
+    (start .args .pool .now) (start .args .work .now) (start .pre .0) (start .pre .1 .0) (start .pre .1 .1 .1 .1)
 
 slice-reshare-prefix-row-from : tie.Need-slice-reshare-prefix-row-from Inv-loop μ-loop
 slice-reshare-prefix-row-from c = omega (arith, c .before .loop .inv .stays .below .len, c .before .before .before .before .before .pre .1 .1 .1 .1)
 
 slice-aggregate-row-from : tie.Need-slice-aggregate-row-from Inv-loop μ-loop
-slice-aggregate-row-from c = sym (length-take-le _ _ (omega (arith, c .before .before .loop .inv .stays .below .len, c .before .before .before .before .before .before .pre .1 .1 .1 .1)))
+slice-aggregate-row-from c =
+    sym (length-take-le _ _
+    (omega (
+      arith,
+      c .before .before .loop .inv .stays .below .len,
+      c .before .before .before .before .before .before .pre .1 .1 .1 .1,
+    )))
 
 row-from-requires : tie.Need-row-from-requires Inv-loop μ-loop
 row-from-requires c κs =
     let c3 = c .before .before .before in
     let start = c3 .before .before .before .before in
-    let s = to-less (c3 .loop .inv) (c3 .loop .left - 1) (omega (arith, c .before .before .loop-test .taken)) in (next-picks (s .runs .room) refl, (omega (arith, next-row (s .runs .room), s .runs .room .work), (start .pre .1 .1 .0, lies-source (start .args .coefficients .now) (take (start .args .at) (c3 .loop .pool)) (start .pre .1 .1 .1 .0) (length-take-le _ _ (omega (arith, c3 .loop .inv .stays .below .len, start .pre .1 .1 .1 .1))))))
+    let s = to-less (c3 .loop .inv) (c3 .loop .left - 1) (omega (arith, c .before .before .loop-test .taken)) in (
+      next-picks (s .runs .room) refl,
+      (
+        omega (arith, next-row (s .runs .room), s .runs .room .work),
+        (
+          start .pre .1 .1 .0,
+          lies-source (start .args .coefficients .now) (take (start .args .at) (c3 .loop .pool))
+              (start .pre .1 .1 .1 .0) (length-take-le _ _
+              (omega (arith, c3 .loop .inv .stays .below .len, start .pre .1 .1 .1 .1))),
+        ),
+      ),
+    )
 
 mul-turn : tie.Need-mul-turn Inv-loop μ-loop
 mul-turn c =
@@ -59,7 +81,10 @@ part-turn-end c =
 turn-requires : tie.Need-turn-requires Inv-loop μ-loop
 turn-requires c κs =
     let c8 = c .before .before .before .before .before .before .before .before in
-    let s = to-less (c8 .loop .inv) (c8 .loop .left - 1) (omega (arith, c .before .before .before .before .before .before .before .loop-test .taken)) in next-turning (s .runs .room) refl (c .before .before .before .before .row-from .ensures .below .len)
+    let s =
+    to-less (c8 .loop .inv) (c8 .loop .left - 1)
+    (omega (arith, c .before .before .before .before .before .before .before .loop-test .taken)) in
+    next-turning (s .runs .room) refl (c .before .before .before .before .row-from .ensures .below .len)
 
 loop-again : tie.Need-loop-again Inv-loop μ-loop
 loop-again c =
@@ -68,7 +93,14 @@ loop-again c =
     let c12 = c9 .before .before .before in
     let c13 = c12 .before in
     let start = c13 .before .before .before .before in
-    let s = to-less (c13 .loop .inv) (c13 .loop .left - 1) (omega (arith, c12 .loop-test .taken)) in to-next s (same-operand (start .args .xi) (start .args .coefficients .now) (start .args .xf) (start .args .x) (c13 .loop .inv .stays .below .head)) (c9 .row-from .ensures) (c4 .turn .ensures) (c4 .turn .kept .1 .1 .1 .1 .1 .1 .0) (part-kept (start .args .at) (start .args .at + start .args .n) (c13 .loop .pool) (c4 .turn .last .1 .1 .1 .1 .1 .1 .0) (c4 .turn .kept .1 .1 .1 .1 .1 .1 .0 ∙ length-part (start .args .at) (start .args .at + start .args .n) (c13 .loop .pool) (omega arith) (omega (arith, c13 .loop .inv .stays .below .len, start .pre .1 .1 .1 .1))) (omega arith) (omega (arith, c13 .loop .inv .stays .below .len, start .pre .1 .1 .1 .1)))
+    let s = to-less (c13 .loop .inv) (c13 .loop .left - 1) (omega (arith, c12 .loop-test .taken)) in
+    to-next s (same-operand (start .args .xi) (start .args .coefficients .now) (start .args .xf) (start .args .x)
+    (c13 .loop .inv .stays .below .head)) (c9 .row-from .ensures) (c4 .turn .ensures)
+    (c4 .turn .kept .1 .1 .1 .1 .1 .1 .0) (part-kept (start .args .at) (start .args .at + start .args .n)
+    (c13 .loop .pool) (c4 .turn .last .1 .1 .1 .1 .1 .1 .0)
+    (c4 .turn .kept .1 .1 .1 .1 .1 .1 .0 ∙ length-part (start .args .at) (start .args .at + start .args .n)
+    (c13 .loop .pool) (omega arith) (omega (arith, c13 .loop .inv .stays .below .len, start .pre .1 .1 .1 .1)))
+    (omega arith) (omega (arith, c13 .loop .inv .stays .below .len, start .pre .1 .1 .1 .1)))
 
 same-length : tie.Need-same-length Inv-loop μ-loop
 same-length c = c .before .loop .inv .stays .below .len

@@ -19,17 +19,23 @@ use Rattle.substitution_way.proofs.choose.Reads as choose-reads
 
 part-is : (c : tie.After-operand) →
     let start = c .before .before .before .before in
-    c .operand .result .now ≡ take (stored (start .args .y)) (drop (start .args .yf) (source (start .args .yi) (start .args .coefficients .now) (start .args .pool .now)))
+    c .operand .result .now ≡ take (stored (start .args .y))
+    (drop (start .args .yf) (source (start .args .yi) (start .args .coefficients .now) (start .args .pool .now)))
 part-is c =
     let start = c .before .before .before .before in
-    c .operand .ensures ∙ ap (λ (k : ℕ). take k (drop (start .args .yf) (source (start .args .yi) (start .args .coefficients .now) (start .args .pool .now)))) (c .before .stored-of .ensures)
+    c .operand .ensures
+    ∙ ap (λ (k : ℕ). take k (drop (start .args .yf)
+    (source (start .args .yi) (start .args .coefficients .now) (start .args .pool .now))))
+    (c .before .stored-of .ensures)
 
 full : (c : tie.After-operand) →
     let start = c .before .before .before .before in
-    length (take (stored (start .args .y)) (drop (start .args .yf) (source (start .args .yi) (start .args .coefficients .now) (start .args .pool .now)))) ≡ stored (start .args .y)
+    length (take (stored (start .args .y)) (drop (start .args .yf)
+    (source (start .args .yi) (start .args .coefficients .now) (start .args .pool .now)))) ≡ stored (start .args .y)
 full c =
     let start = c .before .before .before .before in
-    length-operand (start .args .yf) (stored (start .args .y)) (source (start .args .yi) (start .args .coefficients .now) (start .args .pool .now)) (start .pre .1)
+    length-operand (start .args .yf) (stored (start .args .y))
+    (source (start .args .yi) (start .args .coefficients .now) (start .args .pool .now)) (start .pre .1)
 
 part-full : (c : tie.After-operand) → length (c .operand .result .now) ≡ stored (c .before .before .before .before .args .y)
 part-full c = ap length (part-is c) ∙ full c

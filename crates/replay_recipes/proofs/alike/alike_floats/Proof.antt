@@ -20,12 +20,22 @@ loop-holds c = (omega arith, (omega arith, (alike-one _ _, c .word-of .ensures))
 returns : tie.Need-returns Inv-loop μ-loop
 returns c =
     let c4 = c .before .before .before .before in
-    record { after = omega arith; within = omega arith; each = c4 .loop .inv .1 .1 .0; stop = λ l e. c .if1 .taken (c .before .word-of2 .ensures ∙ e ∙ sym (c4 .loop .inv .1 .1 .1)) }
+    record {
+      after = omega arith;
+      within = omega arith;
+      each = c4 .loop .inv .1 .1 .0;
+      stop = λ l e. c .if1 .taken (c .before .word-of2 .ensures ∙ e ∙ sym (c4 .loop .inv .1 .1 .1));
+    }
 
 loop-again : tie.Need-loop-again Inv-loop μ-loop
 loop-again c =
-    let c4 = c .before .before .before .before in
-    (omega arith, (omega arith, (below-more _ _ (c4 .loop .inv .1 .1 .0) (λ m. sym (c .before .word-of2 .ensures) ∙ c .if1 .left ∙ c4 .loop .inv .1 .1 .1), c4 .loop .inv .1 .1 .1)))
+    let c4 = c .before .before .before .before in (
+      omega arith,
+      (
+        omega arith,
+        (below-more _ _ (c4 .loop .inv .1 .1 .0) (λ m. sym (c .before .word-of2 .ensures) ∙ c .if1 .left ∙ c4 .loop .inv .1 .1 .1), c4 .loop .inv .1 .1 .1),
+      ),
+    )
 
 returns-2 : tie.Need-returns-2 Inv-loop μ-loop
 returns-2 c = record { after = omega arith; within = omega arith; each = c .before .loop .inv .1 .1 .0; stop = λ l e. absurd (omega arith) }

@@ -9,7 +9,17 @@ use Rattle.shape.proofs.announce.single_length.Reads as single-length-r
 
 returns : tie.Need-returns
 unfolding single
-returns c = simp (c .single-length4 .ensures, c .before .single-length3 .ensures, c .before .before .single-length2 .ensures, c .before .before .before .single-length .ensures, c .before .before .before .before .limit-after4 .ensures, c .before .before .before .before .before .limit-after3 .ensures, c .before .before .before .before .before .before .limit-after2 .ensures, c .before .before .before .before .before .before .before .limit-after .ensures)
+returns c =
+    simp (
+      c .single-length4 .ensures,
+      c .before .single-length3 .ensures,
+      c .before .before .single-length2 .ensures,
+      c .before .before .before .single-length .ensures,
+      c .before .before .before .before .limit-after4 .ensures,
+      c .before .before .before .before .before .limit-after3 .ensures,
+      c .before .before .before .before .before .before .limit-after2 .ensures,
+      c .before .before .before .before .before .before .before .limit-after .ensures,
+    )
 
 pub single-header-spec : {M : Type 1} → statement M
 single-header-spec =

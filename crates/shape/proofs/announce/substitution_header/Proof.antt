@@ -27,7 +27,10 @@ array-read-paired-header c = search needs
 paired-header-requires : tie.Need-paired-header-requires
 paired-header-requires c κs =
     let start = c .before .before .before in
-    let few = start .pre .0 .few in (start .pre .0, (start .pre .1, (let g = ruled-at (start .pre .0) (start .args .v) (omega arith) in (g .pos, omega (arith, g)))))
+    let few = start .pre .0 .few in (
+      start .pre .0,
+      (start .pre .1, (let g = ruled-at (start .pre .0) (start .args .v) (omega arith) in (g .pos, omega (arith, g)))),
+    )
 
 returns-2 : tie.Need-returns-2
 unfolding announced

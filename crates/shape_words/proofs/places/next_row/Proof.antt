@@ -15,7 +15,9 @@ add-t22 : tie.Need-add-t22
 add-t22 c = let h = (c .before) .pre .1 .inside .i2 in omega (arith, h, sizes-low ((c .before) .pre .0) 2 (lit< tt))
 
 returns : tie.Need-returns
-returns c = next-2 ((c .before) .args .t1) ((c .before) .args .t2) ((c .before) .pre .0) ((c .before) .pre .1 .begins) ((c .before) .pre .1 .inside .i1) (c .if1 .taken)
+returns c =
+    next-2 ((c .before) .args .t1) ((c .before) .args .t2) ((c .before) .pre .0) ((c .before) .pre .1 .begins)
+    ((c .before) .pre .1 .inside .i1) (c .if1 .taken)
 
 add-if2 : tie.Need-add-if2
 add-if2 c = let h = (c .before) .pre .1 .inside .i1 in omega (arith, h, sizes-low ((c .before) .pre .0) 1 (lit< tt))

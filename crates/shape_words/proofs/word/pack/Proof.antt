@@ -29,7 +29,17 @@ returns : tie.Need-returns
 unfolding fields wordOf
 returns c =
     let start = c .before .before .before .before .before .before .before .before .before .before in
-    let e : c .push8 .result ≡ fields (start .args .h) = simp (c .push8 .ensures, c .before .push7 .ensures, c .before .before .push6 .ensures, c .before .before .before .push5 .ensures, c .before .before .before .before .push4 .ensures, c .before .before .before .before .before .push3 .ensures, c .before .before .before .before .before .before .push2 .ensures, c .before .before .before .before .before .before .before .push .ensures) in
+    let e : c .push8 .result ≡ fields (start .args .h) =
+    simp (
+      c .push8 .ensures,
+      c .before .push7 .ensures,
+      c .before .before .push6 .ensures,
+      c .before .before .before .push5 .ensures,
+      c .before .before .before .before .push4 .ensures,
+      c .before .before .before .before .before .push3 .ensures,
+      c .before .before .before .before .before .before .push2 .ensures,
+      c .before .before .before .before .before .before .before .push .ensures,
+    ) in
     ap (λ (n : ℕ). n * 2 ^ 13 % 2 ^ 64) e ∙ shl-exact 51 13 64 (fields-lt _ (start .pre)) (search needs)
 
 pub pack-spec : {M : Type 1} → statement M

@@ -24,27 +24,46 @@ third c = put-then (second (c .before .before .before .before)) (c .put-byte .en
 fourth : (c : tie.After-put-line) →
     let c12 = c .before .before .before .before .before .before .before .before .before .before .before .before in
     let start = c12 .before .before .before .before .before in
-    Put 0 (((doneWord ++ decimal (start .args .steps)) ++ newline) ++ hexLine (start .args .header)) (start .args .to .now) (c .put-line .last .1 .1 .0) (c .put-line .result)
+    Put 0 (((doneWord ++ decimal (start .args .steps)) ++ newline) ++ hexLine (start .args .header))
+    (start .args .to .now) (c .put-line .last .1 .1 .0) (c .put-line .result)
 fourth c = put-then (third (c .before .before .before .before)) (c .put-line .ensures)
 
 put-decimal-requires : tie.Need-put-decimal-requires
 put-decimal-requires c κs =
     let c3 = c .before .before .before in
     let start = c3 .before .before .before .before .before in
-    omega (arith, put-len (c3 .put-bytes .ensures), c3 .put-bytes .ensures .behind, decimal-most 3 (start .args .steps) (omega arith) (omega arith) (omega arith))
+    omega (
+      arith,
+      put-len (c3 .put-bytes .ensures),
+      c3 .put-bytes .ensures .behind,
+      decimal-most 3 (start .args .steps) (omega arith) (omega arith) (omega arith),
+    )
 
 put-byte-requires : tie.Need-put-byte-requires
 put-byte-requires c κs =
     let c3 = c .before .before .before in
     let start = c3 .before .before .before .before .before .before .before .before .before in
-    omega (arith, put-len (second c3), c .before .before .before .before .before .before .before .put-bytes .ensures .behind, c3 .put-decimal .ensures .behind, decimal-most 3 (start .args .steps) (omega arith) (omega arith) (omega arith))
+    omega (
+      arith,
+      put-len (second c3),
+      c .before .before .before .before .before .before .before .put-bytes .ensures .behind,
+      c3 .put-decimal .ensures .behind,
+      decimal-most 3 (start .args .steps) (omega arith) (omega arith) (omega arith),
+    )
 
 put-line-requires : tie.Need-put-line-requires
 put-line-requires c κs =
     let c3 = c .before .before .before in
     let c11 = c3 .before .before .before .before .before .before .before .before in
     let start = c11 .before .before .before .before .before in
-    omega (arith, put-len (third c3), c11 .put-bytes .ensures .behind, c .before .before .before .before .before .before .before .put-decimal .ensures .behind, c3 .put-byte .ensures .behind, decimal-most 3 (start .args .steps) (omega arith) (omega arith) (omega arith))
+    omega (
+      arith,
+      put-len (third c3),
+      c11 .put-bytes .ensures .behind,
+      c .before .before .before .before .before .before .before .put-decimal .ensures .behind,
+      c3 .put-byte .ensures .behind,
+      decimal-most 3 (start .args .steps) (omega arith) (omega arith) (omega arith),
+    )
 
 put-floats-requires : tie.Need-put-floats-requires
 put-floats-requires c κs =
@@ -52,7 +71,16 @@ put-floats-requires c κs =
     let c11 = c3 .before .before .before .before .before .before .before .before in
     let c15 = c11 .before .before .before .before in
     let start = c15 .before .before .before .before .before in
-    omega (arith, put-len (fourth c3), c15 .put-bytes .ensures .behind, c11 .put-decimal .ensures .behind, c .before .before .before .before .before .before .before .put-byte .ensures .behind, c3 .put-line .ensures .behind, length-line (start .args .header), decimal-most 3 (start .args .steps) (omega arith) (omega arith) (omega arith))
+    omega (
+      arith,
+      put-len (fourth c3),
+      c15 .put-bytes .ensures .behind,
+      c11 .put-decimal .ensures .behind,
+      c .before .before .before .before .before .before .before .put-byte .ensures .behind,
+      c3 .put-line .ensures .behind,
+      length-line (start .args .header),
+      decimal-most 3 (start .args .steps) (omega arith) (omega arith) (omega arith),
+    )
 
 returns : tie.Need-returns
 unfolding doneText

@@ -42,7 +42,8 @@ mul-t16 c =
 returns : tie.Need-returns
 returns c =
     let start = c .before .before .before .before .before .before .before .before in
-    room-is (start .args .known .now) (start .args .inputs) (c .before .before .before .before .total-of .ensures) (c .before .before .total-of2 .ensures) (c .before .total-of3 .ensures) (c .largest-of .ensures)
+    room-is (start .args .known .now) (start .args .inputs) (c .before .before .before .before .total-of .ensures)
+    (c .before .before .total-of2 .ensures) (c .before .total-of3 .ensures) (c .largest-of .ensures)
 
 pub room-of-spec : {M : Type 1} → statement M
 room-of-spec =

@@ -14,7 +14,8 @@ coefficients-read : (c : tie.After-run) →
 coefficients-read c =
     let c12 = c .before .before .before .before .before .before .before .before .before .before .before .before in
     let start = c12 .before .before .before .before in
-    floats-read (start .args .pool .now) (start .args .words .now) (start .args .scratch .now) (start .pre) refl (c .before .before .before .before .before .before .before .fill-floats .ensures)
+    floats-read (start .args .pool .now) (start .args .words .now) (start .args .scratch .now) (start .pre) refl
+    (c .before .before .before .before .before .before .before .fill-floats .ensures)
 
 fill-floats-requires : tie.Need-fill-floats-requires
 fill-floats-requires c κs =
@@ -39,21 +40,31 @@ done-requires c κs =
     let c9 = c .before .before .before .before .before .before .before .before .before in
     let c21 = c9 .before .before .before .before .before .before .before .before .before .before .before .before in
     let start = c21 .before .before .before .before in
-    ran-ruled (start .args .pool .now) (start .args .words .now) (start .args .scratch .now) (start .pre) (coefficients-read c9) (sym (c .before .enum-told .given .1) ∙ c9 .run .ensures .0) (c9 .run .ensures .1 .1 .0) (c9 .run .ensures .1 .0) (omega arith)
+    ran-ruled (start .args .pool .now) (start .args .words .now) (start .args .scratch .now) (start .pre)
+    (coefficients-read c9) (sym (c .before .enum-told .given .1) ∙ c9 .run .ensures .0) (c9 .run .ensures .1 .1 .0)
+    (c9 .run .ensures .1 .0) (omega arith)
 
 returns : tie.Need-returns
 returns c =
     let c10 = c .before .before .before .before .before .before .before .before .before .before in
     let c22 = c10 .before .before .before .before .before .before .before .before .before .before .before .before in
     let start = c22 .before .before .before .before in
-    ran-done (start .args .pool .now) (start .args .words .now) (start .args .scratch .now) (start .pre) (coefficients-read c10) (sym (c .before .before .enum-told .given .1) ∙ c10 .run .ensures .0) (c10 .run .ensures .1 .1 .0) (c10 .run .ensures .1 .0) (omega arith) (c .done .ensures)
+    ran-done (start .args .pool .now) (start .args .words .now) (start .args .scratch .now) (start .pre)
+    (coefficients-read c10) (sym (c .before .before .enum-told .given .1) ∙ c10 .run .ensures .0)
+    (c10 .run .ensures .1 .1 .0) (c10 .run .ensures .1 .0) (omega arith) (c .done .ensures)
 
 returns-2 : tie.Need-returns-2
 returns-2 c =
     let c10 = c .before .before .before .before .before .before .before .before .before .before in
     let c22 = c10 .before .before .before .before .before .before .before .before .before .before .before .before in
     let start = c22 .before .before .before .before in
-    let q = ran-refused (start .args .pool .now) (start .args .words .now) (start .args .scratch .now) (start .pre) (coefficients-read c10) (sym (c .before .before .r .given .1) ∙ c10 .run .ensures .0) in record { refusal = c .refused .ensures ∙ q .0; done = λ z. absurd (q .1 (ap (λ (x : Refusal). x .number) (sym (c .refused .ensures)) ∙ z)) }
+    let q =
+    ran-refused (start .args .pool .now) (start .args .words .now) (start .args .scratch .now) (start .pre)
+    (coefficients-read c10) (sym (c .before .before .r .given .1) ∙ c10 .run .ensures .0) in
+    record {
+      refusal = c .refused .ensures ∙ q .0;
+      done = λ z. absurd (q .1 (ap (λ (x : Refusal). x .number) (sym (c .refused .ensures)) ∙ z));
+    }
 
 pub run-in-spec : {M : Type 1} → statement M
 run-in-spec =

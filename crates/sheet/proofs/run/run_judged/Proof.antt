@@ -9,8 +9,13 @@ use Rattle.sheet.proofs.run.run_judged.Tie as tie
 
 room-of-requires : tie.Need-room-of-requires
 room-of-requires c κs =
-    let start = c .before .before .before .before .before .before .before .before in
-    (running-known (start .pre .0), (omega (arith, running-many (start .pre .0), running-passed (start .pre .0) .accepts .sizes .some), omega (arith, running-many (start .pre .0), running-passed (start .pre .0) .accepts .sizes .fit)))
+    let start = c .before .before .before .before .before .before .before .before in (
+      running-known (start .pre .0),
+      (
+        omega (arith, running-many (start .pre .0), running-passed (start .pre .0) .accepts .sizes .some),
+        omega (arith, running-many (start .pre .0), running-passed (start .pre .0) .accepts .sizes .fit),
+      ),
+    )
 
 array-borrow-prefix-coefficients : tie.Need-array-borrow-prefix-coefficients
 array-borrow-prefix-coefficients c =
@@ -48,7 +53,9 @@ run-in-requires : tie.Need-run-in-requires
 run-in-requires c κs =
     let c12 = c .before .before .before .before .before .before .before .before .before .before .before .before in
     let start = c12 .before in
-    running-in (start .pre .0) (c .before .before .before .before .room-of .ensures) (sym (slice-aggregate-run-in (c .before .before .before))) (sym (slice-aggregate-run-in-2 (c .before .before))) (sym (slice-aggregate-run-in-3 (c .before))) (sym (slice-aggregate-run-in-4 c))
+    running-in (start .pre .0) (c .before .before .before .before .room-of .ensures)
+    (sym (slice-aggregate-run-in (c .before .before .before))) (sym (slice-aggregate-run-in-2 (c .before .before)))
+    (sym (slice-aggregate-run-in-3 (c .before))) (sym (slice-aggregate-run-in-4 c))
 
 returns : tie.Need-returns
 returns c = ends-more _ (c .before .before .before .before .before .run-in .ensures)

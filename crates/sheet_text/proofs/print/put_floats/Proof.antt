@@ -22,7 +22,10 @@ put-line-requires c κs =
     omega (arith, floats-next (c4 .loop .inv), put-len (c4 .loop .inv .put))
 
 loop-again : tie.Need-loop-again Inv-loop μ-loop
-loop-again c = floats-put (c .before .before .before .before .before .before .before .loop .inv) (c .before .before .before .before .before .before .loop-test .taken) (c .before .before .before .before .word-of .ensures) (c .before .before .put-line .ensures)
+loop-again c =
+    floats-put (c .before .before .before .before .before .before .before .loop .inv)
+    (c .before .before .before .before .before .before .loop-test .taken)
+    (c .before .before .before .before .word-of .ensures) (c .before .before .put-line .ensures)
 
 same-length : tie.Need-same-length Inv-loop μ-loop
 same-length c = put-len (c .before .loop .inv .put)

@@ -21,17 +21,28 @@ small c =
     let c12 = c .before .before .before .before .before .before .before .before .before .before .before .before in
     let c14 = c12 .before .before in
     let start = c14 .before .before .before .before .before .before in
-    omega (arith, c .count-of .ensures, put-small (start .pre .0) (omega (arith, c .before .before .if1 .left, c14 .highest .ensures)) (c .before .cut-to .ensures), start .pre .0 .work, c .before .before .before .before .before .before .before .first-turn .ensures .below .len, c12 .load-row .ensures .below .len)
+    omega (
+      arith,
+      c .count-of .ensures,
+      put-small (start .pre .0) (omega (arith, c .before .before .if1 .left, c14 .highest .ensures)) (c .before .cut-to .ensures),
+      start .pre .0 .work,
+      c .before .before .before .before .before .before .before .first-turn .ensures .below .len,
+      c12 .load-row .ensures .below .len,
+    )
 
 loaded : (c : tie.After-load) →
     let c3 = c .before .before .before in
     let c9 = c3 .before .before .before .before .before .before in
     let c21 = c9 .before .before .before .before .before .before .before .before .before .before .before .before in
     let start = c21 .before in
-    Kept 0 (count (c3 .cut-to .result)) (cutPlaces (start .args .lb) (c3 .cut-to .result) (start .args .b .now)) (c9 .first-turn .last .0) (c .load .last .1 .1 .1 .0 ++ drop (c .before .before .count-of .result) (c9 .first-turn .last .0))
+    Kept 0 (count (c3 .cut-to .result)) (cutPlaces (start .args .lb) (c3 .cut-to .result) (start .args .b .now))
+    (c9 .first-turn .last .0) (c .load .last .1 .1 .1 .0
+    ++ drop (c .before .before .count-of .result) (c9 .first-turn .last .0))
 loaded c =
     let c9 = c .before .before .before .before .before .before .before .before .before in
-    front-kept (c9 .first-turn .last .0) (c .load .ensures) (length-table _ (count (c .before .before .before .cut-to .result))) (c .before .before .count-of .ensures) (small (c .before .before))
+    front-kept (c9 .first-turn .last .0) (c .load .ensures)
+    (length-table _ (count (c .before .before .before .cut-to .result))) (c .before .before .count-of .ensures)
+    (small (c .before .before))
 
 row-lengths-requires : tie.Need-row-lengths-requires
 row-lengths-requires c κs = c .before .before .before .before .pre .0 .var
@@ -46,13 +57,17 @@ mul-load-row c = omega (arith, c .before .before .before .before .before .before
 
 load-row-requires : tie.Need-load-row-requires
 load-row-requires c κs =
-    let start = c .before .before .before .before .before .before .before in
-    (row-picks (start .pre .0) (c .before .before .row-lengths .ensures) (omega (arith, c .before .highest .ensures)) refl, omega (arith, row-fits (start .pre .0) (c .before .before .row-lengths .ensures), start .pre .0 .work))
+    let start = c .before .before .before .before .before .before .before in (
+      row-picks (start .pre .0) (c .before .before .row-lengths .ensures)
+          (omega (arith, c .before .highest .ensures)) refl,
+      omega (arith, row-fits (start .pre .0) (c .before .before .row-lengths .ensures), start .pre .0 .work),
+    )
 
 first-turn-requires : tie.Need-first-turn-requires
 first-turn-requires c κs =
     let start = c .before .before .before .before .before .before .before .before .before .before .before .before in
-    puts-adding (start .pre .0) (c .before .before .before .before .before .before .before .row-lengths .ensures) refl (c .before .before .before .before .load-row .ensures .below .len)
+    puts-adding (start .pre .0) (c .before .before .before .before .before .before .before .row-lengths .ensures) refl
+    (c .before .before .before .before .load-row .ensures .below .len)
 
 returns : tie.Need-returns
 returns c =
@@ -60,7 +75,9 @@ returns c =
     let c12 = c10 .before .before in
     let c13 = c12 .before in
     let start = c13 .before .before .before .before .before in
-    start-one (start .pre .0) (start .args .a .now) (start .args .b .now) (start .pre .1) (c12 .highest .ensures) (c13 .row-lengths .ensures) (c10 .load-row .ensures) (c .before .before .before .before .before .first-turn .ensures) (c .if1 .taken)
+    start-one (start .pre .0) (start .args .a .now) (start .args .b .now) (start .pre .1) (c12 .highest .ensures)
+    (c13 .row-lengths .ensures) (c10 .load-row .ensures)
+    (c .before .before .before .before .before .first-turn .ensures) (c .if1 .taken)
 
 count-of-requires : tie.Need-count-of-requires
 count-of-requires c κs =
@@ -89,8 +106,15 @@ horner-rows-requires c κs =
     let c18 = c13 .before .before .before .before .before in
     let c20 = c18 .before .before in
     let c21 = c20 .before in
-    let start = c21 .before .before .before .before .before in
-    (start-room (start .pre .0) (start .args .a .now) (start .args .b .now) (start .pre .1) (c20 .highest .ensures) (c21 .row-lengths .ensures) (c18 .load-row .ensures) (c13 .first-turn .ensures) (omega (arith, c8 .if1 .left)) (c7 .cut-to .ensures) (loaded c4) (c13 .first-turn .kept .1 .1 .1 .0) (loaded c4 .below .len ∙ (c13 .first-turn .ensures .below .len ∙ c18 .load-row .ensures .below .len)), start-front (start .pre .0) (start .args .a .now) (start .args .b .now) (start .pre .1) (c20 .highest .ensures) (c21 .row-lengths .ensures) (c18 .load-row .ensures) (c13 .first-turn .ensures) (omega (arith, c8 .if1 .left)) (c7 .cut-to .ensures) (loaded c4))
+    let start = c21 .before .before .before .before .before in (
+      start-room (start .pre .0) (start .args .a .now) (start .args .b .now) (start .pre .1) (c20 .highest .ensures)
+          (c21 .row-lengths .ensures) (c18 .load-row .ensures) (c13 .first-turn .ensures) (omega (arith, c8 .if1 .left))
+          (c7 .cut-to .ensures) (loaded c4) (c13 .first-turn .kept .1 .1 .1 .0)
+          (loaded c4 .below .len ∙ (c13 .first-turn .ensures .below .len ∙ c18 .load-row .ensures .below .len)),
+      start-front (start .pre .0) (start .args .a .now) (start .args .b .now) (start .pre .1) (c20 .highest .ensures)
+          (c21 .row-lengths .ensures) (c18 .load-row .ensures) (c13 .first-turn .ensures) (omega (arith, c8 .if1 .left))
+          (c7 .cut-to .ensures) (loaded c4),
+    )
 
 returns-2 : tie.Need-returns-2
 returns-2 c =
@@ -102,7 +126,9 @@ returns-2 c =
     let c25 = c23 .before .before in
     let c26 = c25 .before in
     let start = c26 .before .before .before .before .before in
-    start-stands (start .pre .0) (start .args .a .now) (start .args .b .now) (start .pre .1) (c25 .highest .ensures) (c26 .row-lengths .ensures) (c23 .load-row .ensures) (c18 .first-turn .ensures) (omega (arith, c13 .if1 .left)) (c12 .cut-to .ensures) (loaded c9) (c .before .before .before .before .horner-rows .ensures)
+    start-stands (start .pre .0) (start .args .a .now) (start .args .b .now) (start .pre .1) (c25 .highest .ensures)
+    (c26 .row-lengths .ensures) (c23 .load-row .ensures) (c18 .first-turn .ensures) (omega (arith, c13 .if1 .left))
+    (c12 .cut-to .ensures) (loaded c9) (c .before .before .before .before .horner-rows .ensures)
 
 pub horner-put-spec : {M : Type 1} → statement M
 horner-put-spec =

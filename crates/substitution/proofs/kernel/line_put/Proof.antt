@@ -18,10 +18,17 @@ use Rattle.substitution.proofs.kernel.line_put.Tie as tie
 loaded : (c : tie.After-load) → length (c .load .last .1 .1 .1 .0) ≡ c .before .before .count-of .result
 loaded c = ap length (c .load .ensures) ∙ (length-table _ (count (c .before .before .before .cut-to .result)) ∙ sym (c .before .before .count-of .ensures))
 
-front : (c : tie.After-load) → take (c .before .before .count-of .result) (c .load .last .1 .1 .1 .0 ++ drop (c .before .before .count-of .result) (c .before .before .before .before .before .before .args .out .now)) ≡ c .load .last .1 .1 .1 .0
-front c = take-at (c .load .last .1 .1 .1 .0) (drop (c .before .before .count-of .result) (c .before .before .before .before .before .before .args .out .now)) (c .before .before .count-of .result) (loaded c)
+front : (c : tie.After-load) → take (c .before .before .count-of .result)
+    (c .load .last .1 .1 .1 .0 ++ drop (c .before .before .count-of .result)
+    (c .before .before .before .before .before .before .args .out .now)) ≡ c .load .last .1 .1 .1 .0
+front c =
+    take-at (c .load .last .1 .1 .1 .0) (drop (c .before .before .count-of .result)
+    (c .before .before .before .before .before .before .args .out .now))
+    (c .before .before .count-of .result) (loaded c)
 
-again : (c : tie.After-load) → c .before .before .count-of .result ≤ length (c .load .last .1 .1 .1 .0 ++ drop (c .before .before .count-of .result) (c .before .before .before .before .before .before .args .out .now))
+again : (c : tie.After-load) → c .before .before .count-of .result
+    ≤ length (c .load .last .1 .1 .1 .0 ++ drop (c .before .before .count-of .result)
+    (c .before .before .before .before .before .before .args .out .now))
 again c = simp length-append (omega (arith, loaded c))
 
 count-of-requires : tie.Need-count-of-requires
@@ -38,7 +45,10 @@ slice-aggregate-load c =
 load-requires : tie.Need-load-requires
 load-requires c κs =
     let start = c .before .before .before .before .before in
-    cuts-loads (start .pre) (c .before .before .cut-to .ensures) (length-take-le _ (start .args .out .now) (cuts-fits (start .pre) (c .before .before .cut-to .ensures) (c .before .count-of .ensures)) ∙ c .before .count-of .ensures)
+    cuts-loads (start .pre) (c .before .before .cut-to .ensures)
+    (length-take-le _ (start .args .out .now)
+    (cuts-fits (start .pre) (c .before .before .cut-to .ensures) (c .before .count-of .ensures))
+    ∙ c .before .count-of .ensures)
 
 strides-of-requires : tie.Need-strides-of-requires
 strides-of-requires c κs =
@@ -60,7 +70,12 @@ array-read-power-parts c = c .before .before .before .before .before .before .be
 mul-power-parts-2 : tie.Need-mul-power-parts-2
 mul-power-parts-2 c =
     let start = c .before .before .before .before .before .before .before .before .before in
-    omega (arith, rows-small (cuts-own (start .pre) (c .before .before .before .before .before .before .cut-to .ensures)) (c .before .before .before .before .before .count-of .ensures) (ap (λ (q : List ℕ). at q (start .args .v)) (c .strides-of .ensures)))
+    omega (
+      arith,
+      rows-small (cuts-own (start .pre) (c .before .before .before .before .before .before .cut-to .ensures))
+          (c .before .before .before .before .before .count-of .ensures)
+          (ap (λ (q : List ℕ). at q (start .args .v)) (c .strides-of .ensures)),
+    )
 
 slice-relend-prefix-power-parts : tie.Need-slice-relend-prefix-power-parts
 slice-relend-prefix-power-parts c = again ((c .before .before .before))
@@ -73,7 +88,14 @@ power-parts-requires c κs =
     let c4 = c .before .before .before .before in
     let c6 = c4 .before .before in
     let start = c6 .before .before .before .before in
-    let t = cuts-own (start .pre) (c .before .before .before .before .before .before .before .cut-to .ensures) in (rows-whole t (c6 .count-of .ensures) (ap (λ (q : List ℕ). at q (start .args .v)) (c .before .strides-of .ensures)), rw (length-take-le (c6 .count-of .result) (c4 .load .last .1 .1 .1 .0 ++ drop (c6 .count-of .result) (start .args .out .now)) (again c4)) (parts-whole t (c6 .count-of .ensures) (ap (λ (q : List ℕ). at q (start .args .v)) (c .before .strides-of .ensures))))
+    let t = cuts-own (start .pre) (c .before .before .before .before .before .before .before .cut-to .ensures) in (
+      rows-whole t (c6 .count-of .ensures) (ap (λ (q : List ℕ). at q (start .args .v))
+          (c .before .strides-of .ensures)),
+      rw (length-take-le (c6 .count-of .result)
+          (c4 .load .last .1 .1 .1 .0 ++ drop (c6 .count-of .result) (start .args .out .now)) (again c4))
+          (parts-whole t (c6 .count-of .ensures) (ap (λ (q : List ℕ). at q (start .args .v))
+          (c .before .strides-of .ensures))),
+    )
 
 returns : tie.Need-returns
 returns c =
@@ -81,7 +103,19 @@ returns c =
     let c9 = c7 .before .before in
     let c10 = c9 .before in
     let start = c10 .before .before .before in
-    let x = front c7 in let l = length-take-le (c9 .count-of .result) (c7 .load .last .1 .1 .1 .0 ++ drop (c9 .count-of .result) (start .args .out .now)) (again c7) in let j = powered-put (start .args .limits) (start .args .la) (start .args .v) (start .args .m) (start .args .a .now) (cuts-own (start .pre) (c10 .cut-to .ensures)) (c10 .cut-to .ensures) (c9 .count-of .ensures) (ap (λ (q : List ℕ). at q (start .args .v)) (c .before .before .before .before .strides-of .ensures)) (x ∙ c7 .load .ensures) (c .before .before .power-parts .ensures) l in put-front (c9 .count-of .result) (j .0) (j .1) (c .before .before .power-parts .kept .1 .1 .1 .0 ∙ l) (ap (λ (y : List Float). c .before .before .power-parts .last .1 .1 .1 .0 ++ y) (drop-at (c7 .load .last .1 .1 .1 .0) (drop (c9 .count-of .result) (start .args .out .now)) (c9 .count-of .result) (loaded c7)))
+    let x = front c7 in
+    let l =
+    length-take-le (c9 .count-of .result) (c7 .load .last .1 .1 .1 .0
+    ++ drop (c9 .count-of .result) (start .args .out .now)) (again c7) in
+    let j =
+    powered-put (start .args .limits) (start .args .la) (start .args .v) (start .args .m) (start .args .a .now)
+    (cuts-own (start .pre) (c10 .cut-to .ensures)) (c10 .cut-to .ensures) (c9 .count-of .ensures)
+    (ap (λ (q : List ℕ). at q (start .args .v)) (c .before .before .before .before .strides-of .ensures))
+    (x ∙ c7 .load .ensures) (c .before .before .power-parts .ensures) l in
+    put-front (c9 .count-of .result) (j .0) (j .1) (c .before .before .power-parts .kept .1 .1 .1 .0 ∙ l)
+    (ap (λ (y : List Float). c .before .before .power-parts .last .1 .1 .1 .0 ++ y)
+    (drop-at (c7 .load .last .1 .1 .1 .0) (drop (c9 .count-of .result) (start .args .out .now))
+    (c9 .count-of .result) (loaded c7)))
 
 pub line-put-spec : {M : Type 1} → statement M
 line-put-spec =

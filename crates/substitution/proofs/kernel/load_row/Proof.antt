@@ -8,7 +8,8 @@ use Rattle.substitution.proofs.kernel.load_row.Tie as tie
 returns : tie.Need-returns
 returns c =
     let start = c .before .before .before .before .before .before .before in
-    row-kept (start .args .at) (start .args .work .now) (c .before .before .pick .ensures) (length-table _ (count (start .args .c))) (c .before .before .before .before .count-of .ensures) (start .pre .1)
+    row-kept (start .args .at) (start .args .work .now) (c .before .before .pick .ensures)
+    (length-table _ (count (start .args .c))) (c .before .before .before .before .count-of .ensures) (start .pre .1)
 
 pub load-row-spec : {M : Type 1} → statement M
 load-row-spec =

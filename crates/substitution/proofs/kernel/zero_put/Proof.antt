@@ -20,14 +20,23 @@ slice-aggregate-pick c =
 pick-requires : tie.Need-pick-requires
 pick-requires c κs =
     let start = c .before .before .before .before .before in
-    cuts-picks (start .pre) (c .before .before .row-lengths .ensures) (length-take-le _ (start .args .out .now) (cuts-fits (start .pre) (c .before .before .row-lengths .ensures) (c .before .count-of .ensures)) ∙ c .before .count-of .ensures)
+    cuts-picks (start .pre) (c .before .before .row-lengths .ensures)
+    (length-take-le _ (start .args .out .now)
+    (cuts-fits (start .pre) (c .before .before .row-lengths .ensures) (c .before .count-of .ensures))
+    ∙ c .before .count-of .ensures)
 
 returns : tie.Need-returns
 returns c =
     let c4 = c .before .before .before .before in
     let c5 = c4 .before in
     let start = c5 .before .before .before in
-    let j = row-parts (start .args .limits) (start .args .v) (start .args .la) (start .args .a .now) 0 (c5 .row-lengths .ensures) (c .before .before .pick .ensures) in put-front (c4 .count-of .result) (j .0) (j .1) (c .before .before .pick .kept .1 .1 .1 .1 .1 .0 ∙ length-take-le _ (start .args .out .now) (cuts-fits (start .pre) (c5 .row-lengths .ensures) (c4 .count-of .ensures))) refl
+    let j =
+    row-parts (start .args .limits) (start .args .v) (start .args .la) (start .args .a .now) 0
+    (c5 .row-lengths .ensures) (c .before .before .pick .ensures) in
+    put-front (c4 .count-of .result) (j .0) (j .1)
+    (c .before .before .pick .kept .1 .1 .1 .1 .1 .0
+    ∙ length-take-le _ (start .args .out .now)
+    (cuts-fits (start .pre) (c5 .row-lengths .ensures) (c4 .count-of .ensures))) refl
 
 pub zero-put-spec : {M : Type 1} → statement M
 zero-put-spec =

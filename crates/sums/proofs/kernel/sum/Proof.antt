@@ -39,7 +39,14 @@ returns : tie.Need-returns
 unfolding sumAnswer sumOut sumScratch
 returns c =
     let start = c .before .before .before .before .before .before .before .before in
-    let e = c .before .before .before .open-pair .ensures .refusal in let n = c .if1 .taken in (refused-answer e (announcedPair Sum (start .args .ah) (start .args .bh)) (value start) n, (refused-out e (announcedPair Sum (start .args .ah) (start .args .bh)) (value start) n (start .args .out .now), refused-scratch e (announcedPair Sum (start .args .ah) (start .args .bh)) (value start) n (start .args .scratch .now)))
+    let e = c .before .before .before .open-pair .ensures .refusal in
+    let n = c .if1 .taken in (
+      refused-answer e (announcedPair Sum (start .args .ah) (start .args .bh)) (value start) n,
+      (
+        refused-out e (announcedPair Sum (start .args .ah) (start .args .bh)) (value start) n (start .args .out .now),
+        refused-scratch e (announcedPair Sum (start .args .ah) (start .args .bh)) (value start) n (start .args .scratch .now),
+      ),
+    )
 
 mul-room : tie.Need-mul-room
 mul-room c =
@@ -87,7 +94,11 @@ sum-into-requires : tie.Need-sum-into-requires
 sum-into-requires c κs =
     let c11 = c .before .before .before .before .before .before .before .before .before .before .before in
     let c14 = c11 .before .before .before in
-    let f = opened-fits (c14 .open-pair .ensures) (c11 .if1 .left) in let t = c14 .open-pair .ensures .tells (c11 .if1 .left) in summing (opened-ready (c14 .open-pair .ensures) (c11 .if1 .left)) (t .left) (t .right) (told-by Sum t) (t .count-a) (t .count-b) (t .count) (length-take-le _ _ (f .0)) (length-take-le _ _ (f .1)) (length-take-le _ _ (f .2)) (length-take-le _ _ (f .3))
+    let f = opened-fits (c14 .open-pair .ensures) (c11 .if1 .left) in
+    let t = c14 .open-pair .ensures .tells (c11 .if1 .left) in
+    summing (opened-ready (c14 .open-pair .ensures) (c11 .if1 .left)) (t .left) (t .right) (told-by Sum t)
+    (t .count-a) (t .count-b) (t .count) (length-take-le _ _ (f .0)) (length-take-le _ _ (f .1))
+    (length-take-le _ _ (f .2)) (length-take-le _ _ (f .3))
 
 slice-relend-prefix-clear : tie.Need-slice-relend-prefix-clear
 slice-relend-prefix-clear c = rooms (c .before .before .before .before)
@@ -100,7 +111,8 @@ pack-requires c κs =
     let c12 = c .before .before .before .before .before .before .before .before .before .before .before .before in
     let c20 = c12 .before .before .before .before .before .before .before .before in
     let c23 = c20 .before .before .before in
-    let t = c23 .open-pair .ensures .tells (c20 .if1 .left) in rw (t .told) ((opened-ready (c23 .open-pair .ensures) (c20 .if1 .left)) .announced .regular .rules)
+    let t = c23 .open-pair .ensures .tells (c20 .if1 .left) in
+    rw (t .told) ((opened-ready (c23 .open-pair .ensures) (c20 .if1 .left)) .announced .regular .rules)
 
 returns-2 : tie.Need-returns-2
 unfolding sumAnswer sumOut sumScratch
@@ -109,7 +121,25 @@ returns-2 c =
     let c21 = c9 .before .before .before .before .before .before .before .before .before .before .before .before in
     let c24 = c21 .before .before .before in
     let start = c24 .before .before .before .before .before in
-    let e = c24 .open-pair .ensures .refusal in let z = c21 .if1 .left in let n = (opened-count (c24 .open-pair .ensures) (c21 .if1 .left)) in let t = c24 .open-pair .ensures .tells (c21 .if1 .left) in (done-answer e (announcedPair Sum (start .args .ah) (start .args .bh)) (value start) z (c .pack .ensures ∙ ap wordOf (sum-head (start .args .minus) (start .args .ah) (start .args .a .now) (start .args .bh) (start .args .b .now) (t .left) (t .right) (told-by Sum t))), (done-full e (announcedPair Sum (start .args .ah) (start .args .bh)) (value start) z (start .args .out .now) n (sum-coeffs (start .args .minus) (start .args .ah) (start .args .a .now) (start .args .bh) (start .args .b .now) (t .left) (t .right) (told-by Sum t) (t .count-a) (t .count-b) (c9 .sum-into .ensures)) (c9 .sum-into .kept .1 .1 .1 .1 .1 .1 .1 .1 .0 ∙ length-take-le _ _ (opened-fits (c24 .open-pair .ensures) (c21 .if1 .left) .2)), done-scratch e (announcedPair Sum (start .args .ah) (start .args .bh)) (value start) z (start .args .scratch .now) (c9 .sum-into .last .1 .1 .1 .1 .1 .1 .1 .1 .1 .0) (ap (λ (k : ℕ). 8 * k) n) (used c9) (c .before .before .before .clear .ensures) (length-take-le _ _ (rooms c9))))
+    let e = c24 .open-pair .ensures .refusal in
+    let z = c21 .if1 .left in
+    let n = (opened-count (c24 .open-pair .ensures) (c21 .if1 .left)) in
+    let t = c24 .open-pair .ensures .tells (c21 .if1 .left) in (
+      done-answer e (announcedPair Sum (start .args .ah) (start .args .bh)) (value start) z
+          (c .pack .ensures
+          ∙ ap wordOf (sum-head (start .args .minus) (start .args .ah) (start .args .a .now) (start .args .bh)
+          (start .args .b .now) (t .left) (t .right) (told-by Sum t))),
+      (
+        done-full e (announcedPair Sum (start .args .ah) (start .args .bh)) (value start) z (start .args .out .now) n
+            (sum-coeffs (start .args .minus) (start .args .ah) (start .args .a .now) (start .args .bh)
+            (start .args .b .now) (t .left) (t .right) (told-by Sum t) (t .count-a) (t .count-b) (c9 .sum-into .ensures))
+            (c9 .sum-into .kept .1 .1 .1 .1 .1 .1 .1 .1 .0
+            ∙ length-take-le _ _ (opened-fits (c24 .open-pair .ensures) (c21 .if1 .left) .2)),
+        done-scratch e (announcedPair Sum (start .args .ah) (start .args .bh)) (value start) z
+            (start .args .scratch .now) (c9 .sum-into .last .1 .1 .1 .1 .1 .1 .1 .1 .1 .0) (ap (λ (k : ℕ). 8 * k) n)
+            (used c9) (c .before .before .before .clear .ensures) (length-take-le _ _ (rooms c9)),
+      ),
+    )
 
 pub sum-spec : {M : Type 1} → statement M
 sum-spec =
