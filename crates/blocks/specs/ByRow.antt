@@ -1,8 +1,8 @@
 -- A loop that fills a block with f row by row; and the rows that `load_rows` and `join_rows` make.
 use Prim.Native.Nat.{ℕ, _+_, _-_, _≤_, _<_}
 use mathlib.Core.List.{List, _++_}
-use mathlib.Core.Bool.{Bool, true, false, cond}
-use mathlib.Core.Path.{_≡_, refl, sym, ap, _∙_}
+use mathlib.Core.Bool.{Bool, true, false}
+use mathlib.Core.Path.{_≡_, sym, ap, _∙_}
 use native.Mathlib.Omega.{arith}
 use native.Mathlib.Nat.{le-refl}
 use lib.Dec.{ltb}
@@ -10,14 +10,14 @@ use lib.ListN.{length, getD, take, drop, length-take, length-drop}
 use lib.Seq.{getD-drop, getD-take, drop-drop}
 use borrow.Rule.Slice.PartMut.{putMid}
 use lib.Ieee.{Float, nan}
-use borrow.Author.Tests.{lt-ltb, le-ltb, ltb-true, ltb-false}
+use borrow.Author.Tests.{ltb-true, ltb-false}
 use Rattle.lists.specs.Test.{decide}
 use Rattle.lists.specs.Four.{at, four}
 use Rattle.lists.specs.Table.{table, table-same, table-all, Filled, filled-none}
 use Rattle.model.specs.Header.{count}
 use Rattle.model.specs.Places.{place, index, inside}
 use Rattle.model.specs.Poly.{block, readAt}
-use Rattle.model.specs.Add.{join, joinAt}
+use Rattle.model.specs.Add.{joinAt}
 use Rattle.shape_words.specs.Lengths.{Sizes, Inside, RowAt, inside-is, is-inside}
 use Rattle.blocks.specs.Fill.{filled-row, filled-rest, filled-all, part-table}
 use Rattle.blocks.specs.Rows.{AtRow, at-first, at-next, at-row, row-fits, alongRow, index-row, place-row}

@@ -1,17 +1,17 @@
 -- The sum of two blocks by its three ways.
-use Prim.Native.Nat.{ℕ, zero, suc, _+_, _*_, _≤_, _<_, max}
+use Prim.Native.Nat.{ℕ, _+_, _<_, max}
 use mathlib.Core.List.{List}
-use mathlib.Core.Bool.{Bool, true, false, cond}
-use mathlib.Core.Path.{_≡_, refl, sym, ap, _∙_}
+use mathlib.Core.Bool.{Bool, true, false}
+use mathlib.Core.Path.{_≡_, sym, ap, _∙_}
 use native.Mathlib.Omega.{arith}
-use lib.Dec.{eqb, lit<}
-use lib.ListN.{length, getD, set, take, length-set}
-use lib.Seq.{take-all, take-length}
+use lib.Dec.{lit<}
+use lib.ListN.{length, getD, set, take}
+use lib.Seq.{take-length}
 use lib.Ieee.{Float, nan}
 use borrow.Author.Tests.{eq-eqb, ne-eqb}
-use Rattle.lists.specs.Four.{at, four, at-four}
-use Rattle.lists.specs.Table.{table, table-same, table-at, length-table}
-use Rattle.model.specs.Header.{count, span}
+use Rattle.lists.specs.Four.{at}
+use Rattle.lists.specs.Table.{table, table-same, table-at}
+use Rattle.model.specs.Header.{count}
 use Rattle.model.specs.Limits.{maxShape}
 use Rattle.model.specs.Places.{index, inside}
 use Rattle.model.specs.Poly.{Block, block}

@@ -1,21 +1,20 @@
 -- Going through a block row by row: a row is the places that differ in the last variable alone.
 use Prim.Native.Nat.{ℕ, suc, _+_, _-_, _*_, _/_, _%_, _≤_, _<_}
 use mathlib.Core.List.{List, [], _∷_}
-use mathlib.Core.Bool.{Bool, true, false, _&&_, cond}
-use mathlib.Core.Path.{_≡_, refl, sym, ap, _∙_}
+use mathlib.Core.Bool.{Bool, cond}
+use mathlib.Core.Path.{_≡_, sym, ap, _∙_}
 use native.Mathlib.Omega.{arith}
-use native.Mathlib.Nat.{mul-one, mul-assoc, div-add-mod', add-mul, mul-le-mul-right, div-lt-iff-lt-mul, add-zero, add-assoc}
+use native.Mathlib.Nat.{mul-assoc, div-add-mod', mul-le-mul-right, div-lt-iff-lt-mul, add-zero}
 use lib.Arith.{digits-mod, digits-div}
-use lib.Dec.{ltb, lit<}
+use lib.Dec.{ltb}
 use lib.ListN.{length, getD}
 use lib.Ieee.{Float, nan}
 use Rattle.lists.specs.Four.{at, four}
-use Rattle.lists.specs.Table.{table, table-same}
-use Rattle.model.specs.Header.{count, span}
+use Rattle.model.specs.Header.{count}
 use Rattle.model.specs.Places.{place, index, inside}
-use Rattle.model.specs.Poly.{Block, block, readAt}
-use Rattle.model.specs.Add.{join, joinAt}
-use Rattle.shape_words.specs.Lengths.{Lengths, Sizes, Inside, RowAt, count-is, inside-four, inside-at}
+use Rattle.model.specs.Poly.{block}
+use Rattle.model.specs.Add.{join}
+use Rattle.shape_words.specs.Lengths.{Lengths, Sizes, Inside, RowAt, count-is}
 use Rattle.shape_words.specs.Places.{place-lt, index-within, place-index, horner}
 
 -- a block with the lengths n holds one with the lengths c

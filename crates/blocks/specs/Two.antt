@@ -1,9 +1,9 @@
 -- Two operands in one buffer: one at its front, the other from the place n on.
-use Prim.Native.Nat.{ℕ, _+_, _-_, _≤_, _<_}
+use Prim.Native.Nat.{ℕ, _+_, _-_, _≤_}
 use mathlib.Core.List.{List, _++_}
-use mathlib.Core.Path.{_≡_, refl, sym, ap, _∙_}
+use mathlib.Core.Path.{_≡_, refl, ap, _∙_}
 use native.Mathlib.Omega.{arith}
-use lib.ListN.{length, take, drop, length-append, length-take, length-drop}
+use lib.ListN.{length, take, drop, length-append, length-drop}
 use lib.Seq.{take-at, drop-at, take-append-le, take-take, length-take-le}
 use lib.Ieee.{Float}
 use borrow.Rule.Slice.PartMut.{putMid}
@@ -11,7 +11,7 @@ use Rattle.lists.specs.Table.{table, length-table}
 use Rattle.model.specs.Header.{count}
 use Rattle.model.specs.Places.{index}
 use Rattle.model.specs.Limits.{cutTo}
-use Rattle.model.specs.Poly.{Block, block, readAt, cut}
+use Rattle.model.specs.Poly.{block, readAt, cut}
 use Rattle.shape_words.specs.Lengths.{Lengths}
 use Rattle.blocks.specs.Rows.{Inner, Cutting}
 

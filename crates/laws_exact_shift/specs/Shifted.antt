@@ -28,8 +28,7 @@ use Rattle.laws_whole.specs.Index.{InBox}
 use Rattle.laws_whole.specs.StoredLaws.{in-box-inside, below-in-box, stored-past}
 use Rattle.shape_words.specs.Rules.{Regular}
 use Rattle.shape_words.specs.Lengths.{Inside, inside-is, is-inside, inside-four, inside-at}
-use Rattle.laws_exact.specs.Wholes.{Wholes, whole-at, stored-at, past-at, index-read, wholes-at}
-use Rattle.laws_exact.specs.Firsts.{outside}
+use Rattle.laws_exact.specs.Wholes.{Wholes, whole-at, stored-at, index-read, wholes-at}
 use Rattle.laws_exact.specs.Sums.{seriesIn, weightIn}
 use Rattle.laws_exact.specs.ShiftKeeps.{shiftHead, shiftedAt}
 use Rattle.laws_exact.specs.BoxRows.{row-part}

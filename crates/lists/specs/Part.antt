@@ -1,11 +1,11 @@
 -- Parts of a buffer, what stands below a place, and what was kept.
-use Prim.Native.Nat.{ℕ, zero, suc, _+_, _-_, _*_, _≤_, _<_}
+use Prim.Native.Nat.{ℕ, zero, suc, _+_, _-_, _≤_, _<_}
 use mathlib.Core.List.{List, [], _∷_, _++_}
 use mathlib.Core.Path.{_≡_, refl, sym, ap, _∙_}
 use native.Mathlib.Omega.{arith}
 use native.Mathlib.Nat.{zero-add, suc-add}
-use lib.ListN.{length, getD, take, drop, set, take-append-drop, length-set, length-take, length-drop}
-use lib.Seq.{take-set-le, drop-set-add, take-take, drop-nil, take-nil, drop-cons, getD-set-same, take-at, drop-at, drop-drop, drop-set-lt, set-append-left}
+use lib.ListN.{length, take, drop, set, length-set, length-take, length-drop}
+use lib.Seq.{take-set-le, drop-set-add, take-take, take-nil, drop-cons, getD-set-same, take-at, drop-at, drop-drop, drop-set-lt, set-append-left}
 use Rattle.lists.specs.Table.{Filled, filled-none, filled-more, filled-end, front, table, length-table}
 
 module _ {A : Type 0} where

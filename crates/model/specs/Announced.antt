@@ -3,8 +3,7 @@
 -- Total, and a header that keeps the rules (its count aside) whatever v, n and e are: what a gate refuses is announced
 -- to nobody.
 use Prim.Native.Nat.{ℕ, _+_, _-_, _*_, min, max}
-use mathlib.Core.List.{List, [], _∷_}
-use mathlib.Core.Bool.{Bool, cond}
+use mathlib.Core.Bool.{cond}
 use lib.Dec.{ltb, eqb}
 use Rattle.lists.specs.Four.{at, four}
 use Rattle.model.specs.declared.Header.{Header}

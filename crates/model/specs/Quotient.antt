@@ -5,9 +5,8 @@
 -- place; n variables are left, from v on. q has the places of the result before this one that agree with k in the
 -- variables before v.
 use Prim.Native.Nat.{ℕ, zero, suc, _+_, _-_, _*_}
-use mathlib.Core.List.{List, [], _∷_}
-use mathlib.Core.Bool.{Bool, false, cond}
-use lib.Dec.{eqb}
+use mathlib.Core.List.{List, []}
+use mathlib.Core.Bool.{false, cond}
 use lib.ListN.{length, getD, take, drop}
 use lib.Ieee.{Float, nan, add, neg, div, binary64}
 use Rattle.lists.specs.Table.{table}

@@ -2,7 +2,7 @@
 -- announced places hold the answer, then +0.0, the scratch's first 8 times the announced count are +0.0, and the rest
 -- is untouched.
 use Prim.Native.Nat.{ℕ, _-_, _*_}
-use mathlib.Core.List.{List, [], _∷_, _++_}
+use mathlib.Core.List.{List, _++_}
 use mathlib.Core.Bool.{Bool, true, false, _&&_, cond}
 use lib.Dec.{eqb, leb}
 use lib.ListN.{length, drop}

@@ -10,8 +10,8 @@
 -- of those variables.
 use Prim.Native.Nat.{ℕ, zero, suc, _+_, _-_, _*_, min, max}
 use mathlib.Core.List.{List, [], _∷_}
-use mathlib.Core.Bool.{Bool, false, cond}
-use lib.Dec.{ltb, eqb}
+use mathlib.Core.Bool.{false, cond}
+use lib.Dec.{ltb}
 use lib.ListN.{length, getD, take, drop}
 use lib.Ieee.{Float, nan, add, sub, mul, div, neg, binary64}
 use Rattle.lists.specs.Table.{table}
@@ -22,7 +22,7 @@ use Rattle.lists.specs.Four.{at, four}
 use Rattle.model.specs.declared.Refusal.{Refusal}
 use Rattle.model.specs.declared.Answer.{Answer}
 use Rattle.model.specs.declared.Family.the-variants.{Series}
-use Rattle.model.specs.Header.{span, count, noHeader}
+use Rattle.model.specs.Header.{span, noHeader}
 use Rattle.model.specs.Places.{index}
 use Rattle.model.specs.Announced.{announced, lengthAfter}
 use Rattle.model.specs.Refusals.{zeroF}

@@ -2,8 +2,8 @@
 -- line; ys rows of ty, and ny.
 use Prim.Native.Nat.{ℕ, suc, _+_, _-_, _*_, _/_, _%_, _≤_, _<_, min}
 use mathlib.Core.List.{List, _++_}
-use mathlib.Core.Bool.{true, false}
-use mathlib.Core.Path.{_≡_, refl, sym, ap, _∙_}
+use mathlib.Core.Bool.{true}
+use mathlib.Core.Path.{_≡_, sym, ap, _∙_}
 use native.Mathlib.Omega.{arith}
 use native.Mathlib.Nat.{mul-one, suc-mul, mul-le-mul-right, le-refl, div-add-mod', mod-lt, div-lt-iff-lt-mul, mod-eq-of-lt, div-eq-of-lt}
 use lib.ListN.{length, getD, take, drop, length-take, length-drop}
@@ -21,7 +21,7 @@ use Rattle.shape_words.specs.Lengths.{Lengths, lengths-pos}
 use Rattle.blocks.specs.Fill.{filled-row, filled-rest, filled-all}
 use Rattle.product_general.specs.Index.{inRow, row-div, row-mod, split-at}
 use Rattle.product_general.specs.Product.{span-more, span-pos, row-in, first-in, stride-at, alone-one, product-line, product-rows}
-use Rattle.product_general.specs.Rows.{Strided, Rowing, Several, TwoLong, placeOf, rowsOf}
+use Rattle.product_general.specs.Rows.{Strided, Rowing, Several, TwoLong, rowsOf}
 use Rattle.product_lines.specs.Added.{lineAdded}
 use Rattle.product_general.specs.Pairs.{fromOn, rows-line}
 use Rattle.product_general.specs.Bounds.{most, line-size, turn}

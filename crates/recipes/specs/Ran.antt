@@ -1,6 +1,6 @@
 -- What a run answers and leaves behind: everything as it was where it is refused, else each step's value and true
 -- header, and a clear scratch.
-use Prim.Native.Nat.{ℕ, _+_, _*_, _≤_}
+use Prim.Native.Nat.{ℕ, _+_, _≤_}
 use mathlib.Core.List.{List, map, _++_}
 use mathlib.Core.Path.{_≡_, sym, ap, _∙_}
 use lib.ListN.{length, drop}

@@ -1,19 +1,19 @@
 -- A run after i steps: which words, starts and pool stand, and what one step more makes of them.
 use Prim.Native.Nat.{ℕ, zero, suc, _+_, _-_, _*_, _≤_, _<_}
-use mathlib.Core.Bool.{Bool, true, false, _&&_, cond}
+use mathlib.Core.Bool.{Bool, true, false}
 use mathlib.Core.List.{List, [], _∷_, _++_, map, append-assoc, append-nil}
 use mathlib.Core.Path.{_≡_, refl, sym, ap, _∙_}
 use native.Mathlib.Omega.{arith}
 use native.Mathlib.Numerals.{add-one}
 use lib.Dec.{ltb, leb, eqb}
-use lib.ListN.{length, getD, set, take, drop, length-take, length-drop, length-set, length-map, take-append-drop, List·getD-append}
+use lib.ListN.{length, getD, set, take, drop, length-drop, length-set, length-map, take-append-drop, List·getD-append}
 use lib.Seq.{take-suc, take-add, take-all, take-take, length-take-le, drop-drop, drop-append-le, getD-at, getD-drop}
 use lib.Seq.{getD-take, getD-set-same, getD-set-other, ext-getD}
 use lib.Ieee.{Float}
 use borrow.Author.Tests.{eqb-true, eqb-false, le-leb, ltb-true, le-ltb, lt-ltb, leb-true, leb-false}
 use Rattle.lists.specs.Test.{decide}
 use Rattle.lists.specs.Chain.{chain, chain-append, chain-cons, chain-none, chain-keeps, length-chain}
-use Rattle.lists.specs.Part.{part, Kept}
+use Rattle.lists.specs.Part.{Kept}
 use Rattle.model.specs.declared.Header.{Header}
 use Rattle.model_recipes.specs.declared.Step.{Step}
 use Rattle.model.specs.Header.{limit, stored, noHeader}
@@ -32,7 +32,7 @@ use Rattle.shape.specs.Keeps.{Keeps}
 use Rattle.shape.specs.Under.{count-under}
 use Rattle.recipes_kinds.specs.Known.{head-at, small-variable, step-regular}
 use Rattle.recipes_operands.specs.Lent.{Lent}
-use Rattle.recipes_steps.specs.Ready.{valueOf, Known, Ready, Placed}
+use Rattle.recipes_steps.specs.Ready.{valueOf}
 use Rattle.recipes_check.specs.Judging.{heads}
 use Rattle.recipes_check.specs.Judged.{accepts}
 use Rattle.recipes_laws.specs.Formed.{formed-tests, formed-right}
@@ -40,7 +40,7 @@ use Rattle.recipes_laws.specs.Exact.{length-known}
 use Rattle.recipes_laws.specs.EachKind.{by-kind}
 use Rattle.recipes_laws.specs.Follows.{length-inputs, follows-known}
 use Rattle.recipes_laws.specs.Ahead.{Clear, ahead-at, clear-at, ready-at, keeps-at, announced-at, length-announced, step-largest}
-use Rattle.recipes_laws.specs.Passed.{StepReady, inLimit}
+use Rattle.recipes_laws.specs.Passed.{StepReady}
 use Rattle.recipes.specs.Standing.{lyingAt, Named, StepIn, constant-value, Begun, total-more, At, at-lying, at-lies, at-later, at-new, input-at}
 
 -- ---- operands of a step that is right

@@ -2,13 +2,13 @@
 -- start on.
 use Prim.Native.Nat.{ℕ, zero, suc, _+_, _-_, _*_, _^_, _≤_, _<_}
 use mathlib.Core.Bool.{Bool, true, false, cond}
-use mathlib.Core.List.{List, [], _∷_, _++_, map}
+use mathlib.Core.List.{List, [], _∷_, _++_}
 use mathlib.Core.Path.{_≡_, refl, sym, ap, _∙_}
 use native.Mathlib.Omega.{arith}
 use native.Mathlib.Numerals.{add-one}
 use native.Mathlib.Nat.{zero-add, suc-add}
 use lib.Dec.{ltb, eqb}
-use lib.ListN.{length, getD, set, take, drop, length-take, length-drop, length-set, length-map}
+use lib.ListN.{length, getD, set, take, drop, length-drop, length-set, length-map}
 use lib.Seq.{take-at, take-take, drop-drop, take-nil, length-take-le, getD-set-same, getD-set-other, take-suc}
 use lib.Ieee.{Float}
 use borrow.Author.Tests.{eqb-true, eqb-false}
@@ -17,12 +17,12 @@ use Rattle.lists.specs.Part.{part, Kept}
 use Rattle.model.specs.declared.Header.{Header}
 use Rattle.model_recipes.specs.declared.Step.{Step}
 use Rattle.model.specs.Header.{stored, noHeader}
-use Rattle.model.specs.Word.{headerOf, wordOf}
+use Rattle.model.specs.Word.{headerOf}
 use Rattle.model.specs.Refusals.{zeros, padded}
 use Rattle.model.specs.Constructed.{constant, wholeF}
-use Rattle.model.specs.Poly.{Poly, poly, held}
+use Rattle.model.specs.Poly.{Poly, poly}
 use Rattle.model_recipes.specs.Recipe.{inputHeads, headAt, total}
-use Rattle.model_recipes.specs.Run.{inputValues, operations, noValue, valueAt}
+use Rattle.model_recipes.specs.Run.{inputValues, operations, valueAt}
 use Rattle.shape_words.specs.Lengths.{lengths-of, count-most}
 use Rattle.recipes_kinds.specs.Known.{Known, head-at}
 use Rattle.recipes_check.specs.Counts.{word-ruled}

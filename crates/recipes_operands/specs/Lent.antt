@@ -11,7 +11,7 @@ use lib.Seq.{take-add, take-all, take-at, take-take, drop-drop}
 use lib.Ieee.{Float}
 use borrow.Rule.Slice.PartMut.{putMid}
 use Rattle.lists.specs.Table.{table, length-table}
-use Rattle.lists.specs.Part.{part, Below, below-less, below-then, below-part, Kept}
+use Rattle.lists.specs.Part.{part, below-less, below-then, below-part, Kept}
 use Rattle.model.specs.declared.Header.{Header}
 use Rattle.model.specs.Header.{stored}
 use Rattle.model.specs.Refusals.{zeroF, zeros, padded}

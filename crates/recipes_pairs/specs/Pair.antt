@@ -11,7 +11,7 @@ use lib.Seq.{take-length}
 use lib.Ieee.{Float}
 use borrow.Author.Tests.{eq-eqb, ne-eqb, eqb-true, eqb-false, leb-true, leb-false, le-leb, lt-leb}
 use Rattle.lists.specs.Test.{decide}
-use Rattle.lists.specs.Table.{table, length-table}
+use Rattle.lists.specs.Table.{length-table}
 use Rattle.lists.specs.Part.{part, Kept}
 use Rattle.model.specs.declared.Header.{Header}
 use Rattle.model.specs.declared.Family.{Family}
@@ -26,7 +26,7 @@ use Rattle.model.specs.Poly.{Poly, poly, Block, block, blockOf, polyOf, readAt,
 use Rattle.model.specs.Add.{joined, joinedBlock, combined}
 use Rattle.model.specs.Product.{isZero, constantBlock, productOf, multiplied, productPoly}
 use Rattle.model.specs.Quotient.{quotientOf, divided, quotientPoly}
-use Rattle.shape_words.specs.Rules.{Ruled, Regular, Good}
+use Rattle.shape_words.specs.Rules.{Regular, Good}
 use Rattle.shape_words.specs.Words.{unpack-pack, packed-good}
 use Rattle.shape_words.specs.Lengths.{Lengths, lengths-of}
 use Rattle.shape.specs.Keeps.{Keeps}

@@ -12,7 +12,7 @@ use Rattle.model.specs.Header.{header, stored, noHeader}
 use Rattle.model.specs.Word.{headerOf, wordOf}
 use Rattle.model.specs.Announced.{announced}
 use Rattle.model.specs.Refusals.{padded}
-use Rattle.model.specs.Poly.{Poly, poly, block, polyOf}
+use Rattle.model.specs.Poly.{Poly, poly, polyOf}
 use Rattle.model.specs.Power.{powerPoly}
 use Rattle.shape_words.specs.Rules.{Good, none-regular}
 use Rattle.shape_words.specs.Words.{unpack-pack, packed-good}

@@ -1,8 +1,8 @@
 -- A step of any kind but the constant: what it is lent, and that its value is its kind's operation's.
-use Prim.Native.Nat.{ℕ, _+_, _-_, _*_, _≤_, _<_}
+use Prim.Native.Nat.{ℕ, _+_, _-_, _≤_, _<_}
 use mathlib.Core.List.{List, [], _∷_, _++_}
 use mathlib.Core.Bool.{Bool, true, false, _&&_, not}
-use mathlib.Core.Path.{_≡_, refl, sym, ap, _∙_}
+use mathlib.Core.Path.{_≡_, refl, ap, _∙_}
 use native.Mathlib.Omega.{arith}
 use native.Mathlib.Nat.{le-trans}
 use lib.Dec.{eqb, leb}
@@ -14,14 +14,12 @@ use Rattle.lists.specs.Part.{Kept, kept-set}
 use Rattle.model.specs.declared.Header.{Header}
 use Rattle.model_recipes.specs.declared.Step.{Step}
 use Rattle.model.specs.declared.Family.{Family}
-use Rattle.model.specs.declared.Family.the-variants.{Constant, Same, Sum, Product, Quotient, Power, Shift, Substitution}
+use Rattle.model.specs.declared.Family.the-variants.{Constant, Power, Substitution}
 use Rattle.model.specs.Header.{limit, stored, noHeader}
 use Rattle.model.specs.Announced.{announced}
 use Rattle.model.specs.Refusals.{zeros, padded}
-use Rattle.model.specs.Constructed.{wholeF}
 use Rattle.model.specs.Poly.{Poly, poly}
 use Rattle.model.specs.Power.{powerPoly}
-use Rattle.model.specs.Shifts.{derivativePoly, expansionPoly, shiftDownPoly}
 use Rattle.model.specs.Substitute.{substitutePoly}
 use Rattle.model_recipes.specs.Recipe.{families, familyOf}
 use Rattle.model_recipes.specs.Run.{operations, noValue}

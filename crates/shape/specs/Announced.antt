@@ -1,10 +1,9 @@
 -- An announced header is a header that keeps the rules, its count aside; its limits are as document 01 says; its
 -- lengths are at most its limits.
 -- Whatever v, n and e are: no gate is asked.
-use Prim.Native.Nat.{ℕ, _+_, _-_, _*_, _≤_, _<_, min, max}
-use mathlib.Core.List.{List}
+use Prim.Native.Nat.{ℕ, _-_, _≤_, _<_, min, max}
 use mathlib.Core.Bool.{Bool, true, false, cond}
-use mathlib.Core.Path.{_≡_, refl, sym, ap, _∙_}
+use mathlib.Core.Path.{_≡_, refl, sym, _∙_}
 use native.Mathlib.Omega.{arith}
 use lib.Dec.{ltb, eqb}
 use Rattle.lists.specs.Test.{of-both}
@@ -12,11 +11,11 @@ use Rattle.lists.specs.Four.{at, four}
 use Rattle.model.specs.declared.Header.{Header}
 use Rattle.model.specs.declared.Family.{Family}
 use Rattle.model.specs.declared.Family.the-variants.{Constant, Same, Sum, Product, Quotient, Series, Power, Shift, Substitution, Term, Order}
-use Rattle.model.specs.Header.{header, limit, len, noHeader}
+use Rattle.model.specs.Header.{header, limit, len}
 use Rattle.model.specs.Limits.{minDegreesP1}
 use Rattle.model.specs.Announced.{lessIn, limitAfter, lengthAfter, single, paired, announced}
 use Rattle.shape_words.specs.Rules.{GoodVar, Ruled, Regular, ruled-at, regular-four, none-regular}
-use Rattle.shape.specs.Limits.{Range, min-degrees-at, min-degrees-range, min-degrees-gone}
+use Rattle.shape.specs.Limits.{min-degrees-range, min-degrees-gone}
 
 -- a length of 1 to l
 record Length (l x : ℕ) : Type 0 where

@@ -1,21 +1,20 @@
 -- Cutting keeps what lies inside the limits, at its index, and nothing else.
 use Prim.Native.Nat.{ℕ, _≤_, _<_, min}
 use mathlib.Core.List.{List}
-use mathlib.Core.Bool.{Bool, true, false, cond}
+use mathlib.Core.Bool.{false}
 use mathlib.Core.Path.{_≡_, refl, sym, ap, _∙_}
 use native.Mathlib.Omega.{arith}
 use lib.ListN.{getD, length}
-use lib.Ieee.{Float, nan}
+use lib.Ieee.{nan}
 use Rattle.lists.specs.Test.{decide}
-use Rattle.lists.specs.Table.{table, table-at, length-table}
+use Rattle.lists.specs.Table.{table-at, length-table}
 use Rattle.lists.specs.Four.{at, four, at-four}
 use Rattle.model.specs.declared.Header.{Header}
-use Rattle.model.specs.Header.{header, count, limit, len}
+use Rattle.model.specs.Header.{header, count, len}
 use Rattle.model.specs.Places.{place, offset, index, inside}
 use Rattle.model.specs.Limits.{cutTo}
-use Rattle.model.specs.Refusals.{zeroF}
 use Rattle.model.specs.Poly.{Block, readAt, coefficientAt, cut}
-use Rattle.shape_words.specs.Rules.{GoodVar, Ruled, Regular, regular-four, ruled-at}
+use Rattle.shape_words.specs.Rules.{Ruled, Regular, regular-four, ruled-at}
 use Rattle.shape.specs.Limits.{Range}
 use lib.Dec.{lit<}
 use Rattle.shape_words.specs.Lengths.{Lengths, Inside, inside-is, is-inside, inside-four, inside-at}

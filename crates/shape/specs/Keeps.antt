@@ -1,7 +1,6 @@
 -- What every operation owes of its result, in the one form that a run needs: the true header keeps the rules, has
 -- exactly the announced limits and no length above the announced one, and there are as many coefficients as it says.
 use mathlib.Core.Path.{_≡_, refl}
-use Prim.Native.Nat.{ℕ, _≤_}
 use lib.ListN.{length}
 use lib.Ieee.{Float}
 use native.Mathlib.Nat.{le-trans}

@@ -1,16 +1,14 @@
 -- Laws of limits: the smaller limits of two headers that keep the rules keep them, and cutting keeps what lies inside.
-use Prim.Native.Nat.{ℕ, _+_, _-_, _≤_, _<_, min, max}
-use mathlib.Core.List.{List}
-use mathlib.Core.Bool.{Bool, true, false, cond}
-use mathlib.Core.Path.{_≡_, refl, sym, ap, _∙_}
+use Prim.Native.Nat.{ℕ, _-_, _≤_, _<_, min, max}
+use mathlib.Core.Path.{_≡_, refl, _∙_}
 use native.Mathlib.Omega.{arith}
 use borrow.Author.Tests.{le-ltb}
-use lib.Dec.{ltb, lit<}
+use lib.Dec.{ltb}
 use Rattle.lists.specs.Test.{of-both}
-use Rattle.lists.specs.Four.{at, four, each}
+use Rattle.lists.specs.Four.{at, each}
 use Rattle.model.specs.declared.Header.{Header}
-use Rattle.model.specs.Header.{limit, len}
-use Rattle.model.specs.Limits.{minLimit, minDegreesP1, cutTo}
+use Rattle.model.specs.Header.{limit}
+use Rattle.model.specs.Limits.{minLimit, minDegreesP1}
 use Rattle.shape_words.specs.Rules.{GoodVar, Ruled, ruled-at}
 
 -- a number of 1 to 64

@@ -1,23 +1,22 @@
 -- A header under another: the same variables and limits, no length above the other's. Under smaller lengths every
 -- family announces no more.
 -- With the law that a result's true header is under the announced one, this is what a run's steps need of one another.
-use Prim.Native.Nat.{ℕ, _+_, _-_, _*_, _≤_, _<_, min, max}
-use mathlib.Core.List.{List}
+use Prim.Native.Nat.{ℕ, _-_, _*_, _≤_, _<_, min}
 use mathlib.Core.Bool.{Bool, true, false, cond}
 use mathlib.Core.Path.{_≡_, refl, sym, ap, _∙_}
 use native.Mathlib.Omega.{arith}
 use native.Mathlib.Nat.{mul-le-mul, le-refl, le-trans}
 use lib.Dec.{ltb, eqb, lit<}
-use borrow.Author.Tests.{eqb-true, eqb-false, eq-eqb, ltb-true}
+use borrow.Author.Tests.{eqb-true, eq-eqb, ltb-true}
 use Rattle.lists.specs.Test.{of-both, of-each, decide}
-use Rattle.lists.specs.Four.{at, four, at-four}
+use Rattle.lists.specs.Four.{at, at-four}
 use Rattle.model.specs.declared.Header.{Header}
 use Rattle.model.specs.declared.Family.{Family}
 use Rattle.model.specs.declared.Family.the-variants.{Constant, Same, Sum, Product, Quotient, Series, Power, Shift, Substitution, Term, Order}
 use Rattle.model.specs.Header.{header, limit, len, noHeader, span, stored}
 use Rattle.model.specs.Limits.{minDegreesP1}
 use Rattle.model.specs.Announced.{limitAfter, lengthAfter, single, paired, announced}
-use Rattle.shape_words.specs.Rules.{Ruled, ruled-at, Regular}
+use Rattle.shape_words.specs.Rules.{Ruled, ruled-at}
 use Rattle.shape.specs.Limits.{min-degrees-range}
 
 pub record Under (t a : Header) : Type 0 where

@@ -1,7 +1,7 @@
 -- Place and index are inverse on the places of a block, and a place stays below the count.
-use Prim.Native.Nat.{ℕ, _+_, _*_, _/_, _%_, _^_, _≤_, _<_}
+use Prim.Native.Nat.{ℕ, _+_, _*_, _/_, _%_, _≤_, _<_}
 use mathlib.Core.List.{List, [], _∷_}
-use mathlib.Core.Path.{_≡_, refl, sym, ap, _∙_}
+use mathlib.Core.Path.{_≡_, refl, sym, _∙_}
 use native.Mathlib.Omega.{arith}
 use native.Mathlib.Nat.{div-add-mod', mul-assoc, add-mul, mul-one, mod-lt, div-lt-iff-lt-mul}
 use lib.Arith.{digits-lt, digits-div, digits-mod}

@@ -1,9 +1,9 @@
 -- What `negate` shows at its returns, over plain values.
 use Prim.Native.Nat.{ℕ, _^_, _≤_, _<_}
-use mathlib.Core.List.{List, _++_}
-use mathlib.Core.Path.{_≡_, refl, sym, ap, _∙_}
+use mathlib.Core.List.{List}
+use mathlib.Core.Path.{_≡_, sym, ap, _∙_}
 use native.Mathlib.Omega.{arith}
-use lib.ListN.{length, getD, take, drop}
+use lib.ListN.{length, take}
 use lib.Seq.{getD-take}
 use lib.Ieee.{Float, nan, neg}
 use Rattle.lists.specs.Table.{table, front, table-same, length-table}
@@ -11,7 +11,7 @@ use Rattle.model.specs.declared.Header.{Header}
 use Rattle.model.specs.declared.Refusal.{Refusal}
 use Rattle.model.specs.declared.Answer.the-variants.{Done, Refused}
 use Rattle.model.specs.declared.Family.the-variants.{Same}
-use Rattle.model.specs.Header.{stored, noHeader, limit, len}
+use Rattle.model.specs.Header.{stored, noHeader}
 use Rattle.model.specs.Word.{headerOf, wordOf}
 use Rattle.model.specs.Announced.{announced, single}
 use Rattle.model.specs.Gates.{announcedOne}

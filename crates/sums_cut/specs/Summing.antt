@@ -1,27 +1,25 @@
 -- What the sum of two operands asks, and what its entry shows.
-use Prim.Native.Nat.{ℕ, _+_, _-_, _*_, _≤_, _<_, min, max}
-use mathlib.Core.List.{List, [], _∷_, _++_}
-use mathlib.Core.Bool.{Bool, true, false}
+use Prim.Native.Nat.{ℕ, _-_, _*_, _≤_, _<_}
+use mathlib.Core.List.{List}
+use mathlib.Core.Bool.{Bool}
 use mathlib.Core.Path.{_≡_, refl, sym, ap, _∙_}
 use native.Mathlib.Omega.{arith}
-use native.Mathlib.Nat.{mul-le-mul, le-refl}
-use lib.ListN.{length, take, drop}
-use lib.Seq.{length-take-le}
+use native.Mathlib.Nat.{mul-le-mul}
+use lib.ListN.{take, drop}
 use lib.Ieee.{Float}
-use Rattle.lists.specs.Four.{at, four, at-four, each}
-use Rattle.lists.specs.Table.{table, length-table}
+use Rattle.lists.specs.Four.{at}
+use Rattle.lists.specs.Table.{length-table}
 use Rattle.model.specs.declared.Header.{Header}
 use Rattle.model.specs.declared.Family.the-variants.{Sum}
-use Rattle.model.specs.Header.{header, count, stored, len, limit}
+use Rattle.model.specs.Header.{header, count, stored}
 use Rattle.model.specs.Word.{headerOf}
-use Rattle.model.specs.Limits.{cutTo, maxShape, minDegreesP1}
+use Rattle.model.specs.Limits.{cutTo, maxShape}
 use Rattle.model.specs.Announced.{announced, paired}
-use Rattle.model.specs.Poly.{Block, block, held, cut}
+use Rattle.model.specs.Poly.{block, held, cut}
 use Rattle.model.specs.Add.{joined, joinedBlock, combined}
 use Rattle.gates.specs.Gate.{PairReady}
-use Rattle.shape_words.specs.Rules.{Ruled, Regular, Good, ruled-at}
+use Rattle.shape_words.specs.Rules.{Ruled, ruled-at}
 use Rattle.shape_words.specs.Lengths.{Lengths, lengths-of, count-is}
-use Rattle.shape.specs.Limits.{min-degrees-range}
 use Rattle.shape.specs.Cut.{cut-lengths}
 use Rattle.blocks.specs.Rows.{Inner}
 use Rattle.blocks.specs.Two.{Two, Holds, cutPlaces, cut-is}

@@ -1,16 +1,9 @@
-use native.Mathlib.Omega.{arith}
-use mathlib.Core.Path.{_≡_, refl, sym, ap, _∙_}
-use lib.ListN.{length}
+use mathlib.Core.Path.{sym, _∙_}
 use Rattle.model.specs.Poly.{block}
-use Rattle.blocks.specs.Combine.{combine-left, combine-right, combine-some, way-left, way-right, way-both, first-set, turned-yes, turned-no}
+use Rattle.blocks.specs.Combine.{combine-left, combine-right, combine-some, way-left, way-right, way-both}
 use borrow.Author.Needs.{needs}
 use Rattle.blocks.proofs.combine.Statement.{statement}
 use Rattle.blocks.proofs.combine.Tie as tie
-use Rattle.blocks.proofs.combine.Reads as reads
-use Rattle.blocks.proofs.combine.Lts as lts
-use Rattle.blocks.proofs.first_joined.Reads as first-joined-reads
-use Rattle.blocks.proofs.join_both.Reads as join-both-reads
-use Rattle.blocks.proofs.turned_joined.Reads as turned-joined-reads
 
 first-joined-requires : tie.Need-first-joined-requires
 first-joined-requires c κs =

@@ -1,16 +1,7 @@
-use native.Mathlib.Omega.{arith}
-use mathlib.Core.Path.{_≡_, refl, sym, ap, _∙_}
-use lib.ListN.{length}
-use Rattle.model.specs.Poly.{block}
-use Rattle.blocks.specs.Combine.{combine-left, combine-right, combine-some, joining-left, joining-right}
-use Rattle.blocks.specs.Combine.{way-left, way-right, way-both, first-set, turned-yes, turned-no}
+use Rattle.blocks.specs.Combine.{first-set}
 use borrow.Author.Needs.{needs}
 use Rattle.blocks.proofs.first_joined.Statement.{statement}
 use Rattle.blocks.proofs.first_joined.Tie as tie
-use Rattle.blocks.proofs.first_joined.Reads as reads
-use Rattle.blocks.proofs.first_joined.Lts as lts
-use Rattle.blocks.proofs.copy.Reads as copy-reads
-use Rattle.blocks.proofs.joined.Reads as joined-reads
 
 returns : tie.Need-returns
 returns c =

@@ -3,8 +3,6 @@ use Rattle.blocks.specs.Same.{sameLengths}
 use borrow.Author.Needs.{needs}
 use Rattle.blocks.proofs.is_same.Statement.{statement}
 use Rattle.blocks.proofs.is_same.Tie as tie
-use Rattle.blocks.proofs.is_same.Reads as reads
-use Rattle.blocks.proofs.is_same.Lts as lts
 
 returns : tie.Need-returns
 unfolding sameLengths

@@ -4,10 +4,6 @@ use Rattle.blocks.specs.Merge.{joining-merged, join-merged}
 use borrow.Author.Needs.{needs}
 use Rattle.blocks.proofs.join_block.Statement.{statement}
 use Rattle.blocks.proofs.join_block.Tie as tie
-use Rattle.blocks.proofs.join_block.Reads as reads
-use Rattle.blocks.proofs.join_block.Lts as lts
-use Rattle.blocks.proofs.join_rows.Reads as join-rows-reads
-use Rattle.blocks.proofs.longest_rows.Reads as longest-rows-reads
 
 longest-rows-requires : tie.Need-longest-rows-requires
 longest-rows-requires c κs = (sizes-of ((c .before .before) .pre .from), sizes-of ((c .before .before) .pre .to))

@@ -4,12 +4,6 @@ use Rattle.blocks.specs.Combine.{joining-left, joining-right, one-fits, 
 use borrow.Author.Needs.{needs}
 use Rattle.blocks.proofs.join_both.Statement.{statement}
 use Rattle.blocks.proofs.join_both.Tie as tie
-use Rattle.blocks.proofs.join_both.Reads as reads
-use Rattle.blocks.proofs.join_both.Lts as lts
-use Rattle.blocks.proofs.clear.Reads as clear-reads
-use Rattle.blocks.proofs.is_same.Reads as is-same-reads
-use Rattle.blocks.proofs.join_block.Reads as join-block-reads
-use Rattle.blocks.proofs.join_lines.Reads as join-lines-reads
 
 join-lines-requires : tie.Need-join-lines-requires
 join-lines-requires c κs =

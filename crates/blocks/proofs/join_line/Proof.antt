@@ -1,18 +1,15 @@
 use borrow.Author.Needs.{needs}
-use Rattle.lists.specs.Table.{Filled, filled-none, filled-more, filled-end, table-take}
-use Rattle.blocks.specs.Fill.{filled-all, filled-here, filled-front}
+use Rattle.lists.specs.Table.{Filled, filled-none, filled-more}
+use Rattle.blocks.specs.Fill.{filled-here, filled-front}
 use native.Mathlib.Omega.{arith}
-use mathlib.Core.Path.{_≡_, refl, sym, ap, _∙_}
-use Prim.Native.Nat.{ℕ, _≤_, _-_}
-use lib.ListN.{length, getD}
+use mathlib.Core.Path.{_≡_, refl, _∙_}
+use Prim.Native.Nat.{_≤_, _-_}
+use lib.ListN.{length}
 use lib.Ieee.{nan}
 use Rattle.blocks.specs.Rows.{lineJoined}
 use Rattle.blocks.specs.Line.{line-more, line-rest}
 use Rattle.blocks.proofs.join_line.Statement.{statement}
 use Rattle.blocks.proofs.join_line.Tie as tie
-use Rattle.blocks.proofs.join_line.Reads as reads
-use Rattle.blocks.proofs.join_line.Lts as lts
-use Rattle.blocks.proofs.joined.Reads as joined-reads
 
 abbrev Inv-loop : tie.InvT-loop
 Inv-loop minus with to₀ n k₀ to k = (k ≤ n) × ((n ≡ length with) × Filled k (lineJoined minus with to₀) to₀ to)

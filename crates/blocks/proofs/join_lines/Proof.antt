@@ -10,9 +10,6 @@ use Rattle.blocks.specs.Fill.{filled-all}
 use Rattle.blocks.specs.Combine.{lineSum}
 use Rattle.blocks.proofs.join_lines.Statement.{statement}
 use Rattle.blocks.proofs.join_lines.Tie as tie
-use Rattle.blocks.proofs.join_lines.Reads as reads
-use Rattle.blocks.proofs.join_lines.Lts as lts
-use Rattle.blocks.proofs.joined.Reads as joined-reads
 
 abbrev Inv-loop : tie.InvT-loop
 Inv-loop minus a b to₀ n k₀ to k = (k ≤ n) × ((n ≡ length to₀) × Filled k (lineSum minus a b) to₀ to)

@@ -3,8 +3,8 @@ use mathlib.Core.List.{List}
 use Rattle.model.specs.Places.{place}
 use native.Mathlib.Omega.{arith}
 use native.Mathlib.Nat.{le-refl}
-use mathlib.Core.Path.{_≡_, refl, sym, ap, _∙_}
-use Prim.Native.Nat.{ℕ, _+_, _-_, _≤_}
+use mathlib.Core.Path.{_≡_, sym, ap, _∙_}
+use Prim.Native.Nat.{_+_, _-_, _≤_}
 use lib.ListN.{length, take, drop}
 use lib.Ieee.{Float}
 use Rattle.lists.specs.Four.{at}
@@ -15,11 +15,6 @@ use Rattle.blocks.specs.ByRow.{row-joined, row-kept}
 use borrow.Author.Needs.{needs}
 use Rattle.blocks.proofs.join_row.Statement.{statement}
 use Rattle.blocks.proofs.join_row.Tie as tie
-use Rattle.blocks.proofs.join_row.Reads as reads
-use Rattle.blocks.proofs.join_row.Lts as lts
-use Rattle.blocks.proofs.join_line.Reads as join-line-reads
-use Rattle.shape_words.proofs.places.is_inside.Reads as is-inside-reads
-use Rattle.shape_words.proofs.places.place_of.Reads as place-of-reads
 
 within : (c : tie.Then1) →
     let start = c .before .before .before .before in

@@ -1,25 +1,18 @@
 use native.Mathlib.Omega.{arith}
-use mathlib.Core.Path.{_≡_, refl, sym, ap, _∙_}
-use mathlib.Core.List.{List, _++_}
+use mathlib.Core.Path.{_≡_, refl, sym, _∙_}
 use Prim.Native.Nat.{ℕ, _+_, _-_, _≤_, _<_}
 use lib.ListN.{length, take, drop, getD, length-take, length-drop}
-use lib.Ieee.{Float, nan}
-use lib.Seq.{take-take, length-take-le}
+use lib.Ieee.{nan}
 use Rattle.lists.specs.Four.{at}
 use Rattle.lists.specs.Table.{table}
 use Rattle.model.specs.Header.{count}
-use Rattle.model.specs.Places.{place, index}
-use Rattle.model.specs.Poly.{block, readAt}
+use Rattle.model.specs.Places.{index}
+use Rattle.model.specs.Poly.{block}
 use Rattle.model.specs.Add.{joinAt}
-use Rattle.shape_words.specs.Lengths.{Lengths, RowAt}
-use Rattle.blocks.specs.Rows.{JoiningRows, alongRow}
-use Rattle.blocks.specs.ByRow.{ByRow, by-none, by-put, by-end, by-fits, by-len, cut-begins, cut-inside, cut-from, cut-row, join-begins, joined-row}
+use Rattle.blocks.specs.Rows.{alongRow}
+use Rattle.blocks.specs.ByRow.{ByRow, by-none, by-put, by-end, by-fits, by-len, join-begins, joined-row}
 use Rattle.blocks.proofs.join_rows.Statement.{statement}
 use Rattle.blocks.proofs.join_rows.Tie as tie
-use Rattle.blocks.proofs.join_rows.Reads as reads
-use Rattle.blocks.proofs.join_rows.Lts as lts
-use Rattle.blocks.proofs.join_row.Reads as join-row-reads
-use Rattle.shape_words.proofs.places.next_row.Reads as next-row-reads
 
 abbrev Inv-loop : tie.InvT-loop
 Inv-loop minus a n to₀ r w p₀ i₀ to p i = (w ≡ at r 3) × ByRow r (λ k. joinAt minus (getD to₀ k nan) (block n a) (index r k)) to₀ to p i

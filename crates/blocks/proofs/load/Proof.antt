@@ -1,6 +1,6 @@
 use native.Mathlib.Omega.{arith}
 use mathlib.Core.Path.{_≡_, sym, ap, _∙_}
-use Prim.Native.Nat.{ℕ, _≤_}
+use Prim.Native.Nat.{ℕ}
 use lib.ListN.{length, take}
 use Rattle.model.specs.Header.{count}
 use Rattle.shape_words.specs.Lengths.{sizes-of}
@@ -9,12 +9,6 @@ use Rattle.blocks.specs.Merge.{cutting-merged, cut-merged}
 use borrow.Author.Needs.{needs}
 use Rattle.blocks.proofs.load.Statement.{statement}
 use Rattle.blocks.proofs.load.Tie as tie
-use Rattle.blocks.proofs.load.Reads as reads
-use Rattle.blocks.proofs.load.Lts as lts
-use Rattle.blocks.proofs.copy.Reads as copy-reads
-use Rattle.blocks.proofs.is_same.Reads as is-same-reads
-use Rattle.blocks.proofs.load_rows.Reads as load-rows-reads
-use Rattle.blocks.proofs.longest_rows.Reads as longest-rows-reads
 
 same : (c : tie.Then1) →
     let start = c .before .before .before .before in

@@ -1,26 +1,15 @@
 use native.Mathlib.Omega.{arith}
-use mathlib.Core.Path.{_≡_, refl, sym, ap, _∙_}
-use mathlib.Core.List.{List, _++_}
+use mathlib.Core.Path.{_≡_, refl, sym, _∙_}
 use Prim.Native.Nat.{ℕ, _+_, _-_, _≤_, _<_}
-use lib.ListN.{length, take, drop, getD, length-take, length-drop}
-use lib.Ieee.{Float, nan}
-use lib.Seq.{take-take, length-take-le}
+use lib.ListN.{length, take, drop, length-take, length-drop}
+use lib.Seq.{take-take}
 use Rattle.lists.specs.Four.{at}
-use Rattle.lists.specs.Table.{table}
 use Rattle.model.specs.Header.{count}
 use Rattle.model.specs.Places.{place, index}
 use Rattle.model.specs.Poly.{block, readAt}
-use Rattle.model.specs.Add.{joinAt}
-use Rattle.shape_words.specs.Lengths.{Lengths, RowAt}
-use Rattle.blocks.specs.Rows.{CuttingRows}
 use Rattle.blocks.specs.ByRow.{ByRow, by-none, by-put, by-end, by-fits, by-len, cut-begins, cut-inside, cut-from, cut-row}
 use Rattle.blocks.proofs.load_rows.Statement.{statement}
 use Rattle.blocks.proofs.load_rows.Tie as tie
-use Rattle.blocks.proofs.load_rows.Reads as reads
-use Rattle.blocks.proofs.load_rows.Lts as lts
-use Rattle.blocks.proofs.copy.Reads as copy-reads
-use Rattle.shape_words.proofs.places.next_row.Reads as next-row-reads
-use Rattle.shape_words.proofs.places.place_of.Reads as place-of-reads
 
 abbrev Inv-loop : tie.InvT-loop
 Inv-loop a n to₀ d w p₀ i₀ to p i = (w ≡ at d 3) × ByRow d (λ k. readAt (block n a) (index d k)) to₀ to p i

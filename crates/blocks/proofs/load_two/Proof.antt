@@ -1,18 +1,12 @@
 use native.Mathlib.Omega.{arith}
-use mathlib.Core.Path.{_≡_, refl, sym, ap, _∙_}
-use Prim.Native.Nat.{ℕ, _+_, _-_, _≤_}
-use lib.ListN.{length, take, drop, length-take, length-drop, length-append}
+use mathlib.Core.Path.{sym, _∙_}
+use Prim.Native.Nat.{_+_, _-_, _≤_}
+use lib.ListN.{length}
 use lib.Seq.{length-take-le}
-use Rattle.lists.specs.Table.{length-table}
-use Rattle.model.specs.Header.{count}
-use Rattle.blocks.specs.Two.{cutting-a, cutting-b, two-held}
+use Rattle.blocks.specs.Two.{cutting-a, two-held}
 use borrow.Author.Needs.{needs}
 use Rattle.blocks.proofs.load_two.Statement.{statement}
 use Rattle.blocks.proofs.load_two.Tie as tie
-use Rattle.blocks.proofs.load_two.Reads as reads
-use Rattle.blocks.proofs.load_two.Lts as lts
-use Rattle.blocks.proofs.load.Reads as load-reads
-use Rattle.shape_words.proofs.places.count_of.Reads as count-of-reads
 
 fits-a : (c : tie.After-count-of) → c .count-of .result ≤ length ((c .before .before .before .before) .args .work .now)
 fits-a c =

@@ -1,7 +1,6 @@
 use native.Mathlib.Omega.{arith}
-use mathlib.Core.Path.{_≡_, refl, sym, ap, _∙_}
-use mathlib.Core.Bool.{true, _&&_}
-use Prim.Native.Nat.{ℕ, _<_}
+use mathlib.Core.Path.{_≡_}
+use Prim.Native.Nat.{_<_}
 use lib.Dec.{ltb, eqb}
 use borrow.Author.Tests.{ltb-true, eqb-true}
 use Rattle.lists.specs.Four.{at}
@@ -9,9 +8,6 @@ use Rattle.lists.specs.Test.{and-left, and-right}
 use Rattle.blocks.specs.Merge.{Merged, merged-none, merged-more}
 use Rattle.blocks.proofs.longest_rows.Statement.{statement}
 use Rattle.blocks.proofs.longest_rows.Tie as tie
-use Rattle.blocks.proofs.longest_rows.Reads as reads
-use Rattle.blocks.proofs.longest_rows.Lts as lts
-use Rattle.blocks.proofs.merged.Reads as merged-reads
 
 abbrev Inv-loop : tie.InvT-loop
 Inv-loop m₀ d₀ left₀ m d left = Merged m₀ d₀ m d

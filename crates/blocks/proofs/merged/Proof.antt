@@ -4,8 +4,6 @@ use Rattle.blocks.specs.Merge.{merge, merge-low}
 use borrow.Author.Needs.{needs}
 use Rattle.blocks.proofs.merged.Statement.{statement}
 use Rattle.blocks.proofs.merged.Tie as tie
-use Rattle.blocks.proofs.merged.Reads as reads
-use Rattle.blocks.proofs.merged.Lts as lts
 
 array-read-t5 : tie.Need-array-read-t5
 array-read-t5 c = search needs

@@ -1,16 +1,14 @@
-use Rattle.lists.specs.Table.{Filled, filled-none, filled-more, filled-end, table-take}
-use Rattle.blocks.specs.Fill.{filled-all, filled-here, filled-front}
+use Rattle.lists.specs.Table.{Filled, filled-none, filled-more}
+use Rattle.blocks.specs.Fill.{filled-all, filled-here}
 use native.Mathlib.Omega.{arith}
-use mathlib.Core.Path.{_≡_, refl, sym, ap, _∙_}
-use Prim.Native.Nat.{ℕ, _≤_, _-_}
-use lib.ListN.{length, getD}
+use mathlib.Core.Path.{_≡_, refl, ap}
+use Prim.Native.Nat.{_≤_, _-_}
+use lib.ListN.{length}
 use lib.Ieee.{nan}
 use Rattle.model.specs.Negate.{negatedAt}
 use lib.Ieee.{neg}
 use Rattle.blocks.proofs.turn.Statement.{statement}
 use Rattle.blocks.proofs.turn.Tie as tie
-use Rattle.blocks.proofs.turn.Reads as reads
-use Rattle.blocks.proofs.turn.Lts as lts
 
 abbrev Inv-loop : tie.InvT-loop
 Inv-loop to₀ n k₀ to k = (k ≤ n) × ((n ≡ length to₀) × Filled k (negatedAt to₀) to₀ to)

@@ -7,15 +7,6 @@ use Rattle.shape_words.specs.Rules.{none-regular}
 use borrow.Author.Needs.{needs}
 use Rattle.gates.proofs.work_gate.Statement.{statement}
 use Rattle.gates.proofs.work_gate.Tie as tie
-use Rattle.gates.proofs.work_gate.Reads as reads
-use Rattle.gates.proofs.work_gate.Lts as lts
-use Rattle.gates.proofs.is_roomy.Reads as is-roomy-reads
-use Rattle.gates.proofs.one_gate.Reads as one-gate-reads
-use Rattle.model.proofs.Header.none.Reads as Header-none-reads
-use Rattle.model.proofs.Refusal.by.Reads as by-reads
-use Rattle.model.proofs.Refusal.none.Reads as Refusal-none-reads
-use Rattle.shape.proofs.announce.announced_of.Reads as announced-of-reads
-use Rattle.shape_words.proofs.word.header_of.Reads as header-of-reads
 
 ready : (c : tie.Else1) →
     let start = c .before .before .before in

@@ -2,7 +2,7 @@ use Prim.Native.Nat.{ℕ, _+_, _-_, _≤_}
 use lib.ListN.{length}
 use Rattle.product_linear.specs.Lined.{part-length, mid-length, first-is, middle-is, last-is, row-lined}
 use native.Mathlib.Omega.{arith}
-use mathlib.Core.Path.{_≡_, refl, sym, ap, _∙_}
+use mathlib.Core.Path.{_≡_, refl, _∙_}
 use borrow.Author.Needs.{needs}
 use Rattle.product_linear.proofs.line_row.Statement.{statement}
 use Rattle.product_linear.proofs.line_row.Tie as tie

@@ -2,8 +2,6 @@ use native.Mathlib.Omega.{arith}
 use Rattle.product_lines.specs.Fours.{ends}
 use Rattle.product_lines.proofs.four_last.Statement.{statement}
 use Rattle.product_lines.proofs.four_last.Tie as tie
-use Rattle.product_lines.proofs.four_last.Reads as reads
-use Rattle.product_lines.proofs.four_last.Lts as lts
 
 returns : tie.Need-returns
 returns c =

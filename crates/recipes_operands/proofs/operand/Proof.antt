@@ -1,16 +1,10 @@
 use native.Mathlib.Omega.{arith}
-use mathlib.Core.Path.{_≡_, refl, sym, ap, _∙_}
-use mathlib.Core.List.{List}
-use Prim.Native.Nat.{ℕ, _+_, _-_, _*_, _≤_, _<_}
-use lib.ListN.{length, take, drop, length-take, length-drop}
-use lib.Seq.{length-take-le}
-use lib.Ieee.{Float}
+use Prim.Native.Nat.{_+_, _-_, _≤_}
+use lib.ListN.{length}
 use Rattle.recipes_operands.specs.Lent.{input-ends, input-part, pool-ends, pool-part}
 use borrow.Author.Needs.{needs}
 use Rattle.recipes_operands.proofs.operand.Statement.{statement}
 use Rattle.recipes_operands.proofs.operand.Tie as tie
-use Rattle.recipes_operands.proofs.operand.Reads as reads
-use Rattle.recipes_operands.proofs.operand.Lts as lts
 
 ends1 : (c : tie.Then1) → c .before .args .from + c .before .args .count ≤ length (c .before .args .coefficients .now)
 ends1 c = input-ends (c .before .args .coefficients .now) (c .before .args .pool .now) (c .if1 .taken) (c .before .pre)

@@ -1,11 +1,9 @@
-use native.Mathlib.Omega.{arith}
-use mathlib.Core.Path.{_≡_, refl, sym, ap, _∙_}
-use mathlib.Core.List.{List, _++_}
-use Prim.Native.Nat.{ℕ, _+_, _-_, _*_, _≤_, _<_}
-use lib.ListN.{length, take, drop, length-take, length-drop, length-append}
-use lib.Seq.{length-take-le, take-at}
+use mathlib.Core.Path.{_≡_, ap, _∙_}
+use mathlib.Core.List.{List}
+use Prim.Native.Nat.{ℕ, _-_}
+use lib.ListN.{length, take, drop}
 use lib.Ieee.{Float}
-use Rattle.model.specs.Header.{count, stored}
+use Rattle.model.specs.Header.{stored}
 use Rattle.recipes_operands.specs.Lent.{source, length-operand}
 use Rattle.model.specs.Poly.{block}
 use Rattle.model.specs.Product.{isZero}
@@ -14,13 +12,6 @@ use Rattle.product.specs.Times.{zero-is}
 use borrow.Author.Needs.{needs}
 use Rattle.recipes_pairs.proofs.load_pair.Statement.{statement}
 use Rattle.recipes_pairs.proofs.load_pair.Tie as tie
-use Rattle.recipes_pairs.proofs.load_pair.Reads as reads
-use Rattle.recipes_pairs.proofs.load_pair.Lts as lts
-use Rattle.blocks.proofs.load_two.Reads as load-two-reads
-use Rattle.gates.proofs.stored_of.Reads as stored-of-reads
-use Rattle.product.proofs.kernel.is_zero.Reads as is-zero-reads
-use Rattle.shape.proofs.limits.cut_to.Reads as cut-to-reads
-use Rattle.recipes_operands.proofs.operand.Reads as operand-reads
 
 left-is : (c : tie.After-operand2) →
     let start = c .before .before .before .before .before .before .before .before .before in

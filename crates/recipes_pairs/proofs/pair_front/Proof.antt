@@ -1,24 +1,13 @@
 use native.Mathlib.Omega.{arith}
-use mathlib.Core.Path.{_≡_, refl, sym, ap, _∙_}
-use mathlib.Core.List.{List, _++_}
-use Prim.Native.Nat.{ℕ, _+_, _-_, _*_, _≤_, _<_}
-use lib.ListN.{length, take, drop, length-take, length-drop, length-append}
-use lib.Seq.{length-take-le, take-at}
-use lib.Ieee.{Float}
-use Rattle.model.specs.Header.{count, stored}
+use mathlib.Core.Path.{ap, _∙_}
+use Prim.Native.Nat.{_+_, _-_, _*_, _≤_}
+use lib.ListN.{length-take, length-drop}
+use Rattle.model.specs.Header.{count}
 use Rattle.recipes_pairs.specs.Pair.{pair-two, sum-combining, sum-stands, quotient-recurs, quotient-stands}
 use Rattle.recipes_pairs.specs.Pair.{product-some, zero-stands, product-room, product-stands}
 use borrow.Author.Needs.{needs}
 use Rattle.recipes_pairs.proofs.pair_front.Statement.{statement}
 use Rattle.recipes_pairs.proofs.pair_front.Tie as tie
-use Rattle.recipes_pairs.proofs.pair_front.Reads as reads
-use Rattle.recipes_pairs.proofs.pair_front.Lts as lts
-use Rattle.blocks.proofs.combine.Reads as combine-reads
-use Rattle.product.proofs.kernel.product.Reads as product-reads
-use Rattle.product.proofs.kernel.zero_to.Reads as zero-to-reads
-use Rattle.quotient.proofs.kernel.divide_loaded.Reads as divide-loaded-reads
-use Rattle.shape.proofs.limits.cut_to.Reads as cut-to-reads
-use Rattle.shape_words.proofs.places.count_of.Reads as count-of-reads
 
 ends : (c : tie.After-count-of2) →
     let start = c .before .before .before .before .before .before .before .before .before .before in

@@ -1,23 +1,15 @@
 use native.Mathlib.Omega.{arith}
-use mathlib.Core.Path.{_≡_, refl, sym, ap, _∙_}
-use mathlib.Core.List.{List, _++_}
-use Prim.Native.Nat.{ℕ, _+_, _-_, _*_, _≤_, _<_}
+use mathlib.Core.Path.{_≡_, refl, sym, _∙_}
+use mathlib.Core.List.{_++_}
+use Prim.Native.Nat.{_+_, _-_, _*_, _≤_}
 use lib.ListN.{length, take, drop, length-take, length-drop, length-append}
 use lib.Seq.{length-take-le, take-at}
-use lib.Ieee.{Float}
-use Rattle.model.specs.Header.{count, stored}
 use Rattle.recipes_operands.specs.Lent.{lying, lies-source, part-kept}
 use Rattle.recipes_pairs.specs.Pair.{pairOf, leftIn, rightIn, pair-two, value-head, value-lengths, value-count, value-kept}
 use Rattle.product.specs.Room.{Stands}
 use borrow.Author.Needs.{needs}
 use Rattle.recipes_pairs.proofs.pair_to.Statement.{statement}
 use Rattle.recipes_pairs.proofs.pair_to.Tie as tie
-use Rattle.recipes_pairs.proofs.pair_to.Reads as reads
-use Rattle.recipes_pairs.proofs.pair_to.Lts as lts
-use Rattle.recipes_operands.proofs.pad.Reads as pad-reads
-use Rattle.recipes_pairs.proofs.load_pair.Reads as load-pair-reads
-use Rattle.recipes_pairs.proofs.pair_front.Reads as pair-front-reads
-use Rattle.shape_words.proofs.places.count_of.Reads as count-of-reads
 
 ends : (c : tie.Start) → (c .args .at ≤ length (c .args .pool .now)) × (8 * c .args .n ≤ length (c .args .scratch .now))
 ends c = let g = c .pre .1 .1 .1 in (omega (arith, g .room), g .spare)

@@ -1,9 +1,7 @@
-use native.Mathlib.Omega.{arith}
-use mathlib.Core.Path.{_≡_, refl, sym, ap, _∙_}
+use mathlib.Core.Path.{_≡_, ap, _∙_}
 use mathlib.Core.List.{List}
-use Prim.Native.Nat.{ℕ, _+_, _-_, _*_, _≤_, _<_}
-use lib.ListN.{length, take, drop, length-take, length-drop}
-use lib.Seq.{length-take-le}
+use Prim.Native.Nat.{ℕ, _-_}
+use lib.ListN.{length, take, drop}
 use lib.Ieee.{Float}
 use Rattle.recipes_operands.specs.Lent.{source, length-operand}
 use Rattle.recipes_singles.specs.Change.{changedPoly}
@@ -13,11 +11,6 @@ use Rattle.model.specs.Poly.{poly}
 use borrow.Author.Needs.{needs}
 use Rattle.recipes_singles.proofs.change_from.Statement.{statement}
 use Rattle.recipes_singles.proofs.change_from.Tie as tie
-use Rattle.recipes_singles.proofs.change_from.Reads as reads
-use Rattle.recipes_singles.proofs.change_from.Lts as lts
-use Rattle.gates.proofs.stored_of.Reads as stored-of-reads
-use Rattle.recipes_operands.proofs.operand.Reads as operand-reads
-use Rattle.recipes_singles.proofs.changed.Reads as changed-reads
 
 part-is : (c : tie.After-operand) →
     let start = c .before .before .before .before .before in

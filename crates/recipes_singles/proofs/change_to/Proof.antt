@@ -1,21 +1,14 @@
 use native.Mathlib.Omega.{arith}
-use mathlib.Core.Path.{_≡_, refl, sym, ap, _∙_}
-use mathlib.Core.List.{List}
-use Prim.Native.Nat.{ℕ, _+_, _-_, _*_, _≤_, _<_}
-use lib.ListN.{length, take, drop, length-take, length-drop}
+use mathlib.Core.Path.{sym, ap, _∙_}
+use Prim.Native.Nat.{ℕ, _-_, _≤_}
+use lib.ListN.{length, take, drop}
 use lib.Seq.{length-take-le}
-use lib.Ieee.{Float}
 use Rattle.recipes_operands.specs.Lent.{lying, lies-source, front-kept}
-use Rattle.recipes_singles.specs.Change.{changedPoly, Changing}
+use Rattle.recipes_singles.specs.Change.{changedPoly}
 use Rattle.model.specs.Refusals.{padded}
-use Rattle.model.specs.Header.{stored}
 use borrow.Author.Needs.{needs}
 use Rattle.recipes_singles.proofs.change_to.Statement.{statement}
 use Rattle.recipes_singles.proofs.change_to.Tie as tie
-use Rattle.recipes_singles.proofs.change_to.Reads as reads
-use Rattle.recipes_singles.proofs.change_to.Lts as lts
-use Rattle.product.proofs.kernel.keep.Reads as keep-reads
-use Rattle.recipes_singles.proofs.change_from.Reads as change-from-reads
 
 ends : (c : tie.Start) → (c .args .at ≤ length (c .args .pool .now)) × (c .args .n ≤ length (c .args .scratch .now))
 ends c = let g = c .pre .1 .1 in (omega (arith, g .room), omega (arith, g .spare))

@@ -1,10 +1,5 @@
-use native.Mathlib.Omega.{arith}
-use mathlib.Core.Path.{_≡_, refl, sym, ap, _∙_}
-use mathlib.Core.List.{List}
-use Prim.Native.Nat.{ℕ, _+_, _-_, _*_, _≤_, _<_}
-use lib.ListN.{length, take, drop, length-take, length-drop}
-use lib.Seq.{length-take-le}
-use lib.Ieee.{Float}
+use mathlib.Core.Path.{refl, ap, _∙_}
+use Prim.Native.Nat.{_-_}
 use Rattle.recipes_singles.specs.Change.{same-room, same-head, same-places, shifting, down-head, down-places, scaled-is}
 use Rattle.model.specs.Refusals.{padded}
 use Rattle.model.specs.Header.{stored}
@@ -12,11 +7,6 @@ use Rattle.model.specs.Poly.{Poly}
 use borrow.Author.Needs.{needs}
 use Rattle.recipes_singles.proofs.changed.Statement.{statement}
 use Rattle.recipes_singles.proofs.changed.Tie as tie
-use Rattle.recipes_singles.proofs.changed.Reads as reads
-use Rattle.recipes_singles.proofs.changed.Lts as lts
-use Rattle.change.proofs.kernel.shift_rows.Reads as shift-rows-reads
-use Rattle.change.proofs.kernel.take_rows.Reads as take-rows-reads
-use Rattle.sums_negation.proofs.negate_into.Reads as negate-into-reads
 
 negate-into-requires : tie.Need-negate-into-requires
 negate-into-requires c κs = same-room (c .before .before .before .before .pre) (c .before .if1 .taken)

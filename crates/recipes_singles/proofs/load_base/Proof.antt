@@ -1,21 +1,11 @@
-use native.Mathlib.Omega.{arith}
-use mathlib.Core.Path.{_≡_, refl, sym, ap, _∙_}
-use mathlib.Core.List.{List, _++_}
-use Prim.Native.Nat.{ℕ, _+_, _-_, _*_, _≤_, _<_}
-use lib.ListN.{length, take, drop, length-take, length-drop, length-append}
-use lib.Seq.{length-take-le, take-at}
-use lib.Ieee.{Float}
-use Rattle.model.specs.Header.{count, stored}
+use mathlib.Core.Path.{_≡_, ap, _∙_}
+use Prim.Native.Nat.{ℕ, _-_}
+use lib.ListN.{length, take, drop}
+use Rattle.model.specs.Header.{stored}
 use Rattle.recipes_operands.specs.Lent.{source, length-operand}
-use Rattle.power.specs.Room.{Loaded}
 use borrow.Author.Needs.{needs}
 use Rattle.recipes_singles.proofs.load_base.Statement.{statement}
 use Rattle.recipes_singles.proofs.load_base.Tie as tie
-use Rattle.recipes_singles.proofs.load_base.Reads as reads
-use Rattle.recipes_singles.proofs.load_base.Lts as lts
-use Rattle.gates.proofs.stored_of.Reads as stored-of-reads
-use Rattle.power.proofs.kernel.load_base.Reads as load-base-reads
-use Rattle.recipes_operands.proofs.operand.Reads as operand-reads
 
 part-is : (c : tie.After-operand) →
     let start = c .before .before .before .before .before in

@@ -1,21 +1,16 @@
 use native.Mathlib.Omega.{arith}
-use mathlib.Core.Path.{_≡_, refl, sym, ap, _∙_}
-use mathlib.Core.List.{List, _++_}
-use Prim.Native.Nat.{ℕ, _+_, _-_, _*_, _≤_, _<_}
+use mathlib.Core.Path.{_≡_, sym, _∙_}
+use mathlib.Core.List.{_++_}
+use Prim.Native.Nat.{_+_, _-_, _*_, _≤_}
 use lib.ListN.{length, take, drop, length-take, length-drop, length-append}
 use lib.Seq.{length-take-le, take-at}
-use lib.Ieee.{Float}
-use Rattle.model.specs.Header.{count, stored}
+use Rattle.model.specs.Header.{stored}
 use Rattle.recipes_operands.specs.Lent.{source, lying, lies-source, length-operand, kept-as, part-kept}
 use Rattle.recipes_singles.specs.Power.{powering, base-fits, power-head, power-places}
 use Rattle.power.specs.Room.{Loaded}
 use borrow.Author.Needs.{needs}
 use Rattle.recipes_singles.proofs.power_to.Statement.{statement}
 use Rattle.recipes_singles.proofs.power_to.Tie as tie
-use Rattle.recipes_singles.proofs.power_to.Reads as reads
-use Rattle.recipes_singles.proofs.power_to.Lts as lts
-use Rattle.power.proofs.kernel.power_loaded.Reads as power-loaded-reads
-use Rattle.recipes_singles.proofs.load_base.Reads as load-base-reads
 
 ends : (c : tie.Start) → (c .args .at ≤ length (c .args .pool .now)) × (8 * c .args .n ≤ length (c .args .scratch .now))
 ends c = let g = c .pre .1 .1 in (omega (arith, g .room), g .spare)

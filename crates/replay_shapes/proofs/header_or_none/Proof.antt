@@ -1,15 +1,10 @@
-use mathlib.Core.Path.{_≡_, sym, _∙_}
+use mathlib.Core.Path.{sym, _∙_}
 use Rattle.replay_shapes.specs.Told.{headerOrNone}
 use Rattle.shape_words.specs.Words.{good-word}
 use Rattle.shape_words.specs.Rules.{none-regular}
 use borrow.Author.Needs.{needs}
 use Rattle.replay_shapes.proofs.header_or_none.Statement.{statement}
 use Rattle.replay_shapes.proofs.header_or_none.Tie as tie
-use Rattle.replay_shapes.proofs.header_or_none.Reads as reads
-use Rattle.replay_shapes.proofs.header_or_none.Lts as lts
-use Rattle.model.proofs.Header.none.Reads as none-reads
-use Rattle.shape_words.proofs.word.header_of.Reads as header-of-reads
-use Rattle.shape_words.proofs.word.is_good.Reads as is-good-reads
 
 is-good-requires : tie.Need-is-good-requires
 is-good-requires c κs = search needs

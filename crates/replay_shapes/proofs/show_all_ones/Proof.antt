@@ -3,9 +3,6 @@ use Prim.Native.Nat.{_≤_, _-_}
 use borrow.Author.Needs.{needs}
 use Rattle.replay_shapes.proofs.show_all_ones.Statement.{statement}
 use Rattle.replay_shapes.proofs.show_all_ones.Tie as tie
-use Rattle.replay_shapes.proofs.show_all_ones.Reads as reads
-use Rattle.replay_shapes.proofs.show_all_ones.Lts as lts
-use Rattle.replay_shapes.proofs.show_ones.Reads as show-ones-reads
 
 abbrev Inv-loop : tie.InvT-loop
 Inv-loop k₀ k = k ≤ 12

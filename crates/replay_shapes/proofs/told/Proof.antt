@@ -2,10 +2,6 @@ use Rattle.shape.specs.Announced.{announced-regular}
 use borrow.Author.Needs.{needs}
 use Rattle.replay_shapes.proofs.told.Statement.{statement}
 use Rattle.replay_shapes.proofs.told.Tie as tie
-use Rattle.replay_shapes.proofs.told.Reads as reads
-use Rattle.replay_shapes.proofs.told.Lts as lts
-use Rattle.replay_shapes.proofs.header_or_none.Reads as header-or-none-reads
-use Rattle.shape.proofs.announce.announced_of.Reads as announced-of-reads
 
 header-or-none-requires : tie.Need-header-or-none-requires
 header-or-none-requires c κs = search needs

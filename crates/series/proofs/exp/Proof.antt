@@ -17,16 +17,6 @@ use Rattle.series.specs.Entry.{entry-whole, exp-head, exp-coeffs}
 use borrow.Author.Needs.{needs}
 use Rattle.series.proofs.exp.Statement.{statement}
 use Rattle.series.proofs.exp.Tie as tie
-use Rattle.series.proofs.exp.Reads as reads
-use Rattle.series.proofs.exp.Lts as lts
-use Rattle.blocks.proofs.clear.Reads as clear-reads
-use Rattle.gates.proofs.stored_of.Reads as stored-of-reads
-use Rattle.gates.proofs.work_gate.Reads as work-gate-reads
-use Rattle.model.proofs.Header.none.Reads as none-reads
-use Rattle.series_exp.proofs.exp_into.Reads as exp-into-reads
-use Rattle.shape.proofs.announce.announced_of.Reads as announced-of-reads
-use Rattle.shape_words.proofs.word.header_of.Reads as header-of-reads
-use Rattle.shape_words.proofs.word.pack.Reads as pack-reads
 
 ready : (c : tie.Else1) →
     let start = c .before .before .before .before .before .before in

@@ -4,11 +4,6 @@ use lib.ListN.{take}
 use borrow.Author.Needs.{needs}
 use Rattle.series_exp.proofs.exp_into.Statement.{statement}
 use Rattle.series_exp.proofs.exp_into.Tie as tie
-use Rattle.series_exp.proofs.exp_into.Reads as reads
-use Rattle.series_exp.proofs.exp_into.Lts as lts
-use Rattle.blocks.proofs.copy.Reads as copy-reads
-use Rattle.series_exp.proofs.exp_block.Reads as exp-block-reads
-use Rattle.shape_words.proofs.places.strides_of.Reads as strides-of-reads
 
 returns : tie.Need-returns
 returns c =

@@ -13,11 +13,6 @@ use Rattle.series_exp.specs.Stacked.{row-kept, row-fits, row-gathers}
 use borrow.Author.Needs.{needs}
 use Rattle.series_exp.proofs.exp_row.Statement.{statement}
 use Rattle.series_exp.proofs.exp_row.Tie as tie
-use Rattle.series_exp.proofs.exp_row.Reads as reads
-use Rattle.series_exp.proofs.exp_row.Lts as lts
-use Rattle.blocks.proofs.copy.Reads as copy-reads
-use Rattle.series_scaling.proofs.divide_by.Reads as divide-by-reads
-use Rattle.series_gathering.proofs.gather.Reads as gather-reads
 
 fits : (c : tie.Start) → (c) .args .k * at ((c) .args .t7) ((c) .args .v) + at ((c) .args .t7) ((c) .args .v) ≤ (c) .args .n
 fits c = rw (stride-at ((c) .args .r) ((c) .pre .0 .strided .by-r) ((c) .pre .1 .some)) (row-fits ((c) .pre .1))

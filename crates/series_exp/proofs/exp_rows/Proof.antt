@@ -18,10 +18,6 @@ use Rattle.series_exp.specs.Stacked.{operand-fits, some-width, few-rows,
 use Rattle.series_exp.specs.Stacked.{row-room, row-fits}
 use Rattle.series_exp.proofs.exp_rows.Statement.{statement}
 use Rattle.series_exp.proofs.exp_rows.Tie as tie
-use Rattle.series_exp.proofs.exp_rows.Reads as reads
-use Rattle.series_exp.proofs.exp_rows.Lts as lts
-use Rattle.series_exp.proofs.exp_row.Reads as exp-row-reads
-use Rattle.series_scaling.proofs.weigh.Reads as weigh-reads
 
 abbrev Inv-loop : tie.InvT-loop
 Inv-loop xs v n work₀ row₀ lx sx r sr t s m e k₀ work row k =

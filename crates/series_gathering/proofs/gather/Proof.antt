@@ -7,11 +7,6 @@ use Rattle.series_gathering.specs.Gather.{gathered, row-one, sums, sum-i
 use borrow.Author.Needs.{needs}
 use Rattle.series_gathering.proofs.gather.Statement.{statement}
 use Rattle.series_gathering.proofs.gather.Tie as tie
-use Rattle.series_gathering.proofs.gather.Reads as reads
-use Rattle.series_gathering.proofs.gather.Lts as lts
-use Rattle.product_lines.proofs.sum_on.Reads as sum-on-reads
-use Rattle.product_lines.proofs.upto.Reads as upto-reads
-use Rattle.series_gathering.proofs.gather_rows.Reads as gather-rows-reads
 
 upto-requires : tie.Need-upto-requires
 upto-requires c κs =

@@ -11,11 +11,6 @@ use Rattle.product_general.specs.Bounds.{row-small}
 use Rattle.series_gathering.specs.Gather.{pairAt, left-in, right-in, below, gathers, gather-step, gather-end}
 use Rattle.series_gathering.proofs.gather_rows.Statement.{statement}
 use Rattle.series_gathering.proofs.gather_rows.Tie as tie
-use Rattle.series_gathering.proofs.gather_rows.Reads as reads
-use Rattle.series_gathering.proofs.gather_rows.Lts as lts
-use Rattle.blocks.proofs.clear.Reads as clear-reads
-use Rattle.product_general.proofs.rows.Reads as rows-reads
-use Rattle.series_gathering.proofs.left_row.Reads as left-row-reads
 
 abbrev Inv-loop : tie.InvT-loop
 Inv-loop back xs lx ys r v k lo hi row₀ sx sr w t s j₀ row j = (j - lo ≤ hi - lo) × Paired (inRow r v) (pairAt back lx r v k xs ys) lo j row₀ row

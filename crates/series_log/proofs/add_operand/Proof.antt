@@ -11,10 +11,6 @@ use Rattle.model.specs.Add.{joinAt}
 use borrow.Author.Needs.{needs}
 use Rattle.series_log.proofs.add_operand.Statement.{statement}
 use Rattle.series_log.proofs.add_operand.Tie as tie
-use Rattle.series_log.proofs.add_operand.Reads as reads
-use Rattle.series_log.proofs.add_operand.Lts as lts
-use Rattle.blocks.proofs.join_block.Reads as join-block-reads
-use Rattle.series_scaling.proofs.multiply.Reads as multiply-reads
 
 multiply-requires : tie.Need-multiply-requires
 multiply-requires c κs = search needs

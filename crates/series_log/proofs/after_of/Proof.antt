@@ -1,9 +1,6 @@
 use borrow.Author.Needs.{needs}
 use Rattle.series_log.proofs.after_of.Statement.{statement}
 use Rattle.series_log.proofs.after_of.Tie as tie
-use Rattle.series_log.proofs.after_of.Reads as reads
-use Rattle.series_log.proofs.after_of.Lts as lts
-use Rattle.series_log.proofs.length_after.Reads as length-after-reads
 
 returns : tie.Need-returns
 returns c =

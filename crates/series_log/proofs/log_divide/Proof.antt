@@ -14,10 +14,6 @@ use Rattle.series_log.specs.LogDone.{divisor-is}
 use borrow.Author.Needs.{needs}
 use Rattle.series_log.proofs.log_divide.Statement.{statement}
 use Rattle.series_log.proofs.log_divide.Tie as tie
-use Rattle.series_log.proofs.log_divide.Reads as reads
-use Rattle.series_log.proofs.log_divide.Lts as lts
-use Rattle.blocks.proofs.copy.Reads as copy-reads
-use Rattle.quotient.proofs.kernel.recur.Reads as recur-reads
 
 slice-aggregate-copy : tie.Need-slice-aggregate-copy
 slice-aggregate-copy c =

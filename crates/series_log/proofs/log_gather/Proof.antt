@@ -14,13 +14,6 @@ use Rattle.series_log.specs.LogRow.{log-fits, log-gathers, log-reach, so
 use borrow.Author.Needs.{needs}
 use Rattle.series_log.proofs.log_gather.Statement.{statement}
 use Rattle.series_log.proofs.log_gather.Tie as tie
-use Rattle.series_log.proofs.log_gather.Reads as reads
-use Rattle.series_log.proofs.log_gather.Lts as lts
-use Rattle.blocks.proofs.turn.Reads as turn-reads
-use Rattle.series_gathering.proofs.gather_rows.Reads as gather-rows-reads
-use Rattle.series_log.proofs.add_operand.Reads as add-operand-reads
-use Rattle.series_log.proofs.after_of.Reads as after-of-reads
-use Rattle.series_log_line.proofs.first_turn.Reads as first-turn-reads
 
 made : (c : tie.After-turn) →
     let start = c .before .before .before .before .before .before .before .before .before .before .before .before in

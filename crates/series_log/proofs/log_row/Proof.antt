@@ -13,14 +13,6 @@ use Rattle.series_log.specs.LogDone.{log-half, first-in-operand, row-div
 use borrow.Author.Needs.{needs}
 use Rattle.series_log.proofs.log_row.Statement.{statement}
 use Rattle.series_log.proofs.log_row.Tie as tie
-use Rattle.series_log.proofs.log_row.Reads as reads
-use Rattle.series_log.proofs.log_row.Lts as lts
-use Rattle.blocks.proofs.copy.Reads as copy-reads
-use Rattle.series_scaling.proofs.divide_by.Reads as divide-by-reads
-use Rattle.series_log.proofs.after_of.Reads as after-of-reads
-use Rattle.series_log.proofs.log_divide.Reads as log-divide-reads
-use Rattle.series_log.proofs.log_gather.Reads as log-gather-reads
-use Rattle.series_scaling.proofs.scale.Reads as scale-reads
 
 rooms : (c : tie.After-slice-known2) → 8 * length ((c .before .before .before) .args .work .now) < 18446744073709551616
 rooms c = omega arith

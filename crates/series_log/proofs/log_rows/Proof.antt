@@ -13,9 +13,6 @@ use Rattle.series_log.specs.LogRows.{logStep, LogStacked, log-one, log-m
 use Rattle.series_log.specs.LogBlock.{log-width, log-room}
 use Rattle.series_log.proofs.log_rows.Statement.{statement}
 use Rattle.series_log.proofs.log_rows.Tie as tie
-use Rattle.series_log.proofs.log_rows.Reads as reads
-use Rattle.series_log.proofs.log_rows.Lts as lts
-use Rattle.series_log.proofs.log_row.Reads as log-row-reads
 
 abbrev Inv-loop : tie.InvT-loop
 Inv-loop xs lx sx v n work₀ row₀ r sr s m k₀ work row k =

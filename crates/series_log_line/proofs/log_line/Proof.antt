@@ -11,9 +11,6 @@ use lib.Seq.{length-take-le}
 use Rattle.series_log_line.specs.Line.{nextPlace, Grown, grown-one, grown-more, grown-all, line-next}
 use Rattle.series_log_line.proofs.log_line.Statement.{statement}
 use Rattle.series_log_line.proofs.log_line.Tie as tie
-use Rattle.series_log_line.proofs.log_line.Reads as reads
-use Rattle.series_log_line.proofs.log_line.Lts as lts
-use Rattle.series_log_line.proofs.log_next.Reads as log-next-reads
 
 abbrev Inv-loop : tie.InvT-loop
 Inv-loop head xs m to₀ n k₀ to k = (k ≤ n) × Grown (nextPlace m xs) head n k to

@@ -7,9 +7,6 @@ use Rattle.series_scaling.specs.Weighed.{small-float}
 use Rattle.series_log_line.specs.Line.{lineTerm, line-end}
 use Rattle.series_log_line.proofs.log_sum.Statement.{statement}
 use Rattle.series_log_line.proofs.log_sum.Tie as tie
-use Rattle.series_log_line.proofs.log_sum.Reads as reads
-use Rattle.series_log_line.proofs.log_sum.Lts as lts
-use Rattle.series_log_line.proofs.first_turn.Reads as first-turn-reads
 
 abbrev Inv-loop : tie.InvT-loop
 Inv-loop xs m done k lo sum₀ j₀ sum j = (j - lo ≤ k - lo) × Walked (lineTerm xs done k) lo j zeroF sum

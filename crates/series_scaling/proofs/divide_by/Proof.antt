@@ -9,8 +9,6 @@ use Rattle.model.specs.Constructed.{wholeF}
 use Rattle.series_scaling.specs.Weighed.{small-float}
 use Rattle.series_scaling.proofs.divide_by.Statement.{statement}
 use Rattle.series_scaling.proofs.divide_by.Tie as tie
-use Rattle.series_scaling.proofs.divide_by.Reads as reads
-use Rattle.series_scaling.proofs.divide_by.Lts as lts
 
 abbrev Inv-loop : tie.InvT-loop
 Inv-loop k to₀ d n i₀ to i = (i ≤ n) × ((n ≡ length to₀) × Filled i (λ p. div binary64 (getD to₀ p nan) (wholeF k)) to₀ to)

@@ -9,8 +9,6 @@ use Rattle.model.specs.Constructed.{wholeF}
 use Rattle.series_scaling.specs.Weighed.{small-float}
 use Rattle.series_scaling.proofs.multiply.Statement.{statement}
 use Rattle.series_scaling.proofs.multiply.Tie as tie
-use Rattle.series_scaling.proofs.multiply.Reads as reads
-use Rattle.series_scaling.proofs.multiply.Lts as lts
 
 abbrev Inv-loop : tie.InvT-loop
 Inv-loop k a to₀ d n i₀ to i = (i ≤ n) × Filled i (λ p. mul binary64 (wholeF k) (getD a p nan)) to₀ to

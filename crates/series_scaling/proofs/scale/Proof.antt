@@ -9,8 +9,6 @@ use Rattle.model.specs.Constructed.{wholeF}
 use Rattle.series_scaling.specs.Weighed.{small-float}
 use Rattle.series_scaling.proofs.scale.Statement.{statement}
 use Rattle.series_scaling.proofs.scale.Tie as tie
-use Rattle.series_scaling.proofs.scale.Reads as reads
-use Rattle.series_scaling.proofs.scale.Lts as lts
 
 abbrev Inv-loop : tie.InvT-loop
 Inv-loop k a to₀ d n i₀ to i = (i ≤ n) × Filled i (λ p. mul binary64 (getD a p nan) (wholeF k)) to₀ to

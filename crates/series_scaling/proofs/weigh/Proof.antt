@@ -6,8 +6,6 @@ use Rattle.blocks.specs.Fill.{filled-all}
 use Rattle.series_scaling.specs.Weighed.{weighedAt, small-float, small-row}
 use Rattle.series_scaling.proofs.weigh.Statement.{statement}
 use Rattle.series_scaling.proofs.weigh.Tie as tie
-use Rattle.series_scaling.proofs.weigh.Reads as reads
-use Rattle.series_scaling.proofs.weigh.Lts as lts
 
 abbrev Inv-loop : tie.InvT-loop
 Inv-loop xs t to₀ n i₀ to i = (i ≤ n) × Filled i (weighedAt t xs) to₀ to

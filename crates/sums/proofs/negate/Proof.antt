@@ -1,6 +1,4 @@
-use native.Mathlib.Omega.{arith}
 use mathlib.Core.Path.{_≡_, ap, _∙_}
-use Prim.Native.Nat.{_≤_}
 use lib.ListN.{length}
 use Rattle.model.specs.Header.{stored}
 use Rattle.model.specs.Word.{headerOf}
@@ -10,12 +8,6 @@ use Rattle.sums.specs.Negate.{negate-refused, negate-kept, negate-ready,
 use borrow.Author.Needs.{needs}
 use Rattle.sums.proofs.negate.Statement.{statement}
 use Rattle.sums.proofs.negate.Tie as tie
-use Rattle.sums.proofs.negate.Reads as reads
-use Rattle.sums.proofs.negate.Lts as lts
-use Rattle.gates.proofs.one_gate.Reads as one-gate-reads
-use Rattle.gates.proofs.stored_of.Reads as stored-of-reads
-use Rattle.shape_words.proofs.word.header_of.Reads as header-of-reads
-use Rattle.sums_negation.proofs.negate_into.Reads as negate-into-reads
 
 ready : (c : tie.Else1) →
     let start = c .before .before .before .before .before in

@@ -1,21 +1,11 @@
 use native.Mathlib.Omega.{arith}
-use mathlib.Core.Path.{_≡_, refl, sym, ap, _∙_}
-use mathlib.Core.List.{List}
-use Prim.Native.Nat.{ℕ, _+_, _-_, _*_, _≤_}
+use mathlib.Core.Path.{_≡_, refl, ap}
+use Prim.Native.Nat.{ℕ, _+_, _-_, _≤_}
 use lib.ListN.{length, take, drop, length-take, length-drop}
-use lib.Seq.{length-take-le}
-use lib.Ieee.{Float}
-use Rattle.model.specs.Header.{count}
-use Rattle.sums_cut.specs.Summing.{Summing, small-a, small-b, summing-two, summing-lens, summing-combine, summing-is}
+use Rattle.sums_cut.specs.Summing.{small-a, small-b, summing-two, summing-lens, summing-combine, summing-is}
 use borrow.Author.Needs.{needs}
 use Rattle.sums_cut.proofs.sum_into.Statement.{statement}
 use Rattle.sums_cut.proofs.sum_into.Tie as tie
-use Rattle.sums_cut.proofs.sum_into.Reads as reads
-use Rattle.sums_cut.proofs.sum_into.Lts as lts
-use Rattle.blocks.proofs.combine.Reads as combine-reads
-use Rattle.blocks.proofs.load_two.Reads as load-two-reads
-use Rattle.shape.proofs.limits.cut_to.Reads as cut-to-reads
-use Rattle.shape_words.proofs.places.count_of.Reads as count-of-reads
 
 kept : (c : tie.After-load-two) →
     let start = c .before .before .before .before .before .before .before .before in

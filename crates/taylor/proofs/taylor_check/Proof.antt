@@ -3,10 +3,6 @@ use Rattle.taylor.specs.Face.{wordOfCheck, poolAfter, largestAfter, inpu
 use borrow.Author.Needs.{needs}
 use Rattle.taylor.proofs.taylor_check.Statement.{statement}
 use Rattle.taylor.proofs.taylor_check.Tie as tie
-use Rattle.taylor.proofs.taylor_check.Reads as reads
-use Rattle.taylor.proofs.taylor_check.Lts as lts
-use Rattle.recipes.proofs.check.Reads as check-reads
-use Rattle.taylor.proofs.answers.put_totals.Reads as put-totals-reads
 
 check-requires : tie.Need-check-requires
 check-requires c κs = search needs

@@ -3,10 +3,6 @@ use Rattle.taylor.specs.Face.{wordOfRun}
 use borrow.Author.Needs.{needs}
 use Rattle.taylor.proofs.taylor_run.Statement.{statement}
 use Rattle.taylor.proofs.taylor_run.Tie as tie
-use Rattle.taylor.proofs.taylor_run.Reads as reads
-use Rattle.taylor.proofs.taylor_run.Lts as lts
-use Rattle.recipes.proofs.run.Reads as run-reads
-use Rattle.taylor.proofs.answers.word_of_run.Reads as word-of-run-reads
 
 run-requires : tie.Need-run-requires
 run-requires c κs = search needs

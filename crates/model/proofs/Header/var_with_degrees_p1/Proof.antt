@@ -2,10 +2,6 @@ use Rattle.model.specs.Header.{varWith}
 use borrow.Author.Needs.{needs}
 use Rattle.model.proofs.Header.var_with_degrees_p1.Statement.{statement}
 use Rattle.model.proofs.Header.var_with_degrees_p1.Tie as tie
-use Rattle.model.proofs.Header.var_with_degrees_p1.Reads as reads
-use Rattle.model.proofs.Header.var_with_degrees_p1.Lts as lts
-use Rattle.model.proofs.Header.zero_with.Reads as zero-with-reads
-use Rattle.model.proofs.two_at_most.Reads as two-at-most-reads
 
 returns : tie.Need-returns
 unfolding varWith

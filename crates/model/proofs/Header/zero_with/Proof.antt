@@ -2,9 +2,6 @@ use Rattle.model.specs.Header.{zeroWith}
 use borrow.Author.Needs.{needs}
 use Rattle.model.proofs.Header.zero_with.Statement.{statement}
 use Rattle.model.proofs.Header.zero_with.Tie as tie
-use Rattle.model.proofs.Header.zero_with.Reads as reads
-use Rattle.model.proofs.Header.zero_with.Lts as lts
-use Rattle.model.proofs.limit_or_one.Reads as limit-or-one-reads
 
 returns : tie.Need-returns
 unfolding zeroWith

@@ -1,5 +1,5 @@
 use native.Mathlib.Omega.{arith}
-use mathlib.Core.Bool.{Bool, true, false, _||_}
+use mathlib.Core.Bool.{true, _||_}
 use mathlib.Core.Path.{_≡_, refl, sym, _∙_}
 use Rattle.lists.specs.Test.{and-left, and-right}
 use Rattle.model.specs.Poly.{block}

@@ -4,11 +4,6 @@ use Rattle.product.specs.Line.{whole-four, whole-five, stands-four, stan
 use borrow.Author.Needs.{needs}
 use Rattle.product.proofs.kernel.product_whole.Statement.{statement}
 use Rattle.product.proofs.kernel.product_whole.Tie as tie
-use Rattle.product.proofs.kernel.product_whole.Reads as reads
-use Rattle.product.proofs.kernel.product_whole.Lts as lts
-use Rattle.product.proofs.kernel.choose.Reads as choose-reads
-use Rattle.product.proofs.kernel.line_whole.Reads as line-whole-reads
-use Rattle.product.proofs.kernel.plain.Reads as plain-reads
 
 choose-requires : tie.Need-choose-requires
 choose-requires c κs = let p = (c .before .before .before .before) .pre .plain in (plain-lens p .0, (plain-lens p .1, (p .full-a, p .full-b)))

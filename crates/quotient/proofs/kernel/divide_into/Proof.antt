@@ -1,15 +1,7 @@
-use native.Mathlib.Omega.{arith}
-use mathlib.Core.Path.{_≡_, refl, sym, ap, _∙_}
 use Rattle.quotient.specs.Into.{left-lengths, right-lengths, into-two, into-recur, same-count, into-loaded}
 use borrow.Author.Needs.{needs}
 use Rattle.quotient.proofs.kernel.divide_into.Statement.{statement}
 use Rattle.quotient.proofs.kernel.divide_into.Tie as tie
-use Rattle.quotient.proofs.kernel.divide_into.Reads as reads
-use Rattle.quotient.proofs.kernel.divide_into.Lts as lts
-use Rattle.blocks.proofs.load_two.Reads as load-two-reads
-use Rattle.quotient.proofs.kernel.divide_loaded.Reads as divide-loaded-reads
-use Rattle.shape.proofs.limits.cut_to.Reads as cut-to-reads
-use Rattle.shape_words.proofs.places.count_of.Reads as count-of-reads
 
 load-two-requires : tie.Need-load-two-requires
 load-two-requires c κs =

@@ -1,18 +1,12 @@
 use native.Mathlib.Omega.{arith}
-use mathlib.Core.Path.{_≡_, refl, sym, ap, _∙_}
-use Prim.Native.Nat.{_≤_, _<_}
-use lib.ListN.{length}
+use mathlib.Core.Path.{sym, _∙_}
 use lib.Seq.{length-take-le}
 use borrow.Author.Tests.{eq-eqb, ne-eqb}
-use Rattle.quotient.specs.Room.{Recurring, loadedQuotient}
+use Rattle.quotient.specs.Room.{loadedQuotient}
 use Rattle.quotient.specs.Into.{recurring-fits}
 use borrow.Author.Needs.{needs}
 use Rattle.quotient.proofs.kernel.divide_loaded.Statement.{statement}
 use Rattle.quotient.proofs.kernel.divide_loaded.Tie as tie
-use Rattle.quotient.proofs.kernel.divide_loaded.Reads as reads
-use Rattle.quotient.proofs.kernel.divide_loaded.Lts as lts
-use Rattle.quotient.proofs.kernel.divide_constant.Reads as divide-constant-reads
-use Rattle.quotient.proofs.kernel.recur.Reads as recur-reads
 
 slice-read-divide-constant : tie.Need-slice-read-divide-constant
 slice-read-divide-constant c = omega (arith, recurring-fits (c .before .before .before .before .pre .0) .1)

@@ -1,8 +1,6 @@
 use native.Mathlib.Omega.{arith}
-use mathlib.Core.Path.{_≡_, refl, sym, ap, _∙_}
-use Prim.Native.Nat.{ℕ, _+_, _*_, _≤_}
-use lib.ListN.{length, take, drop, length-take, length-drop, length-append}
-use lib.Seq.{length-take-le}
+use mathlib.Core.Path.{_≡_, ap, _∙_}
+use lib.ListN.{length, length-take}
 use Rattle.model_recipes.specs.Recipe.{announcedSteps, total, largest}
 use Rattle.recipes_check.specs.Answered.{Passed, passed}
 use borrow.Author.Tests.{not-true, not-false}
@@ -10,13 +8,6 @@ use Rattle.recipes.specs.Admission.{admit-check, admit-2, admit-5, admit
 use borrow.Author.Needs.{needs}
 use Rattle.recipes.proofs.admit.admit.Statement.{statement}
 use Rattle.recipes.proofs.admit.admit.Tie as tie
-use Rattle.recipes.proofs.admit.admit.Reads as reads
-use Rattle.recipes.proofs.admit.admit.Lts as lts
-use Rattle.model.proofs.Refusal.by.Reads as by-reads
-use Rattle.model.proofs.Refusal.none.Reads as none-reads
-use Rattle.recipes_check.proofs.judge.Reads as judge-reads
-use Rattle.recipes_check.proofs.largest_of.Reads as largest-of-reads
-use Rattle.recipes_check.proofs.total_of.Reads as total-of-reads
 
 pass : (c : tie.Else1) →
     let start = c .before .before .before .before .before .before .before .before .before in

@@ -1,24 +1,15 @@
 use native.Mathlib.Omega.{arith}
-use mathlib.Core.Path.{_≡_, refl, sym, ap, _∙_}
+use mathlib.Core.Path.{_≡_, sym, ap, _∙_}
 use Prim.Native.Nat.{ℕ, _+_, _*_, _≤_}
-use lib.ListN.{length, take, drop, length-take, length-drop, length-append}
+use lib.ListN.{length, drop, length-append}
 use lib.Seq.{length-take-le}
-use Rattle.model_recipes.specs.Recipe.{announcedSteps, total, largest}
-use Rattle.recipes_check.specs.Answered.{Passed, passed}
+use Rattle.model_recipes.specs.Recipe.{announcedSteps, largest}
 use mathlib.Core.List.{_++_}
-use Rattle.model.specs.Refusals.{zeros}
-use Rattle.recipes.specs.Running.{Admitted, running-none}
+use Rattle.recipes.specs.Running.{running-none}
 use Rattle.recipes.specs.Admission.{largest-most, run-passed, admitted-exactly, words-end, scratch-end}
 use borrow.Author.Needs.{needs}
 use Rattle.recipes.proofs.admit.run_admitted.Statement.{statement}
 use Rattle.recipes.proofs.admit.run_admitted.Tie as tie
-use Rattle.recipes.proofs.admit.run_admitted.Reads as reads
-use Rattle.recipes.proofs.admit.run_admitted.Lts as lts
-use Rattle.blocks.proofs.clear.Reads as clear-reads
-use Rattle.recipes_check.proofs.largest_of.Reads as largest-of-reads
-use Rattle.recipes_check.proofs.note_inputs.Reads as note-inputs-reads
-use Rattle.recipes.proofs.running.note_starts.Reads as note-starts-reads
-use Rattle.recipes.proofs.running.run_steps.Reads as run-steps-reads
 
 most-is : (c : tie.After-largest-of) →
     let start = c .before .before .before .before .before .before .before .before .before .before in

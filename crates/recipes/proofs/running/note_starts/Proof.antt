@@ -1,5 +1,5 @@
 use native.Mathlib.Omega.{arith}
-use mathlib.Core.Path.{_≡_, refl, sym, ap, _∙_}
+use mathlib.Core.Path.{_≡_, ap, _∙_}
 use Prim.Native.Nat.{ℕ, _-_, _≤_}
 use mathlib.Core.List.{List}
 use lib.ListN.{length}
@@ -9,10 +9,6 @@ use Rattle.recipes_check.specs.Counts.{word-ruled}
 use Rattle.recipes.specs.Standing.{Begun, Starting, starting-none, starting-fits, starting-more}
 use Rattle.recipes.proofs.running.note_starts.Statement.{statement}
 use Rattle.recipes.proofs.running.note_starts.Tie as tie
-use Rattle.recipes.proofs.running.note_starts.Reads as reads
-use Rattle.recipes.proofs.running.note_starts.Lts as lts
-use Rattle.gates.proofs.stored_of.Reads as stored-of-reads
-use Rattle.shape_words.proofs.word.header_of.Reads as header-of-reads
 
 abbrev Inv-loop : tie.InvT-loop
 Inv-loop headers starts₀ from₀ i₀ starts from i = Starting headers starts₀ starts from i

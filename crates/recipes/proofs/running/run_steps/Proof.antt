@@ -1,6 +1,6 @@
 use native.Mathlib.Omega.{arith}
-use mathlib.Core.Path.{_≡_, refl, sym, ap, _∙_}
-use Prim.Native.Nat.{ℕ, _+_, _-_}
+use mathlib.Core.Path.{_≡_, refl, ap, _∙_}
+use Prim.Native.Nat.{_+_, _-_}
 use lib.ListN.{length, getD, take, length-set}
 use borrow.Author.Needs.{needs}
 use Rattle.model.specs.Header.{stored}
@@ -8,12 +8,6 @@ use Rattle.model_recipes.specs.Recipe.{announcedStep, announcedPlaces}
 use Rattle.recipes.specs.Running.{Running, fit, room-ruled, room-is, step-in, step-lent, running-more, end-words, end-pool}
 use Rattle.recipes.proofs.running.run_steps.Statement.{statement}
 use Rattle.recipes.proofs.running.run_steps.Tie as tie
-use Rattle.recipes.proofs.running.run_steps.Reads as reads
-use Rattle.recipes.proofs.running.run_steps.Lts as lts
-use Rattle.gates.proofs.stored_of.Reads as stored-of-reads
-use Rattle.recipes_kinds.proofs.step.step_of.Reads as step-of-reads
-use Rattle.recipes.proofs.running.step_word.Reads as step-word-reads
-use Rattle.shape_words.proofs.word.header_of.Reads as header-of-reads
 
 abbrev Inv-loop : tie.InvT-loop
 Inv-loop headers coefficients steps known₀ starts₀ pool₀ scratch₀ inputs at₀ i₀ known starts pool scratch at i =

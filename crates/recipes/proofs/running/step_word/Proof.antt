@@ -1,6 +1,5 @@
 use native.Mathlib.Omega.{arith}
-use mathlib.Core.Path.{_≡_, refl, sym, ap, _∙_}
-use Prim.Native.Nat.{ℕ}
+use mathlib.Core.Path.{ap, _∙_}
 use lib.ListN.{length, take}
 use Rattle.model.specs.Word.{wordOf}
 use Rattle.model.specs.Refusals.{padded}
@@ -11,12 +10,6 @@ use Rattle.recipes.specs.Standing.{lyingAt, Named, constant-value}
 use borrow.Author.Needs.{needs}
 use Rattle.recipes.proofs.running.step_word.Statement.{statement}
 use Rattle.recipes.proofs.running.step_word.Tie as tie
-use Rattle.recipes.proofs.running.step_word.Reads as reads
-use Rattle.recipes.proofs.running.step_word.Lts as lts
-use Rattle.model.proofs.Header.none.Reads as none-reads
-use Rattle.recipes_steps.proofs.perform.constant_to.Reads as constant-to-reads
-use Rattle.recipes_steps.proofs.perform.perform.Reads as perform-reads
-use Rattle.shape_words.proofs.word.pack.Reads as pack-reads
 
 named : (c : tie.Else1) →
     let start = c .before .before .before .before .before .before .before in

@@ -1,20 +1,11 @@
-use native.Mathlib.Omega.{arith}
-use mathlib.Core.Path.{_≡_, refl, sym, ap, _∙_}
-use mathlib.Core.List.{List, _++_}
-use Prim.Native.Nat.{ℕ, _+_, _-_, _*_, _≤_, _<_}
-use lib.ListN.{length, take, drop, length-take, length-drop, length-append}
-use lib.Seq.{length-take-le, take-at}
-use lib.Ieee.{Float}
-use Rattle.model.specs.Header.{count, stored}
+use mathlib.Core.Path.{_∙_}
+use Prim.Native.Nat.{_-_}
 use lib.ListN.{length-set}
 use Rattle.model.specs.Constructed.{wholeF}
 use Rattle.recipes_steps.specs.Ready.{constant-kept}
 use borrow.Author.Needs.{needs}
 use Rattle.recipes_steps.proofs.perform.constant_to.Statement.{statement}
 use Rattle.recipes_steps.proofs.perform.constant_to.Tie as tie
-use Rattle.recipes_steps.proofs.perform.constant_to.Reads as reads
-use Rattle.recipes_steps.proofs.perform.constant_to.Lts as lts
-use Rattle.recipes_operands.proofs.pad.Reads as pad-reads
 
 same-length : tie.Need-same-length
 same-length c =

@@ -1,13 +1,9 @@
 use native.Mathlib.Omega.{arith}
-use mathlib.Core.Path.{_≡_, refl, sym, ap, _∙_}
-use mathlib.Core.List.{List, _++_}
-use Prim.Native.Nat.{ℕ, _+_, _-_, _*_, _≤_, _<_}
-use lib.ListN.{length, take, drop, length-take, length-drop, length-append}
-use lib.Seq.{length-take-le, take-at}
-use lib.Ieee.{Float}
-use Rattle.model.specs.Header.{count, stored}
-use Rattle.lists.specs.Part.{Kept}
-use Rattle.model.specs.Refusals.{padded}
+use mathlib.Core.Path.{_≡_, ap, _∙_}
+use Prim.Native.Nat.{_-_, _≤_}
+use lib.ListN.{length, take}
+use lib.Seq.{length-take-le}
+use Rattle.model.specs.Header.{stored}
 use Rattle.model.specs.Word.{headerOf, wordOf}
 use Rattle.model.specs.Announced.{announced}
 use Rattle.model_recipes.specs.Recipe.{familyOf}
@@ -16,15 +12,6 @@ use Rattle.recipes_steps.specs.Ready.{valueOf, making, announced-fits, l
 use borrow.Author.Needs.{needs}
 use Rattle.recipes_steps.proofs.perform.perform.Statement.{statement}
 use Rattle.recipes_steps.proofs.perform.perform.Tie as tie
-use Rattle.recipes_steps.proofs.perform.perform.Reads as reads
-use Rattle.recipes_steps.proofs.perform.perform.Lts as lts
-use Rattle.gates.proofs.stored_of.Reads as stored-of-reads
-use Rattle.recipes_kinds.proofs.step.family_of.Reads as family-of-reads
-use Rattle.shape.proofs.announce.announced_of.Reads as announced-of-reads
-use Rattle.recipes_operands.proofs.pad.Reads as pad-reads
-use Rattle.recipes_steps.proofs.perform.value_to.Reads as value-to-reads
-use Rattle.shape_words.proofs.word.header_of.Reads as header-of-reads
-use Rattle.shape_words.proofs.word.pack.Reads as pack-reads
 
 is-announced : (c : tie.After-announced-of) →
     let start = c .before .before .before .before .before .before .before in

@@ -1,11 +1,6 @@
-use native.Mathlib.Omega.{arith}
-use mathlib.Core.Path.{_≡_, refl, sym, ap, _∙_}
-use mathlib.Core.List.{List, _++_}
-use Prim.Native.Nat.{ℕ, _+_, _-_, _*_, _≤_, _<_}
-use lib.ListN.{length, take, drop, length-take, length-drop, length-append}
-use lib.Seq.{length-take-le, take-at}
-use lib.Ieee.{Float}
-use Rattle.model.specs.Header.{count, stored}
+use mathlib.Core.Path.{ap, _∙_}
+use Prim.Native.Nat.{_-_}
+use lib.ListN.{take}
 use Rattle.model.specs.Refusals.{padded}
 use Rattle.model.specs.Poly.{Poly}
 use Rattle.recipes_operands.specs.Lent.{lying, kept-as}
@@ -13,12 +8,6 @@ use Rattle.recipes_steps.specs.Ready.{to-power, power-value, to-pair, pa
 use borrow.Author.Needs.{needs}
 use Rattle.recipes_steps.proofs.perform.value_to.Statement.{statement}
 use Rattle.recipes_steps.proofs.perform.value_to.Tie as tie
-use Rattle.recipes_steps.proofs.perform.value_to.Reads as reads
-use Rattle.recipes_steps.proofs.perform.value_to.Lts as lts
-use Rattle.recipes_pairs.proofs.pair_to.Reads as pair-to-reads
-use Rattle.recipes_singles.proofs.change_to.Reads as change-to-reads
-use Rattle.recipes_singles.proofs.power_to.Reads as power-to-reads
-use Rattle.recipes_steps.proofs.substitute.substitute_to.Reads as substitute-to-reads
 
 power-to-requires : tie.Need-power-to-requires
 power-to-requires c κs =

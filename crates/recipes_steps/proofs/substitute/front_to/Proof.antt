@@ -8,12 +8,6 @@ use Rattle.recipes_steps.specs.Substitute.{plain-is, plain-room, horner-
 use borrow.Author.Needs.{needs}
 use Rattle.recipes_steps.proofs.substitute.front_to.Statement.{statement}
 use Rattle.recipes_steps.proofs.substitute.front_to.Tie as tie
-use Rattle.recipes_steps.proofs.substitute.front_to.Reads as reads
-use Rattle.recipes_steps.proofs.substitute.front_to.Lts as lts
-use Rattle.product.proofs.kernel.keep.Reads as keep-reads
-use Rattle.recipes_steps.proofs.substitute.horner_to.Reads as horner-to-reads
-use Rattle.recipes_steps.proofs.substitute.plain_from.Reads as plain-from-reads
-use Rattle.recipes_steps.proofs.substitute.way_from.Reads as way-from-reads
 
 slice-aggregate-way-from : tie.Need-slice-aggregate-way-from
 slice-aggregate-way-from c = sym (length-take-le _ _ (omega (arith, c .before .before .before .before .before .pre .1 .1 .1)))

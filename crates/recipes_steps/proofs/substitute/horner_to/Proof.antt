@@ -19,15 +19,6 @@ use Rattle.recipes_steps.specs.Substitute.{wrote-of, same-operand, turns
 use borrow.Author.Needs.{needs}
 use Rattle.recipes_steps.proofs.substitute.horner_to.Statement.{statement}
 use Rattle.recipes_steps.proofs.substitute.horner_to.Tie as tie
-use Rattle.recipes_steps.proofs.substitute.horner_to.Reads as reads
-use Rattle.recipes_steps.proofs.substitute.horner_to.Lts as lts
-use Rattle.shape.proofs.limits.cut_to.Reads as cut-to-reads
-use Rattle.recipes_steps.proofs.substitute.put_from.Reads as put-from-reads
-use Rattle.recipes_steps.proofs.substitute.row_from.Reads as row-from-reads
-use Rattle.recipes_steps.proofs.substitute.rows_to.Reads as rows-to-reads
-use Rattle.substitution_turn.proofs.first_turn.Reads as first-turn-reads
-use Rattle.substitution.proofs.kernel.highest.Reads as highest-reads
-use Rattle.substitution.proofs.kernel.row_lengths.Reads as row-lengths-reads
 
 wrote : (c : tie.After-first-turn) →
     let c12 = c .before .before .before .before .before .before .before .before .before .before .before .before in

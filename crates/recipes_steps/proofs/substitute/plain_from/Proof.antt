@@ -11,13 +11,6 @@ use Rattle.recipes_steps.specs.Substitute.{plain-0, plain-1, plain-2}
 use borrow.Author.Needs.{needs}
 use Rattle.recipes_steps.proofs.substitute.plain_from.Statement.{statement}
 use Rattle.recipes_steps.proofs.substitute.plain_from.Tie as tie
-use Rattle.recipes_steps.proofs.substitute.plain_from.Reads as reads
-use Rattle.recipes_steps.proofs.substitute.plain_from.Lts as lts
-use Rattle.blocks.proofs.copy.Reads as copy-reads
-use Rattle.gates.proofs.stored_of.Reads as stored-of-reads
-use Rattle.recipes_operands.proofs.operand.Reads as operand-reads
-use Rattle.substitution.proofs.kernel.line_put.Reads as line-put-reads
-use Rattle.substitution.proofs.kernel.zero_put.Reads as zero-put-reads
 
 part-is : (c : tie.After-operand) →
     let start = c .before .before .before .before .before in

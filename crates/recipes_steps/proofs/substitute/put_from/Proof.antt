@@ -11,12 +11,6 @@ use Rattle.substitution_turn.specs.Turn.{front-kept}
 use borrow.Author.Needs.{needs}
 use Rattle.recipes_steps.proofs.substitute.put_from.Statement.{statement}
 use Rattle.recipes_steps.proofs.substitute.put_from.Tie as tie
-use Rattle.recipes_steps.proofs.substitute.put_from.Reads as reads
-use Rattle.recipes_steps.proofs.substitute.put_from.Lts as lts
-use Rattle.blocks.proofs.load.Reads as load-reads
-use Rattle.gates.proofs.stored_of.Reads as stored-of-reads
-use Rattle.recipes_operands.proofs.operand.Reads as operand-reads
-use Rattle.shape_words.proofs.places.count_of.Reads as count-of-reads
 
 part-is : (c : tie.After-operand) →
     let start = c .before .before .before .before .before in

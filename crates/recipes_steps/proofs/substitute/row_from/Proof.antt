@@ -6,11 +6,6 @@ use Rattle.recipes_operands.specs.Lent.{source, length-operand}
 use borrow.Author.Needs.{needs}
 use Rattle.recipes_steps.proofs.substitute.row_from.Statement.{statement}
 use Rattle.recipes_steps.proofs.substitute.row_from.Tie as tie
-use Rattle.recipes_steps.proofs.substitute.row_from.Reads as reads
-use Rattle.recipes_steps.proofs.substitute.row_from.Lts as lts
-use Rattle.gates.proofs.stored_of.Reads as stored-of-reads
-use Rattle.recipes_operands.proofs.operand.Reads as operand-reads
-use Rattle.substitution.proofs.kernel.load_row.Reads as load-row-reads
 
 part-is : (c : tie.After-operand) →
     let start = c .before .before .before .before .before in

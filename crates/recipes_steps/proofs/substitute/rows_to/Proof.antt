@@ -12,10 +12,6 @@ use Rattle.recipes_operands.specs.Lent.{lying, lies-source, part-kept}
 use Rattle.recipes_steps.specs.Substitute.{RunsTo, runs-first, to-end, to-less, to-next, same-operand}
 use Rattle.recipes_steps.proofs.substitute.rows_to.Statement.{statement}
 use Rattle.recipes_steps.proofs.substitute.rows_to.Tie as tie
-use Rattle.recipes_steps.proofs.substitute.rows_to.Reads as reads
-use Rattle.recipes_steps.proofs.substitute.rows_to.Lts as lts
-use Rattle.recipes_steps.proofs.substitute.row_from.Reads as row-from-reads
-use Rattle.substitution_turn.proofs.turn.Reads as turn-reads
 
 abbrev Inv-loop : tie.InvT-loop
 Inv-loop x xi xf v k b c limits n coefficients pool₀ at work₀ row end left₀ value₀ pool work left value =

@@ -8,11 +8,6 @@ use Rattle.recipes_steps.specs.Substitute.{substituting-given, value-hea
 use borrow.Author.Needs.{needs}
 use Rattle.recipes_steps.proofs.substitute.substitute_to.Statement.{statement}
 use Rattle.recipes_steps.proofs.substitute.substitute_to.Tie as tie
-use Rattle.recipes_steps.proofs.substitute.substitute_to.Reads as reads
-use Rattle.recipes_steps.proofs.substitute.substitute_to.Lts as lts
-use Rattle.recipes_operands.proofs.pad.Reads as pad-reads
-use Rattle.recipes_steps.proofs.substitute.front_to.Reads as front-to-reads
-use Rattle.shape_words.proofs.places.count_of.Reads as count-of-reads
 
 full : (c : tie.Start)
     → length (lying (c .args .xi) (c .args .coefficients .now) (take (c .args .at) (c .args .pool .now)) (c .args .xf)

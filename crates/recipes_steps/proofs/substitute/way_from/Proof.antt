@@ -11,11 +11,6 @@ use Rattle.substitution_way.specs.Way.{wayOf}
 use borrow.Author.Needs.{needs}
 use Rattle.recipes_steps.proofs.substitute.way_from.Statement.{statement}
 use Rattle.recipes_steps.proofs.substitute.way_from.Tie as tie
-use Rattle.recipes_steps.proofs.substitute.way_from.Reads as reads
-use Rattle.recipes_steps.proofs.substitute.way_from.Lts as lts
-use Rattle.gates.proofs.stored_of.Reads as stored-of-reads
-use Rattle.recipes_operands.proofs.operand.Reads as operand-reads
-use Rattle.substitution_way.proofs.choose.Reads as choose-reads
 
 part-is : (c : tie.After-operand) →
     let start = c .before .before .before .before in

@@ -1,17 +1,6 @@
 use borrow.Author.Needs.{needs}
 use Rattle.shape.proofs.announce.length_after.Statement.{statement}
 use Rattle.shape.proofs.announce.length_after.Tie as tie
-use Rattle.shape.proofs.announce.length_after.Reads as reads
-use Rattle.shape.proofs.announce.length_after.Lts as lts
-use Rattle.shape.proofs.announce.less_in.Reads as less-in-reads
-use Rattle.shape.proofs.announce.order_length.Reads as order-length-reads
-use Rattle.shape.proofs.announce.power_length.Reads as power-length-reads
-use Rattle.shape.proofs.announce.quotient_length.Reads as quotient-length-reads
-use Rattle.shape.proofs.announce.series_length.Reads as series-length-reads
-use Rattle.shape.proofs.announce.substitution_length.Reads as substitution-length-reads
-use Rattle.shape.proofs.announce.term_length.Reads as term-length-reads
-use Rattle.shape.proofs.limits.least.Reads as least-reads
-use Rattle.shape.proofs.limits.most.Reads as most-reads
 
 returns-3 : tie.Need-returns-3
 returns-3 c = rw (c .before .enum-told3 .given .1) (c .most .ensures)

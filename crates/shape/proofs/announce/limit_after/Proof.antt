@@ -1,9 +1,6 @@
 use borrow.Author.Needs.{needs}
 use Rattle.shape.proofs.announce.limit_after.Statement.{statement}
 use Rattle.shape.proofs.announce.limit_after.Tie as tie
-use Rattle.shape.proofs.announce.limit_after.Reads as reads
-use Rattle.shape.proofs.announce.limit_after.Lts as lts
-use Rattle.shape.proofs.announce.less_in.Reads as less-in-reads
 
 returns-8 : tie.Need-returns-8
 returns-8 c = rw (c .before .before .f .given .1) (c .less-in .ensures)

@@ -1,11 +1,7 @@
-use Rattle.model.specs.Announced.{single, paired, announced}
+use Rattle.model.specs.Announced.{single}
 use borrow.Author.Needs.{needs}
 use Rattle.shape.proofs.announce.single_header.Statement.{statement}
 use Rattle.shape.proofs.announce.single_header.Tie as tie
-use Rattle.shape.proofs.announce.single_header.Reads as reads
-use Rattle.shape.proofs.announce.single_header.Lts as lts
-use Rattle.shape.proofs.announce.limit_after.Reads as limit-after-reads
-use Rattle.shape.proofs.announce.single_length.Reads as single-length-reads
 
 returns : tie.Need-returns
 unfolding single

@@ -1,18 +1,10 @@
-use Rattle.model.specs.Announced.{single, paired, announced}
-use borrow.Author.Tests.{eq-eqb, ne-eqb, lt-ltb, le-ltb}
+use Rattle.model.specs.Announced.{announced}
+use borrow.Author.Tests.{lt-ltb, le-ltb}
 use native.Mathlib.Omega.{arith}
-use Rattle.shape_words.specs.Lengths.{Small}
-use Rattle.shape.specs.Limits.{min-limit-pos}
-use Rattle.lists.specs.Four.{at}
-use Prim.Native.Nat.{_≤_}
 use Rattle.shape_words.specs.Rules.{ruled-at}
-use lib.Dec.{lit<}
 use borrow.Author.Needs.{needs}
 use Rattle.shape.proofs.announce.substitution_header.Statement.{statement}
 use Rattle.shape.proofs.announce.substitution_header.Tie as tie
-use Rattle.shape.proofs.announce.substitution_header.Reads as reads
-use Rattle.shape.proofs.announce.substitution_header.Lts as lts
-use Rattle.shape.proofs.announce.paired_header.Reads as paired-header-reads
 
 returns : tie.Need-returns
 unfolding announced

@@ -2,9 +2,6 @@ use Rattle.model.specs.Limits.{minDegreesP1}
 use borrow.Author.Needs.{needs}
 use Rattle.shape.proofs.limits.min_degrees_p1.Statement.{statement}
 use Rattle.shape.proofs.limits.min_degrees_p1.Tie as tie
-use Rattle.shape.proofs.limits.min_degrees_p1.Reads as reads
-use Rattle.shape.proofs.limits.min_degrees_p1.Lts as lts
-use Rattle.shape.proofs.limits.min_limit.Reads as min-limit-reads
 
 returns : tie.Need-returns
 unfolding minDegreesP1

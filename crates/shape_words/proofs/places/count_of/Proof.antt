@@ -1,12 +1,9 @@
 use native.Mathlib.Omega.{arith}
-use native.Mathlib.Nat.{mul-one}
-use mathlib.Core.Path.{refl, sym, _∙_}
+use mathlib.Core.Path.{sym}
 use Rattle.shape_words.specs.Lengths.{size2, size3, size4, count-is}
 use borrow.Author.Needs.{needs}
 use Rattle.shape_words.proofs.places.count_of.Statement.{statement}
 use Rattle.shape_words.proofs.places.count_of.Tie as tie
-use Rattle.shape_words.proofs.places.count_of.Reads as reads
-use Rattle.shape_words.proofs.places.count_of.Lts as lts
 
 mul-result : tie.Need-mul-result
 mul-result c = omega (arith, size2 (c .pre))

@@ -3,8 +3,6 @@ use mathlib.Core.Path.{refl}
 use borrow.Author.Needs.{needs}
 use Rattle.shape_words.proofs.places.index_of.Statement.{statement}
 use Rattle.shape_words.proofs.places.index_of.Tie as tie
-use Rattle.shape_words.proofs.places.index_of.Reads as reads
-use Rattle.shape_words.proofs.places.index_of.Lts as lts
 
 returns : tie.Need-returns
 unfolding index

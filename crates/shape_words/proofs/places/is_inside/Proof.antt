@@ -3,8 +3,6 @@ use mathlib.Core.Path.{refl}
 use borrow.Author.Needs.{needs}
 use Rattle.shape_words.proofs.places.is_inside.Statement.{statement}
 use Rattle.shape_words.proofs.places.is_inside.Tie as tie
-use Rattle.shape_words.proofs.places.is_inside.Reads as reads
-use Rattle.shape_words.proofs.places.is_inside.Lts as lts
 
 returns : tie.Need-returns
 unfolding inside

@@ -5,8 +5,6 @@ use Rattle.shape_words.specs.Places.{next-0, next-1, next-2}
 use borrow.Author.Needs.{needs}
 use Rattle.shape_words.proofs.places.next_row.Statement.{statement}
 use Rattle.shape_words.proofs.places.next_row.Tie as tie
-use Rattle.shape_words.proofs.places.next_row.Reads as reads
-use Rattle.shape_words.proofs.places.next_row.Lts as lts
 
 add-if1 : tie.Need-add-if1
 add-if1 c = let h = (c) .pre .1 .inside .i2 in omega (arith, h, sizes-low ((c) .pre .0) 2 (lit< tt))

@@ -4,8 +4,6 @@ use Rattle.shape_words.specs.Places.{horner, place-steps}
 use borrow.Author.Needs.{needs}
 use Rattle.shape_words.proofs.places.place_of.Statement.{statement}
 use Rattle.shape_words.proofs.places.place_of.Tie as tie
-use Rattle.shape_words.proofs.places.place_of.Reads as reads
-use Rattle.shape_words.proofs.places.place_of.Lts as lts
 
 mul-result : tie.Need-mul-result
 mul-result c = let p = place-steps (c .args .t1) (c .args .t2) (c .pre .0) (c .pre .1) in omega (arith, p .first, p .second, p .last)

@@ -2,9 +2,6 @@ use Rattle.model.specs.Header.{goodVars}
 use borrow.Author.Needs.{needs}
 use Rattle.shape_words.proofs.word.good_vars.Statement.{statement}
 use Rattle.shape_words.proofs.word.good_vars.Tie as tie
-use Rattle.shape_words.proofs.word.good_vars.Reads as reads
-use Rattle.shape_words.proofs.word.good_vars.Lts as lts
-use Rattle.shape_words.proofs.word.good_var.Reads as good-var-reads
 
 returns : tie.Need-returns
 unfolding goodVars

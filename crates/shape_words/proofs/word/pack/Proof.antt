@@ -7,9 +7,6 @@ use Rattle.model.specs.Word.{fields, wordOf}
 use borrow.Author.Needs.{needs}
 use Rattle.shape_words.proofs.word.pack.Statement.{statement}
 use Rattle.shape_words.proofs.word.pack.Tie as tie
-use Rattle.shape_words.proofs.word.pack.Reads as reads
-use Rattle.shape_words.proofs.word.pack.Lts as lts
-use Rattle.shape_words.proofs.word.push.Reads as push-reads
 
 push-requires-8 : tie.Need-push-requires-8
 push-requires-8 c κs =

@@ -2,9 +2,6 @@ use mathlib.Core.Path.{refl}
 use borrow.Author.Needs.{needs}
 use Rattle.taylor.proofs.answers.put_totals.Statement.{statement}
 use Rattle.taylor.proofs.answers.put_totals.Tie as tie
-use Rattle.taylor.proofs.answers.put_totals.Reads as reads
-use Rattle.taylor.proofs.answers.put_totals.Lts as lts
-use Rattle.taylor.proofs.answers.refusal_word.Reads as refusal-word-reads
 
 enum-known-r : tie.Need-enum-known-r
 enum-known-r c = search needs

@@ -1,9 +1,6 @@
 use borrow.Author.Needs.{needs}
 use Rattle.taylor.proofs.answers.word_of_run.Statement.{statement}
 use Rattle.taylor.proofs.answers.word_of_run.Tie as tie
-use Rattle.taylor.proofs.answers.word_of_run.Reads as reads
-use Rattle.taylor.proofs.answers.word_of_run.Lts as lts
-use Rattle.taylor.proofs.answers.refusal_word.Reads as refusal-word-reads
 
 enum-told : tie.Need-enum-told
 enum-told c = search needs
