@@ -19,7 +19,7 @@ use Rattle.model.specs.Places.{place, index, inside}
 use Rattle.model.specs.Poly.{block, readAt}
 use Rattle.model.specs.Add.{joinAt}
 use Rattle.shape_words.specs.Lengths.{Sizes, Inside, RowAt, inside-is, is-inside}
-use Rattle.blocks.specs.Fill.{filled-row, filled-rest, filled-all, part-table}
+use Rattle.lists.specs.Fill.{filled-row, filled-rest, filled-all, part-table}
 use Rattle.blocks.specs.Rows.{AtRow, at-first, at-next, at-row, row-fits, alongRow, index-row, place-row}
 use Rattle.blocks.specs.Rows.{along-fits, CuttingRows, JoiningRows, inner-inside, lineJoined}
 

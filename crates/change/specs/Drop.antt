@@ -15,7 +15,7 @@ use Rattle.lists.specs.Test.{decide}
 use Rattle.lists.specs.Table.{table, Filled, length-front, table-same}
 use Rattle.lists.specs.Walk.{walk-same}
 use Rattle.model.specs.Refusals.{zeroF}
-use Rattle.blocks.specs.Fill.{part-table}
+use Rattle.lists.specs.Fill.{part-table}
 use Rattle.product_linear.specs.Raised.{Along}
 use Rattle.change.specs.Room.{PartRoom}
 use Rattle.change_sums.specs.Sums.{sumAt, frontAt}

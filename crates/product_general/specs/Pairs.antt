@@ -18,7 +18,7 @@ use Rattle.model.specs.Places.{index}
 use Rattle.model.specs.Refusals.{zeros, zeroF}
 use Rattle.model.specs.General.{lo, steps, line, alone, productAt, general}
 use Rattle.shape_words.specs.Lengths.{Lengths}
-use Rattle.blocks.specs.Fill.{filled-row, filled-rest, filled-all}
+use Rattle.lists.specs.Fill.{filled-row, filled-rest, filled-all}
 use Rattle.product_general.specs.Index.{inRow, split-at}
 use Rattle.product_general.specs.Product.{span-none, span-more, alone-one, stepAt, product-same, product-end, product-line, product-rows}
 use Rattle.product_general.specs.Rows.{Several, placeOf, rowsOf, pairsOf}

@@ -18,7 +18,7 @@ use Rattle.model.specs.Header.{span}
 use Rattle.model.specs.Places.{index, strides}
 use Rattle.model.specs.General.{lo, steps, line, alone, productAt}
 use Rattle.shape_words.specs.Lengths.{Lengths, lengths-pos}
-use Rattle.blocks.specs.Fill.{filled-row, filled-rest, filled-all}
+use Rattle.lists.specs.Fill.{filled-row, filled-rest, filled-all}
 use Rattle.product_general.specs.Index.{inRow, row-div, row-mod, split-at}
 use Rattle.product_general.specs.Product.{span-more, span-pos, row-in, first-in, stride-at, alone-one, product-line, product-rows}
 use Rattle.product_general.specs.Rows.{Strided, Rowing, Several, TwoLong, rowsOf}

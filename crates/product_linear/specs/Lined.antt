@@ -13,7 +13,7 @@ use borrow.Rule.Slice.PartMut.{putMid}
 use Rattle.lists.specs.Test.{decide}
 use Rattle.lists.specs.Table.{table, table-same, Filled, filled-none}
 use Rattle.model.specs.Refusals.{zeroF}
-use Rattle.blocks.specs.Fill.{filled-all}
+use Rattle.lists.specs.Fill.{filled-all}
 use Rattle.product_linear.specs.Rows.{raisedRow, linedFirst, linedMiddle, linedLast, linedRow, linedFlat, LinedRow, Rows}
 use Rattle.product_linear.specs.Raised.{Along, rows-more}
 

@@ -15,7 +15,7 @@ use borrow.Rule.Slice.PartMut.{putMid}
 use Rattle.lists.specs.Test.{decide}
 use Rattle.lists.specs.Table.{table, table-same, length-table, Filled}
 use Rattle.model.specs.Refusals.{zeroF, zeros}
-use Rattle.blocks.specs.Fill.{filled-row}
+use Rattle.lists.specs.Fill.{filled-row}
 use Rattle.product_linear.specs.Rows.{raisedRow, raisedFlat, Rows}
 
 -- ---- one row

@@ -6,7 +6,7 @@ use lib.ListN.{getD, length}
 use lib.Ieee.{Float, nan, add, binary64}
 use Rattle.lists.specs.Table.{Filled}
 use Rattle.model.specs.General.{line}
-use Rattle.blocks.specs.Fill.{filled-here}
+use Rattle.lists.specs.Fill.{filled-here}
 
 -- a place with its sum added: n and m are the lengths of the left and the right
 abbrev pub lineAdded : List Float → List Float → ℕ → ℕ → List Float → ℕ → Float

@@ -14,7 +14,7 @@ use borrow.Rule.Slice.PartMut.{putMid}
 use Rattle.lists.specs.Test.{decide}
 use Rattle.lists.specs.Table.{table, table-same, table-all, table-take, length-table}
 use Rattle.lists.specs.Part.{part}
-use Rattle.blocks.specs.Fill.{part-table}
+use Rattle.lists.specs.Fill.{part-table}
 
 pub record Laid (q : ℕ) (xs : List Float) (e : ℕ) (w w' : List Float) : Type 0 where
   pub len : length w' ≡ length w

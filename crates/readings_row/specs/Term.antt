@@ -23,7 +23,7 @@ use Rattle.model.specs.Readings.{coefficientsOfTerm}
 use Rattle.shape_words.specs.Rules.{Ruled, Regular, ruled-at}
 use Rattle.shape_words.specs.Lengths.{lengths-of}
 use Rattle.shape.specs.Announced.{single-regular}
-use Rattle.blocks.specs.Fill.{table-add}
+use Rattle.lists.specs.Fill.{table-add}
 use Rattle.blocks.specs.Rows.{Cutting}
 use Rattle.readings_row.specs.Rows.{Picking}
 

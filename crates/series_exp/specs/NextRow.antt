@@ -18,7 +18,7 @@ use Rattle.model.specs.Refusals.{zeroF}
 use Rattle.model.specs.Constructed.{wholeF}
 use Rattle.model.specs.General.{productAt}
 use Rattle.model.specs.Series.{timesWhole, overWhole, expRow}
-use Rattle.blocks.specs.Fill.{part-table}
+use Rattle.lists.specs.Fill.{part-table}
 use Rattle.product_general.specs.Index.{inRow}
 use Rattle.product_general.specs.Product.{row-in}
 use Rattle.series_gathering.specs.Gather.{pairAt, gathered}

@@ -24,7 +24,7 @@ use Rattle.model.specs.Add.{joinAt}
 use Rattle.model.specs.General.{productAt}
 use Rattle.model.specs.Quotient.{recurred}
 use Rattle.model.specs.Series.{after, timesWhole, overWhole}
-use Rattle.blocks.specs.Fill.{part-table}
+use Rattle.lists.specs.Fill.{part-table}
 use Rattle.product_general.specs.Index.{inRow}
 use Rattle.product_general.specs.Product.{span-more}
 use Rattle.series_gathering.specs.Gather.{rowAt, pairAt}

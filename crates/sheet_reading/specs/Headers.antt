@@ -12,7 +12,7 @@ use borrow.Author.Tests.{eqb-true, eqb-false}
 use Rattle.lists.specs.All.{All, all-below}
 use Rattle.lists.specs.Table.{table, length-table, table-at, Filled, filled-none, filled-more}
 use Rattle.lists.specs.Test.{decide}
-use Rattle.blocks.specs.Fill.{filled-all}
+use Rattle.lists.specs.Fill.{filled-all}
 use Rattle.model.specs.declared.Header.{Header}
 use Rattle.model.specs.declared.Refusal.{Refusal}
 use Rattle.model.specs.Header.{noHeader, span, stored}

@@ -11,7 +11,7 @@ use borrow.Rule.Slice.PartMut.{putMid}
 use Rattle.lists.specs.Table.{table, Filled, table-same}
 use Rattle.lists.specs.Walk.{walk, walk-more}
 use Rattle.model.specs.Readings.{oneF}
-use Rattle.blocks.specs.Fill.{filled-rest}
+use Rattle.lists.specs.Fill.{filled-rest}
 use Rattle.product_linear.specs.Rows.{Rows}
 use Rattle.product_linear.specs.Raised.{row-fits, rows-more}
 

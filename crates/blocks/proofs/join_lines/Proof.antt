@@ -6,7 +6,7 @@ use lib.ListN.{length, getD}
 use lib.Ieee.{Float, nan}
 use Rattle.lists.specs.Table.{Filled, filled-none, filled-more}
 use Rattle.model.specs.Add.{join}
-use Rattle.blocks.specs.Fill.{filled-all}
+use Rattle.lists.specs.Fill.{filled-all}
 use Rattle.blocks.specs.Combine.{lineSum}
 use Rattle.blocks.proofs.join_lines.Statement.{statement}
 use Rattle.blocks.proofs.join_lines.Tie as tie

@@ -3,7 +3,7 @@ use mathlib.Core.Path.{_≡_, refl}
 use Prim.Native.Nat.{_+_, _-_, _≤_}
 use lib.ListN.{length, length-take, length-drop}
 use Rattle.lists.specs.Table.{Filled, filled-none}
-use Rattle.blocks.specs.Fill.{filled-all}
+use Rattle.lists.specs.Fill.{filled-all}
 use Rattle.product_linear.specs.Rows.{linedFlat}
 use Rattle.product_linear.specs.Raised.{Along, along-first, along-next, row-fits, rows-more}
 use Rattle.product_linear.specs.Lined.{lined-row-is}

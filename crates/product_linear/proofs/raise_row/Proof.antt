@@ -6,7 +6,7 @@ use Prim.Native.Nat.{ℕ, _-_, _≤_}
 use lib.ListN.{length, drop, length-drop, length-append}
 use lib.Seq.{length-take-le}
 use Rattle.lists.specs.Table.{table, Filled, filled-more}
-use Rattle.blocks.specs.Fill.{filled-all}
+use Rattle.lists.specs.Fill.{filled-all}
 use Rattle.product_linear.specs.Rows.{raisedRow}
 use Rattle.product_linear.proofs.raise_row.Statement.{statement}
 use Rattle.product_linear.proofs.raise_row.Tie as tie

@@ -5,7 +5,7 @@ use Prim.Native.Nat.{_+_, _-_, _≤_}
 use lib.ListN.{length, length-take, length-drop}
 use Rattle.lists.specs.Four.{at}
 use Rattle.lists.specs.Table.{Filled, filled-none}
-use Rattle.blocks.specs.Fill.{filled-all}
+use Rattle.lists.specs.Fill.{filled-all}
 use Rattle.product_linear.specs.Rows.{raisedFlat}
 use Rattle.product_linear.proofs.raise_rows.Statement.{statement}
 use Rattle.product_linear.proofs.raise_rows.Tie as tie

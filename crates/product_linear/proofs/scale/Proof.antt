@@ -2,7 +2,7 @@ use native.Mathlib.Omega.{arith}
 use mathlib.Core.Path.{refl, ap, _∙_}
 use Prim.Native.Nat.{ℕ, _-_, _≤_}
 use Rattle.lists.specs.Table.{table, Filled, filled-none, filled-more}
-use Rattle.blocks.specs.Fill.{filled-all}
+use Rattle.lists.specs.Fill.{filled-all}
 use Rattle.model.specs.Product.{scaledAt}
 use Rattle.product_linear.proofs.scale.Statement.{statement}
 use Rattle.product_linear.proofs.scale.Tie as tie

@@ -1,7 +1,7 @@
 use native.Mathlib.Omega.{arith}
 use Prim.Native.Nat.{_-_, _≤_}
 use Rattle.lists.specs.Table.{Filled, filled-none, filled-more}
-use Rattle.blocks.specs.Fill.{filled-all}
+use Rattle.lists.specs.Fill.{filled-all}
 use Rattle.product_lines.specs.Added.{lineAdded}
 use Rattle.product_lines.specs.Added.{line-more}
 use Rattle.product_lines.specs.Fours.{four-more}

@@ -8,7 +8,7 @@ use Rattle.model.specs.Places.{index, place}
 use Rattle.model.specs.Poly.{block, readAt}
 use Rattle.shape_words.specs.Lengths.{Inside, sizes-of}
 use Rattle.shape_words.specs.Places.{place-lt}
-use Rattle.blocks.specs.Fill.{filled-all}
+use Rattle.lists.specs.Fill.{filled-all}
 use Rattle.readings_row.specs.Rows.{pick-inside}
 use Rattle.readings_row.proofs.pick.Statement.{statement}
 use Rattle.readings_row.proofs.pick.Tie as tie

@@ -4,7 +4,7 @@ use Prim.Native.Nat.{_-_, _≤_}
 use lib.ListN.{length, getD}
 use lib.Ieee.{Float, nan, div, binary64}
 use Rattle.lists.specs.Table.{Filled, filled-none, filled-more}
-use Rattle.blocks.specs.Fill.{filled-all, filled-here}
+use Rattle.lists.specs.Fill.{filled-all, filled-here}
 use Rattle.model.specs.Constructed.{wholeF}
 use Rattle.series_scaling.specs.Weighed.{small-float}
 use Rattle.series_scaling.proofs.divide_by.Statement.{statement}

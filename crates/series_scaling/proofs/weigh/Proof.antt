@@ -2,7 +2,7 @@ use native.Mathlib.Omega.{arith}
 use mathlib.Core.Path.{refl}
 use Prim.Native.Nat.{_-_, _≤_}
 use Rattle.lists.specs.Table.{Filled, filled-none, filled-more}
-use Rattle.blocks.specs.Fill.{filled-all}
+use Rattle.lists.specs.Fill.{filled-all}
 use Rattle.series_scaling.specs.Weighed.{weighedAt, small-float, small-row}
 use Rattle.series_scaling.proofs.weigh.Statement.{statement}
 use Rattle.series_scaling.proofs.weigh.Tie as tie

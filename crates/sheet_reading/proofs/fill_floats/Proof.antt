@@ -5,7 +5,7 @@ use native.Mathlib.Omega.{arith}
 use lib.ListN.{length}
 use lib.Ieee.{ofBits, binary64}
 use Rattle.lists.specs.Table.{Filled, filled-none, filled-more}
-use Rattle.blocks.specs.Fill.{filled-all}
+use Rattle.lists.specs.Fill.{filled-all}
 use Rattle.model_texts.specs.Sheet.{wordOn}
 use Rattle.sheet_reading.proofs.fill_floats.Statement.{statement}
 use Rattle.sheet_reading.proofs.fill_floats.Tie as tie

@@ -4,7 +4,7 @@ use Prim.Native.Nat.{_+_, _-_, _≤_, _/_, _%_}
 use lib.ListN.{length, take, drop, length-take, length-drop}
 use lib.Ieee.{mul, binary64}
 use Rattle.lists.specs.Table.{Filled, filled-none}
-use Rattle.blocks.specs.Fill.{filled-all}
+use Rattle.lists.specs.Fill.{filled-all}
 use Rattle.substitution_powers.specs.Powers.{power, byPart}
 use Rattle.substitution_powers.specs.Powers.{Begins, begins-first, begins-next, begins-fits, part-power, part-more}
 use Rattle.substitution_powers.proofs.power_parts.Statement.{statement}

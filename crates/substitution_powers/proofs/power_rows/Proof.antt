@@ -4,7 +4,7 @@ use Prim.Native.Nat.{_+_, _-_, _≤_, _/_}
 use lib.ListN.{length, length-take, length-drop}
 use lib.Ieee.{mul, binary64}
 use Rattle.lists.specs.Table.{Filled, filled-none}
-use Rattle.blocks.specs.Fill.{filled-all}
+use Rattle.lists.specs.Fill.{filled-all}
 use Rattle.substitution_powers.specs.Powers.{power, byRow}
 use Rattle.substitution_powers.specs.Powers.{Power, power-begins, power-first, power-next, row-power, begins-fits, part-more}
 use Rattle.substitution_powers.proofs.power_rows.Statement.{statement}

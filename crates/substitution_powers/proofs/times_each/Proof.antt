@@ -4,7 +4,7 @@ use Prim.Native.Nat.{_-_, _≤_}
 use lib.ListN.{getD}
 use lib.Ieee.{Float, nan, mul, binary64}
 use Rattle.lists.specs.Table.{Filled, filled-none, filled-more}
-use Rattle.blocks.specs.Fill.{filled-all, filled-here}
+use Rattle.lists.specs.Fill.{filled-all, filled-here}
 use Rattle.substitution_powers.proofs.times_each.Statement.{statement}
 use Rattle.substitution_powers.proofs.times_each.Tie as tie
 

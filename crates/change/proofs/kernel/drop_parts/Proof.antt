@@ -6,7 +6,7 @@ use mathlib.Core.Path.{_≡_, refl}
 use Prim.Native.Nat.{_+_, _-_, _≤_}
 use lib.ListN.{length, take, drop, length-take, length-drop}
 use Rattle.lists.specs.Table.{Filled, filled-none}
-use Rattle.blocks.specs.Fill.{filled-all}
+use Rattle.lists.specs.Fill.{filled-all}
 use Rattle.change.proofs.kernel.drop_parts.Statement.{statement}
 use Rattle.change.proofs.kernel.drop_parts.Tie as tie
 

@@ -1,6 +1,6 @@
 use Rattle.change.specs.Drop.{kept-start, kept-rest}
 use Rattle.product_linear.specs.Raised.{rows-more}
-use Rattle.blocks.specs.Fill.{filled-all}
+use Rattle.lists.specs.Fill.{filled-all}
 use native.Mathlib.Omega.{arith}
 use mathlib.Core.Path.{_≡_, sym}
 use mathlib.Core.List.{_++_}

@@ -5,7 +5,7 @@ use Prim.Native.Nat.{_≤_, _-_, _+_, _*_}
 use mathlib.Core.Path.{_≡_, refl, ap, _∙_}
 use lib.Ieee.{ofBits, binary64}
 use Rattle.lists.specs.Table.{Filled, filled-none, filled-more}
-use Rattle.blocks.specs.Fill.{filled-all}
+use Rattle.lists.specs.Fill.{filled-all}
 use Rattle.replay_entries.specs.Text.{floatAt}
 use Rattle.replay_entries.proofs.text.fill.Statement.{statement}
 use Rattle.replay_entries.proofs.text.fill.Tie as tie
