@@ -4,9 +4,11 @@ use mathlib.Core.List.{List, [], _∷_, _++_}
 use mathlib.Core.Path.{_≡_, refl, sym, ap, _∙_}
 use native.Mathlib.Omega.{arith}
 use native.Mathlib.Nat.{zero-add, suc-add}
-use lib.ListN.{length, take, drop, set, length-set, length-take, length-drop}
+use lib.ListN.{length, take, drop, set, length-set, length-take, length-drop, length-append}
 use lib.Seq.{take-set-le, drop-set-add, take-take, take-nil, drop-cons, getD-set-same, take-at, drop-at, drop-drop, drop-set-lt, set-append-left}
+use lib.Seq.{length-take-le}
 use Rattle.lists.specs.Table.{Filled, filled-none, filled-more, filled-end, front, table, length-table}
+use borrow.Rule.Slice.PartMut.{putMid}
 
 module _ {A : Type 0} where
   -- the places from f up to t, as `&l[f..t]` reads
@@ -100,3 +102,18 @@ module _ {A : Type 0} where
   -- a value stored at the front of a list whose front is a
   pub set-front : (a d : List A) {o : List A} (v : A) → o ≡ a ++ d → 0 < length a → set o 0 v ≡ set a 0 v ++ d
   set-front a d {o} v e h = ap (λ z. set z 0 v) e ∙ set-append-left a d 0 v h
+
+  -- a part of a buffer became xs
+  pub kept-mid : (p n : ℕ) (w ys : List A) {xs : List A} (k : ℕ) → xs ≡ take k ys → k ≡ n → n ≤ length ys
+      → p + n ≤ length w → {q : ℕ} → q ≡ n → Kept p (p + n) (take n ys) w (putMid p q w xs)
+  kept-mid p n w ys {xs} k e f g h {q} e' =
+      let l : length xs ≡ n = ap length e ∙ (rw f (length-take-le n ys g)) in
+      let lp : length (take p w) ≡ p = length-take-le p w (omega arith) in
+      let rest : List A = drop q (drop p w) in
+      let d : drop p (take p w ++ (xs ++ rest)) ≡ xs ++ rest = drop-at (take p w) (xs ++ rest) p lp in
+      let m : p + n - p ≡ n = omega arith in
+      record {
+        below = record { len = simp (length-append, length-take, length-drop) (omega (arith, l)); head = take-at (take p w) (xs ++ rest) p lp };
+        holds = ap (λ (j : ℕ). take j (drop p (take p w ++ (xs ++ rest)))) m ∙ (ap (take n) d ∙ (take-at xs rest n l ∙ (e ∙ ap (λ (j : ℕ). take j ys) f)));
+        above = sym (drop-drop n p (take p w ++ (xs ++ rest))) ∙ (ap (drop n) d ∙ (drop-at xs rest n l ∙ (drop-drop q p w ∙ ap (λ (j : ℕ). drop (p + j) w) e')));
+      }

@@ -165,21 +165,6 @@ pub put-zero : (out : List Float) → 0 < length out → Put (constantBlock zero
 put-zero [] h = absurd (omega arith)
 put-zero (x ∷ out) h = record { lengths = refl; is = refl }
 
--- a part of a buffer became xs
-pub kept-mid : (p n : ℕ) (w ys : List Float) {xs : List Float} (k : ℕ) → xs ≡ take k ys → k ≡ n → n ≤ length ys
-    → p + n ≤ length w → {q : ℕ} → q ≡ n → Kept p (p + n) (take n ys) w (putMid p q w xs)
-kept-mid p n w ys {xs} k e f g h {q} e' =
-    let l : length xs ≡ n = ap length e ∙ (rw f (length-take-le n ys g)) in
-    let lp : length (take p w) ≡ p = length-take-le p w (omega arith) in
-    let rest : List Float = drop q (drop p w) in
-    let d : drop p (take p w ++ (xs ++ rest)) ≡ xs ++ rest = drop-at (take p w) (xs ++ rest) p lp in
-    let m : p + n - p ≡ n = omega arith in
-    record {
-      below = record { len = simp (length-append, length-take, length-drop) (omega (arith, l)); head = take-at (take p w) (xs ++ rest) p lp };
-      holds = ap (λ (j : ℕ). take j (drop p (take p w ++ (xs ++ rest)))) m ∙ (ap (take n) d ∙ (take-at xs rest n l ∙ (e ∙ ap (λ (j : ℕ). take j ys) f)));
-      above = sym (drop-drop n p (take p w ++ (xs ++ rest))) ∙ (ap (drop n) d ∙ (drop-at xs rest n l ∙ (drop-drop q p w ∙ ap (λ (j : ℕ). drop (p + j) w) e')));
-    }
-
 -- ---- which way
 
 module _ (stage : ℕ) (a b : Block) (na nb : ℕ) where

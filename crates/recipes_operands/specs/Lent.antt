@@ -11,12 +11,11 @@ use lib.Seq.{take-add, take-all, take-at, take-take, drop-drop}
 use lib.Ieee.{Float}
 use borrow.Rule.Slice.PartMut.{putMid}
 use Rattle.lists.specs.Table.{table, length-table}
-use Rattle.lists.specs.Part.{part, below-less, below-then, below-part, Kept}
+use Rattle.lists.specs.Part.{part, below-less, below-then, below-part, Kept, kept-mid}
 use Rattle.model.specs.declared.Header.{Header}
 use Rattle.model.specs.Header.{stored}
 use Rattle.model.specs.Refusals.{zeroF, zeros, padded}
 use Rattle.model.specs.Poly.{Poly, poly}
-use Rattle.product.specs.Ways.{kept-mid}
 
 -- where a value lies: among the inputs' coefficients, or in the pool
 abbrev pub source : Bool → List Float → List Float → List Float

@@ -11,7 +11,7 @@ use borrow.Rule.Slice.PartMut.{putMid}
 use lib.Ieee.{Float}
 use Rattle.lists.specs.Test.{of-both}
 use Rattle.lists.specs.Four.{at}
-use Rattle.lists.specs.Part.{part, length-part, Kept, below-less, below-then, below-part}
+use Rattle.lists.specs.Part.{part, length-part, Kept, below-less, below-then, below-part, kept-mid}
 use Rattle.model.specs.Header.{count, ones, span}
 use Rattle.model.specs.Limits.{sumShape, maxShape}
 use Rattle.model.specs.Refusals.{zeroF}
@@ -24,7 +24,7 @@ use Rattle.laws_exact.specs.Keeps.{joined-sits}
 use Rattle.laws_exact.specs.ProductKeeps.{product-sits, constant-sits, left-fits}
 use Rattle.product.specs.Room.{Under, Joins, Room, Put, Stands, Made}
 use Rattle.product.specs.Ways.{under-lengths, count-less, under-sits, sits-under, under-more, shape-under, shape-left}
-use Rattle.product.specs.Ways.{shape-right, put-stands, put-made, kept-mid}
+use Rattle.product.specs.Ways.{shape-right, put-stands, put-made}
 use Rattle.substitution_turn.specs.Room.{Adding, Turning, timesPut, turnOf, Turned}
 
 -- a block by its lengths and its places

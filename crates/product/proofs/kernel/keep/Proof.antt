@@ -3,7 +3,7 @@ use mathlib.Core.Path.{_≡_}
 use Prim.Native.Nat.{_+_, _-_}
 use lib.ListN.{length, take, drop, length-take, length-drop}
 use Rattle.lists.specs.Four.{at}
-use Rattle.product.specs.Ways.{kept-mid}
+use Rattle.lists.specs.Part.{kept-mid}
 use borrow.Author.Needs.{needs}
 use Rattle.product.proofs.kernel.keep.Statement.{statement}
 use Rattle.product.proofs.kernel.keep.Tie as tie
