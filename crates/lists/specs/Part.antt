@@ -36,17 +36,18 @@ module _ {A : Type 0} where
   pub below-set : {s : ℕ} (w : List A) (i : ℕ) (v : A) → s ≤ i → Below s w (set w i v)
   below-set {s} w i v h = record { len = length-set w i v; head = take-set-le s w i v h }
 
-  take-drop : (f k : ℕ) (l : List A) → drop f (take (f + k) l) ≡ take k (drop f l)
-  take-drop zero k l = rw (zero-add k)
-  take-drop (suc f) k [] = rw (take-nil (suc f + k), take-nil k)
-  take-drop (suc f) k (x ∷ l) = rw (suc-add f k) (take-drop f k l)
+  -- a part of a front
+  pub drop-take : (f k : ℕ) (l : List A) → drop f (take (f + k) l) ≡ take k (drop f l)
+  drop-take zero k l = rw (zero-add k)
+  drop-take (suc f) k [] = rw (take-nil (suc f + k), take-nil k)
+  drop-take (suc f) k (x ∷ l) = rw (suc-add f k) (drop-take f k l)
 
   -- a part below s is the same
   pub below-part : {s : ℕ} {w w' : List A} (f t : ℕ) → Below s w w' → f ≤ t → t ≤ s → part f t w' ≡ part f t w
   below-part {s} {w} {w'} f t b p q =
       let k : f + (t - f) ≡ t = omega arith in
       let cut : (l : List A) → take (t - f) (drop f l) ≡ drop f (take t (take s l)) =
-      λ l. sym (take-drop f (t - f) l) ∙ (ap (λ (n : ℕ). drop f (take n l)) k ∙ ap (drop f) (sym (take-take t s l q))) in
+      λ l. sym (drop-take f (t - f) l) ∙ (ap (λ (n : ℕ). drop f (take n l)) k ∙ ap (drop f) (sym (take-take t s l q))) in
       cut w' ∙ (ap (λ (l : List A). drop f (take t l)) (b .head) ∙ sym (cut w))
 
   -- a loop that fills the places of `d` from `at` on, and has done n
@@ -117,3 +118,14 @@ module _ {A : Type 0} where
         holds = ap (λ (j : ℕ). take j (drop p (take p w ++ (xs ++ rest)))) m ∙ (ap (take n) d ∙ (take-at xs rest n l ∙ (e ∙ ap (λ (j : ℕ). take j ys) f)));
         above = sym (drop-drop n p (take p w ++ (xs ++ rest))) ∙ (ap (drop n) d ∙ (drop-at xs rest n l ∙ (drop-drop q p w ∙ ap (λ (j : ℕ). drop (p + j) w) e')));
       }
+
+  -- the one place of a list, stored
+  pub one-place : (x : A) (old : List A) → length old ≡ 1 → set old 0 x ≡ x ∷ []
+  one-place x [] e = absurd (omega arith)
+  one-place x (y ∷ []) e = refl
+  one-place x (y ∷ z ∷ old) e = absurd (omega arith)
+
+  -- the first place of a list, stored
+  pub one-set : (x : A) (w : List A) → 0 < length w → take 1 (set w 0 x) ≡ x ∷ []
+  one-set x [] h = absurd (omega arith)
+  one-set x (y ∷ w) h = refl

@@ -19,6 +19,7 @@ use Rattle.model.specs.Refusals.{zeros, zeroF}
 use Rattle.model.specs.General.{lo, steps, line, alone, productAt, general}
 use Rattle.shape_words.specs.Lengths.{Lengths}
 use Rattle.lists.specs.Fill.{filled-row, filled-rest, filled-all}
+use Rattle.lists.specs.Part.{one-place}
 use Rattle.product_general.specs.Index.{inRow, split-at}
 use Rattle.product_general.specs.Product.{span-none, span-more, alone-one, stepAt, product-same, product-end, product-line, product-rows}
 use Rattle.product_general.specs.Rows.{Several, placeOf, rowsOf, pairsOf}
@@ -130,11 +131,6 @@ unfolding rowsOf
 rows-length lx ly r v xs ys old = length-table _ (span r (4 - v) v)
 
 -- no variable is left
-one-place : (x : Float) (old : List Float) → length old ≡ 1 → set old 0 x ≡ x ∷ []
-one-place x [] e = absurd (omega arith)
-one-place x (y ∷ []) e = refl
-one-place x (y ∷ z ∷ old) e = absurd (omega arith)
-
 pub rows-none : (lx ly r : List ℕ) {v : ℕ} (xs ys old : List Float) → v ≡ 4 → length old ≡ span r (4 - v) v
     → set old 0 (add binary64 (getD old 0 nan) (mul binary64 (getD xs 0 nan) (getD ys 0 nan))) ≡ rowsOf lx ly r v xs ys old
 unfolding rowsOf table

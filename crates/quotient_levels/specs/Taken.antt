@@ -10,6 +10,7 @@ use lib.Ieee.{Float, nan, add, mul, binary64}
 use Rattle.lists.specs.Four.{at, each, at-four}
 use Rattle.lists.specs.Table.{table, table-same, table-at}
 use Rattle.lists.specs.Walk.{walk, walk-same}
+use Rattle.lists.specs.Part.{one-place}
 use Rattle.model.specs.Header.{span}
 use Rattle.model.specs.Places.{index}
 use Rattle.model.specs.Refusals.{zeroF, zeros}
@@ -104,11 +105,6 @@ module _ {ly r : List ℕ} {v : ℕ} (g : Single ly r v) where
   summing p h m =
       let q = lengths-pos (g .right) v (g .some) in
       record { below = omega arith; left = h; right = omega (arith, first-in (g .right) (g .some) m) }
-
-one-place : (x : Float) (old : List Float) → length old ≡ 1 → set old 0 x ≡ x ∷ []
-one-place x [] h = absurd (omega arith)
-one-place x (y ∷ []) h = refl
-one-place x (y ∷ z ∷ old) h = absurd (omega arith)
 
 module _ {ly sy r sr : List ℕ} (g : Dividing ly sy r sr) {v k mr : ℕ} (done ys : List Float)
     (t : Taking ly r v k (length done) (length ys) mr) (e : at sr v ≡ 1) where

@@ -13,7 +13,7 @@ use lib.Seq.{take-at, take-take, drop-drop, take-nil, length-take-le, getD-set-s
 use lib.Ieee.{Float}
 use borrow.Author.Tests.{eqb-true, eqb-false}
 use Rattle.lists.specs.Test.{decide}
-use Rattle.lists.specs.Part.{part, Kept}
+use Rattle.lists.specs.Part.{part, Kept, drop-take}
 use Rattle.model.specs.declared.Header.{Header}
 use Rattle.model_recipes.specs.declared.Step.{Step}
 use Rattle.model.specs.Header.{stored, noHeader}
@@ -122,12 +122,6 @@ length-source false cs before = refl
 pub at-lies : {input : Bool} {from at : ℕ} {cs before : List Float} {v : Poly} → At input from cs before v
     → length before ≡ at → Lies (v .head) input from at (length cs)
 at-lies {input} {cs = cs} {before} a e = record { ends = rw (← e, ← length-source input cs before) (a .ends) }
-
--- a part of a front
-drop-take : {A : Type 0} (f k : ℕ) (l : List A) → drop f (take (f + k) l) ≡ take k (drop f l)
-drop-take zero k l = rw (zero-add k)
-drop-take (suc f) k [] = rw (take-nil (suc f + k), take-nil k)
-drop-take (suc f) k (x ∷ l) = rw (suc-add f k) (drop-take f k l)
 
 front-part : {A : Type 0} (f c n : ℕ) (l : List A) → f + c ≤ n → take c (drop f (take n l)) ≡ take c (drop f l)
 front-part f c n l h =

@@ -12,7 +12,7 @@ use lib.Ieee.{Float}
 use borrow.Rule.Slice.PartMut.{putMid}
 use Rattle.lists.specs.Four.{at, each}
 use Rattle.lists.specs.Table.{table, length-table}
-use Rattle.lists.specs.Part.{part, Kept, kept-above}
+use Rattle.lists.specs.Part.{part, Kept, kept-above, one-set}
 use Rattle.lists.specs.Stack.{stack, stack-none, stack-more}
 use Rattle.model.specs.Header.{span}
 use Rattle.model.specs.Series.{overWhole, expRow, expRows}
@@ -172,10 +172,6 @@ module _ {lx r : List ℕ} {v k n e mw mr : ℕ} (p : RowRoom lx r v k n e mw mr
   row-gathers x d m = record { some = p .some; turn = p .turn; room = let f = p .ends in omega arith; before = d; full = m ∙ p .full }
 
 -- ---- the sub-block
-
-one-set : (x : Float) (w : List Float) → 0 < length w → take 1 (set w 0 x) ≡ x ∷ []
-one-set x [] h = absurd (omega arith)
-one-set x (y ∷ w) h = refl
 
 module _ (head : Float) (lx r : List ℕ) {v : ℕ} (xs : List Float) where
   -- no variable is left

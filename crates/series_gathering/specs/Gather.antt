@@ -11,6 +11,7 @@ use lib.Ieee.{Float, nan, add, mul, binary64}
 use Rattle.lists.specs.Four.{at, each}
 use Rattle.lists.specs.Table.{table, table-same, table-at}
 use Rattle.lists.specs.Walk.{walk, walk-same}
+use Rattle.lists.specs.Part.{one-place}
 use Rattle.model.specs.Places.{index}
 use Rattle.model.specs.Refusals.{zeroF, zeros}
 use Rattle.model.specs.General.{lo, term, alone, productAt}
@@ -112,11 +113,6 @@ index-first {r} g w h =
 
 pub inner-at : {n c : List ℕ} → Inner n c → (w : ℕ) → w < 4 → at c w ≤ at n w
 inner-at {n} {c} i = each (λ w. at c w ≤ at n w) (i .c0) (i .c1) (i .c2) (i .c3)
-
-one-place : (x : Float) (old : List Float) → length old ≡ 1 → set old 0 x ≡ x ∷ []
-one-place x [] e = absurd (omega arith)
-one-place x (y ∷ []) e = refl
-one-place x (y ∷ z ∷ old) e = absurd (omega arith)
 
 first-of : (j : ℕ) (xs : List Float) → getD (take 1 (drop (j * 1) xs)) 0 nan ≡ getD xs j nan
 first-of j xs =

@@ -17,6 +17,7 @@ use Rattle.lists.specs.Grow.{grow}
 use Rattle.lists.specs.Stack.{stack, stack-none}
 use Rattle.lists.specs.Table.{table, table-same}
 use Rattle.lists.specs.Walk.{walk}
+use Rattle.lists.specs.Part.{one-set}
 use Rattle.model.specs.declared.Family.the-variants.{Quotient}
 use Rattle.model.specs.Header.{span, count}
 use Rattle.model.specs.Announced.{lengthAfter}
@@ -153,10 +154,6 @@ module _ (lx r : List ℕ) {v : ℕ} (h : v < 4) (xs : List Float) (l : span lx 
       (block (after v lx) (first w)) .places)) (add-one v))) i
 
 -- ---- the sub-block
-
-one-set : (x : Float) (w : List Float) → 0 < length w → take 1 (set w 0 x) ≡ x ∷ []
-one-set x [] h = absurd (omega arith)
-one-set x (y ∷ w) h = refl
 
 left : {v : ℕ} → v < 4 → 4 - v ≡ suc (4 - (v + 1))
 left h = omega arith
