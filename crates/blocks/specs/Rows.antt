@@ -4,9 +4,9 @@ use mathlib.Core.List.{List, [], _∷_}
 use mathlib.Core.Bool.{Bool, cond}
 use mathlib.Core.Path.{_≡_, sym, ap, _∙_}
 use native.Mathlib.Omega.{arith}
-use native.Mathlib.Nat.{mul-assoc, div-add-mod', mul-le-mul-right, div-lt-iff-lt-mul, add-zero}
+use native.Mathlib.Nat.{mul-assoc, div-add-mod', mul-le-mul-right, div-lt-iff-lt-mul, add-zero, mul-le-mul}
 use lib.Arith.{digits-mod, digits-div}
-use lib.Dec.{ltb}
+use lib.Dec.{ltb, lit<}
 use lib.ListN.{length, getD}
 use lib.Ieee.{Float, nan}
 use Rattle.lists.specs.Four.{at, four}
@@ -23,6 +23,13 @@ pub record Inner (n c : List ℕ) : Type 0 where
   pub c1 : at c 1 ≤ at n 1
   pub c2 : at c 2 ≤ at n 2
   pub c3 : at c 3 ≤ at n 3
+
+pub inner-of : {n c : List ℕ} → ((k : ℕ) → k < 4 → at c k ≤ at n k) → Inner n c
+inner-of h = record { c0 = h 0 (lit< tt); c1 = h 1 (lit< tt); c2 = h 2 (lit< tt); c3 = h 3 (lit< tt) }
+
+-- lengths that are no greater have no greater count
+pub count-inner : {n c : List ℕ} → Inner n c → count c ≤ count n
+count-inner {n} {c} i = rw (count-is n, count-is c) (mul-le-mul (i .c0) (mul-le-mul (i .c1) (mul-le-mul (i .c2) (i .c3))))
 
 pub inner-inside : {n c i : List ℕ} → Inner n c → Inside c i → Inside n i
 inner-inside h t = record { i0 = omega arith; i1 = omega arith; i2 = omega arith; i3 = omega arith }

@@ -27,14 +27,14 @@ use Rattle.shape_words.specs.Rules.{Ruled, ruled-at}
 use Rattle.shape_words.specs.Lengths.{Lengths, lengths-of, lengths-pos, count-pos, count-most}
 use Rattle.shape_words.specs.Places.{place-index}
 use Rattle.gates.specs.Gate.{PairReady}
-use Rattle.blocks.specs.Rows.{Inner}
+use Rattle.blocks.specs.Rows.{Inner, inner-of}
 use Rattle.blocks.specs.Same.{sameLengths, same-is, same-count, cut-all}
 use Rattle.blocks.specs.Two.{Two, Holds, cutPlaces, cut-is}
 use Rattle.laws_exact.specs.Sits.{Sits, cut-at}
 use Rattle.laws_exact.specs.Running.{multiplied-fits}
 use Rattle.laws_exact.specs.ProductKeeps.{product-keeps}
 use Rattle.product.specs.Room.{Under, Room, Times, Whole, Put, Stands, Made}
-use Rattle.product.specs.Ways.{under-lengths, inner-of, count-less, shape-under, shape-left, shape-right}
+use Rattle.product.specs.Ways.{under-lengths, count-less, shape-under, shape-left, shape-right}
 
 -- cutting changes nothing where all lies under the limits
 pub cut-none : {l : List ℕ} {b : Block} → Sits l b → cut l b ≡ b

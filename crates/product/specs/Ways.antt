@@ -27,7 +27,7 @@ use Rattle.model.specs.Add.{joined, joinedBlock}
 use Rattle.model.specs.General.{general}
 use Rattle.model.specs.Product.{isConstant, isOne, way, justC, chosen, scaled, grown, raised, raisedAt, constantBlock, plainProduct, linearProduct, productOf}
 use Rattle.shape_words.specs.Lengths.{Lengths, count-is}
-use Rattle.blocks.specs.Rows.{Inner}
+use Rattle.blocks.specs.Rows.{Inner, count-inner, inner-of}
 use Rattle.product_general.specs.Rows.{Multiplying}
 use Rattle.blocks.specs.Combine.{Combining}
 use Rattle.laws_exact.specs.Sits.{Sits, sum-at}
@@ -51,12 +51,6 @@ under-lengths {l} {n} u c =
 
 pub lengths-most : {n : List ℕ} → Lengths n → (k : ℕ) → k < 4 → at n k ≤ 64
 lengths-most {n} g = each (λ k. at n k ≤ 64) (g .m0) (g .m1) (g .m2) (g .m3)
-
-pub inner-of : {n c : List ℕ} → ((k : ℕ) → k < 4 → at c k ≤ at n k) → Inner n c
-inner-of h = record { c0 = h 0 (lit< tt); c1 = h 1 (lit< tt); c2 = h 2 (lit< tt); c3 = h 3 (lit< tt) }
-
-pub count-inner : {n c : List ℕ} → Inner n c → count c ≤ count n
-count-inner {n} {c} i = rw (count-is n, count-is c) (mul-le-mul (i .c0) (mul-le-mul (i .c1) (mul-le-mul (i .c2) (i .c3))))
 
 pub count-less : (n c : List ℕ) → ((k : ℕ) → k < 4 → at c k ≤ at n k) → count c ≤ count n
 count-less n c h = count-inner (inner-of h)

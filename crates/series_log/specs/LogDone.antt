@@ -16,7 +16,7 @@ use Rattle.model.specs.Poly.{block}
 use Rattle.model.specs.Quotient.{recurred}
 use Rattle.model.specs.Series.{after, timesWhole, overWhole}
 use Rattle.shape_words.specs.Lengths.{Lengths, count-is}
-use Rattle.blocks.specs.Rows.{Inner}
+use Rattle.blocks.specs.Rows.{Inner, count-inner}
 use Rattle.product_general.specs.Index.{inRow}
 use Rattle.product_general.specs.Product.{stride-at}
 use Rattle.quotient.specs.Room.{Recurring}
@@ -24,10 +24,6 @@ use Rattle.series_gathering.specs.Reach.{Shaped}
 use Rattle.series_gathering.specs.Gather.{rowAt}
 use Rattle.series_log.specs.LogRow.{LogRoom, leftRow, after-lengths, after-inner, count-after, log-fits}
 use Rattle.series_gathering.specs.Kept.{kept-put, row-under}
-
--- lengths that are no greater have no greater count
-count-inner : {n c : List ℕ} → Inner n c → count c ≤ count n
-count-inner {n} {c} i = rw (count-is n, count-is c) (mul-le-mul (i .c0) (mul-le-mul (i .c1) (mul-le-mul (i .c2) (i .c3))))
 
 -- ---- the inner quotient
 

@@ -21,7 +21,7 @@ use Rattle.gates.specs.Gate.{PairReady}
 use Rattle.shape_words.specs.Rules.{Ruled, ruled-at}
 use Rattle.shape_words.specs.Lengths.{Lengths, lengths-of, count-is}
 use Rattle.shape.specs.Cut.{cut-lengths}
-use Rattle.blocks.specs.Rows.{Inner}
+use Rattle.blocks.specs.Rows.{Inner, count-inner}
 use Rattle.blocks.specs.Two.{Two, Holds, cutPlaces, cut-is}
 use Rattle.blocks.specs.Combine.{Combining}
 
@@ -42,10 +42,6 @@ pub record Summing (la lb l r : List ℕ) (n ma mb mo mw : ℕ) : Type 0 where
 cut-inner : (l n : List ℕ) → Inner n (cutTo l n)
 unfolding cutTo
 cut-inner l n = record { c0 = omega arith; c1 = omega arith; c2 = omega arith; c3 = omega arith }
-
--- lengths that are no greater have no greater count
-count-inner : {n c : List ℕ} → Inner n c → count c ≤ count n
-count-inner {n} {c} i = rw (count-is n, count-is c) (mul-le-mul (i .c0) (mul-le-mul (i .c1) (mul-le-mul (i .c2) (i .c3))))
 
 shape-left : (n m : List ℕ) → Inner (maxShape n m) n
 unfolding maxShape
