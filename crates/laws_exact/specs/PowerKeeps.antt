@@ -21,7 +21,8 @@ use Rattle.model.specs.Power.{squared, powerPoly}
 use Rattle.shape_words.specs.Rules.{Regular, ruled-at}
 use Rattle.shape.specs.Announced.{single-regular, single-limits}
 use Rattle.shape.specs.Keeps.{Keeps, none-keeps}
-use Rattle.laws_exact.specs.Sits.{Sits, cut-at}
+use Rattle.shape.specs.Cut.{cut-at}
+use Rattle.laws_exact.specs.Sits.{Sits}
 use Rattle.laws_exact.specs.Running.{Most, most-more, constant-most, multiplied-most, most-keeps}
 
 -- the exponent's last bit and the rest of it, on y

@@ -18,7 +18,8 @@ use Rattle.model.specs.Add.{joinedBlock}
 use Rattle.model.specs.Product.{isZero, constantBlock, multiplied}
 use Rattle.shape_words.specs.Rules.{Regular}
 use Rattle.shape.specs.Keeps.{Keeps}
-use Rattle.laws_exact.specs.Sits.{Sits, sits-more, cut-at, cut-sits, sum-at, max-at}
+use Rattle.shape.specs.Cut.{cut-at}
+use Rattle.laws_exact.specs.Sits.{Sits, sits-more, cut-sits, sum-at, max-at}
 use Rattle.laws_exact.specs.Keeps.{sits-keeps, joined-sits, joined-under}
 use Rattle.laws_exact.specs.ProductKeeps.{constant-sits, left-fits, shape-under, product-sits}
 

@@ -10,7 +10,7 @@ use Rattle.lists.specs.Four.{at, four, at-four, four-same}
 use Rattle.model.specs.Header.{count}
 use Rattle.model.specs.Limits.{cutTo, maxShape, sumShape}
 use Rattle.model.specs.Poly.{Block, cut}
-use Rattle.shape.specs.Cut.{cut-full}
+use Rattle.shape.specs.Cut.{cut-full, cut-at}
 use Rattle.shape_words.specs.Spans.{count-one}
 
 pub record Sits (r : List ℕ) (b : Block) : Type 0 where
@@ -25,10 +25,6 @@ sits-more h s = record { ns = s .ns; lo = s .lo; hi = λ k l. le-trans (s .hi k 
 -- under its own lengths
 pub sits-self : {r : List ℕ} {b : Block} → Sits r b → Sits (b .lengths) b
 sits-self s = record { ns = s .ns; lo = s .lo; hi = λ k l. le-refl _; full = s .full }
-
-pub cut-at : (l n : List ℕ) (k : ℕ) → k < 4 → at (cutTo l n) k ≡ min (at l k) (at n k)
-unfolding cutTo
-cut-at l n = at-four (λ k. min (at l k) (at n k))
 
 pub cut-sits : (l : List ℕ) (b : Block) → ((k : ℕ) → k < 4 → 1 ≤ at l k) → ((k : ℕ) → k < 4 → 1 ≤ at (b .lengths) k) → Sits l (cut l b)
 unfolding cut cutTo

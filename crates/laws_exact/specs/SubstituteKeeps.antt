@@ -31,7 +31,8 @@ use Rattle.shape.specs.Limits.{min-limit-pos}
 use Rattle.shape.specs.Announced.{paired-regular}
 use Rattle.shape.specs.Under.{under-same}
 use Rattle.shape.specs.Keeps.{Keeps}
-use Rattle.laws_exact.specs.Sits.{Sits, cut-at}
+use Rattle.shape.specs.Cut.{cut-at}
+use Rattle.laws_exact.specs.Sits.{Sits}
 use Rattle.laws_exact.specs.Keeps.{limitsOf}
 use Rattle.laws_exact.specs.ProductKeeps.{set-four}
 use Rattle.laws_exact.specs.Ways.{linear-is, line-two}

@@ -19,7 +19,7 @@ use Rattle.model.specs.Poly.{Block, block, readAt}
 use Rattle.model.specs.Substitute.{rowAt}
 use Rattle.model_textbook.specs.Textbook.{seriesOf, coefficientOf}
 use Rattle.shape_words.specs.Lengths.{Inside, is-inside, inside-four, inside-at}
-use Rattle.laws_exact.specs.Sits.{cut-at}
+use Rattle.shape.specs.Cut.{cut-at}
 use Rattle.laws_exact.specs.Wholes.{Wholes, Is, whole-at, stored-at, past-at, index-read, wholes-at}
 use Rattle.laws_exact.specs.Firsts.{outside}
 

@@ -26,11 +26,12 @@ use Rattle.model.specs.Product.{isZero, constantBlock, productOf, multiplied, p
 use Rattle.shape_words.specs.Rules.{Ruled, ruled-at}
 use Rattle.shape_words.specs.Lengths.{Lengths, lengths-of, lengths-pos, count-pos, count-most}
 use Rattle.shape_words.specs.Places.{place-index}
+use Rattle.shape.specs.Cut.{cut-at}
 use Rattle.gates.specs.Gate.{PairReady}
 use Rattle.blocks.specs.Rows.{Inner, inner-of}
 use Rattle.blocks.specs.Same.{sameLengths, same-is, same-count, cut-all}
 use Rattle.blocks.specs.Two.{Two, Holds, cutPlaces, cut-is}
-use Rattle.laws_exact.specs.Sits.{Sits, cut-at}
+use Rattle.laws_exact.specs.Sits.{Sits}
 use Rattle.laws_exact.specs.Running.{multiplied-fits}
 use Rattle.laws_exact.specs.ProductKeeps.{product-keeps}
 use Rattle.product.specs.Room.{Under, Room, Times, Whole, Put, Stands, Made}

@@ -22,14 +22,12 @@ use Rattle.product_general.specs.Index.{inRow}
 use Rattle.product_general.specs.Product.{stepAt, stride-at, row-in, first-in}
 use Rattle.product_general.specs.Rows.{Strided, Rowing}
 use Rattle.product_general.specs.Pairs.{Paired, paired-end, fromOn}
+use Rattle.product_general.specs.Bounds.{length-on}
 use Rattle.product_lines.specs.Fours.{Summing}
 use Rattle.quotient_levels.specs.Room.{Dividing, Taking, Single}
 use Rattle.quotient_levels.specs.Level.{takenAt}
 
 -- ---- row by row
-
-length-on : (p : ℕ) (xs : List Float) → length (fromOn xs p) ≡ length xs - p
-length-on p xs = simp (length-take, length-drop) (omega arith)
 
 -- a turn of the loop: the rows that are multiplied lie in their blocks
 module _ {ly sy r sr : List ℕ} (g : Strided r sr ly sy r sr) {v k j mr : ℕ} (done ys : List Float)

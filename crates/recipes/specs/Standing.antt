@@ -26,7 +26,7 @@ use Rattle.model_recipes.specs.Run.{inputValues, operations, valueAt}
 use Rattle.shape_words.specs.Lengths.{lengths-of, count-most}
 use Rattle.recipes_kinds.specs.Known.{Known, head-at}
 use Rattle.recipes_check.specs.Counts.{word-ruled}
-use Rattle.recipes_operands.specs.Lent.{source, lying, Lies}
+use Rattle.recipes_operands.specs.Lent.{source, lying, Lies, length-source}
 use Rattle.recipes_steps.specs.Ready.{valueOf, Placed, Ready}
 
 -- the value of the place q, by its word and its start; k inputs
@@ -114,10 +114,6 @@ pub record At (input : Bool) (from : ℕ) (cs before : List Float) (v : Poly) : 
 
 pub at-lying : {input : Bool} {from : ℕ} {cs before : List Float} {v : Poly} → At input from cs before v → lying input cs before from (v .head) ≡ v
 at-lying {v = v} a = ap (poly (v .head)) (sym (a .holds))
-
-length-source : (input : Bool) (cs before : List Float) → length (source input cs before) ≡ cond input (length cs) (length before)
-length-source true cs before = refl
-length-source false cs before = refl
 
 pub at-lies : {input : Bool} {from at : ℕ} {cs before : List Float} {v : Poly} → At input from cs before v
     → length before ≡ at → Lies (v .head) input from at (length cs)

@@ -35,7 +35,7 @@ pub record Lent (n at mp ms : ℕ) : Type 0 where
   pub spare : 8 * n ≤ ms
   pub small : n ≤ 4096
 
-length-source : (input : Bool) (cs pool : List Float) → length (source input cs pool) ≡ cond input (length cs) (length pool)
+pub length-source : (input : Bool) (cs pool : List Float) → length (source input cs pool) ≡ cond input (length cs) (length pool)
 length-source true cs pool = refl
 length-source false cs pool = refl
 

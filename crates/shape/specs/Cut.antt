@@ -20,7 +20,7 @@ use lib.Dec.{lit<}
 use Rattle.shape_words.specs.Lengths.{Lengths, Inside, inside-is, is-inside, inside-four, inside-at}
 use Rattle.shape_words.specs.Places.{place-lt, index-place}
 
-cut-at : (l n : List ℕ) (k : ℕ) → k < 4 → at (cutTo l n) k ≡ min (at l k) (at n k)
+pub cut-at : (l n : List ℕ) (k : ℕ) → k < 4 → at (cutTo l n) k ≡ min (at l k) (at n k)
 unfolding cutTo
 cut-at l n = at-four (λ k. min (at l k) (at n k))
 

@@ -21,9 +21,10 @@ use Rattle.model.specs.Add.{joinedBlock}
 use Rattle.model.specs.Product.{isZero, constantBlock, multiplied}
 use Rattle.model.specs.Substitute.{rowAt, horner}
 use Rattle.shape_words.specs.Lengths.{lengths-pos}
+use Rattle.shape.specs.Cut.{cut-at}
 use Rattle.blocks.specs.Two.{cutPlaces, cut-is}
 use Rattle.readings_row.specs.Rows.{Picking}
-use Rattle.laws_exact.specs.Sits.{Sits, cut-at, sum-at, max-at, sits-more}
+use Rattle.laws_exact.specs.Sits.{Sits, sum-at, max-at, sits-more}
 use Rattle.laws_exact.specs.Keeps.{joined-sits, joined-under}
 use Rattle.laws_exact.specs.ProductKeeps.{constant-sits, shape-under}
 use Rattle.laws_exact.specs.Running.{multiplied-sits}
