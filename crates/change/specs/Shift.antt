@@ -28,8 +28,7 @@ use Rattle.shape.specs.Announced.{single-regular}
 use Rattle.shape.specs.Keeps.{Keeps}
 use Rattle.readings.specs.Kept.{full-keeps}
 use Rattle.product_linear.specs.Rows.{Rows}
-use Rattle.product.specs.Room.{Raising}
-use Rattle.product.specs.Raise.{raise-rows, raise-small}
+use Rattle.product_linear.specs.Raise.{raise-rows, raise-small, Raising}
 use Rattle.change.specs.Room.{Shifted}
 use Rattle.change.specs.Room.{PartRoom}
 use Rattle.change.specs.Parts.{Others, Sits, sits}

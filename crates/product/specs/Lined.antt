@@ -22,8 +22,9 @@ use Rattle.model.specs.Product.{constantBlock, scaled, scaledAt, grown, raised,
 use Rattle.shape_words.specs.Lengths.{inside-is, is-inside}
 use Rattle.shape_words.specs.Places.{place-lt, place-index, index-inside}
 use Rattle.blocks.specs.Combine.{way-both}
-use Rattle.product.specs.Room.{linedAt, RaisesTo, Put, Stands}
+use Rattle.product.specs.Room.{RaisesTo, Put, Stands}
 use Rattle.product.specs.Ways.{count-less, grown-under, grown-in, put-stands, raises-whole}
+use Rattle.product_linear.specs.Raise.{linedAt}
 
 -- ---- the block
 

@@ -22,7 +22,7 @@ use Rattle.model.specs.Product.{scaledAt, chosen}
 use Rattle.shape_words.specs.Rules.{Good}
 use Rattle.shape_words.specs.Lengths.{Lengths}
 use Rattle.product_kept.specs.Kept.{Keeps}
-use Rattle.product.specs.Room.{linedAt}
+use Rattle.product_linear.specs.Raise.{linedAt}
 
 -- the way of two blocks is that by a constant or a linear factor on the right, c neither zero nor one
 pub record Light (a b : Block) (w : Way) : Type 0 where

@@ -25,11 +25,12 @@ use Rattle.model.specs.Product.{isConstant, isZero, constantBlock, scaled, scal
 use Rattle.product_kept.specs.Kept.{KeepsLength}
 use Rattle.laws_exact.specs.Sits.{Sits}
 use Rattle.laws_exact.specs.Ways.{linear-is, line-two}
-use Rattle.product.specs.Room.{linedAt, Caps, Raising, RaisesTo}
+use Rattle.product.specs.Room.{Caps, RaisesTo}
 use Rattle.product.specs.Ways.{sits-under, chosen-five, product-five, product-plain, plain-3}
 use Rattle.product.specs.Lined.{neither, by-scale, lined-block}
 use Rattle.product.specs.Times.{cut-none}
 use Rattle.product.specs.Own.{Light, ShortBlock, shortPlaces}
+use Rattle.product_linear.specs.Raise.{linedAt, Raising}
 
 -- a light factor is no zero
 not-zero : (a b : Block) (w : Way) → Light a b w → isConstant a ≡ false → isZero b ≡ false

@@ -31,7 +31,8 @@ use Rattle.blocks.specs.Rows.{Inner, count-inner, inner-of}
 use Rattle.product_general.specs.Rows.{Multiplying}
 use Rattle.blocks.specs.Combine.{Combining}
 use Rattle.laws_exact.specs.Sits.{Sits, sum-at}
-use Rattle.product.specs.Room.{lineWay, Caps, Under, RaisesTo, Raising, Plain, Joins, Put, Stands, Made}
+use Rattle.product.specs.Room.{lineWay, Caps, Under, RaisesTo, Plain, Joins, Put, Stands, Made}
+use Rattle.product_linear.specs.Raise.{Raising}
 
 -- ---- lengths
 

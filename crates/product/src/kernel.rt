@@ -22,7 +22,8 @@ ghost use Rattle.model.specs.Add.{joinedBlock};
 ghost use Rattle.model.specs.Product.{isZero, justC, constantBlock, scaled, grown, raisedAt, raised, chosen};
 ghost use Rattle.model.specs.Product.{plainProduct, linearProduct, productOf, multiplied};
 ghost use Rattle.shape_words.specs.Lengths.{Lengths};
-ghost use Rattle.product.specs.Room.{lineWay, Raising, RaisesTo, linedAt, Plain, Joins, Room, LineRoom, Whole, LineWhole, Times, Put, Stands, Made};
+ghost use Rattle.product_linear.specs.Raise.{Raising, linedAt};
+ghost use Rattle.product.specs.Room.{lineWay, RaisesTo, Plain, Joins, Room, LineRoom, Whole, LineWhole, Times, Put, Stands, Made};
 
 // A constant alone.
 fn just(c: f64) -> Linear

@@ -14,8 +14,7 @@ use Rattle.model.specs.Limits.{cutTo}
 use Rattle.model.specs.Poly.{block, readAt}
 use Rattle.model.specs.Substitute.{powered}
 use Rattle.product_linear.specs.Rows.{Rows}
-use Rattle.product.specs.Room.{Raising}
-use Rattle.product.specs.Raise.{raise-rows, raise-small, row-of}
+use Rattle.product_linear.specs.Raise.{raise-rows, raise-small, row-of, Raising}
 use Rattle.substitution_powers.specs.Powers.{power, byPart, Whole}
 use Rattle.substitution.specs.Room.{Cuts}
 

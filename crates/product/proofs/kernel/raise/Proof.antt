@@ -3,7 +3,7 @@ use mathlib.Core.Path.{refl, ap}
 use mathlib.Core.List.{List}
 use Prim.Native.Nat.{ℕ}
 use Rattle.lists.specs.Four.{at}
-use Rattle.product.specs.Raise.{raise-rows, raise-small, raise-is}
+use Rattle.product_linear.specs.Raise.{raise-rows, raise-small, raise-is}
 use borrow.Author.Needs.{needs}
 use Rattle.product.proofs.kernel.raise.Statement.{statement}
 use Rattle.product.proofs.kernel.raise.Tie as tie

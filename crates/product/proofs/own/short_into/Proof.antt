@@ -4,7 +4,7 @@ use mathlib.Core.Path.{refl, ap}
 use Prim.Native.Nat.{ℕ}
 use native.Mathlib.Nat.{le-refl}
 use Rattle.lists.specs.Four.{at}
-use Rattle.product.specs.Raise.{raise-rows, raise-small, lined-rows, lined-is}
+use Rattle.product_linear.specs.Raise.{raise-rows, raise-small, lined-rows, lined-is}
 use Rattle.product.specs.Short.{short-raising, scaled-short, lined-short}
 use borrow.Author.Needs.{needs}
 use Rattle.product.proofs.own.short_into.Statement.{statement}

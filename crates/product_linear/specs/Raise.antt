@@ -2,7 +2,7 @@
 -- before v.
 use Prim.Native.Nat.{ℕ, zero, suc, _+_, _-_, _*_, _/_, _%_, _≤_, _<_}
 use mathlib.Core.List.{List, [], _∷_}
-use mathlib.Core.Bool.{false}
+use mathlib.Core.Bool.{false, cond}
 use mathlib.Core.Path.{_≡_, refl, sym, ap, _∙_}
 use native.Mathlib.Omega.{arith}
 use native.Mathlib.Nat.{div-add-mod', mod-lt, div-lt-iff-lt-mul, mul-le-mul-right, add-mul, mul-one, one-mul, mul-assoc}
@@ -18,14 +18,28 @@ use Rattle.lists.specs.Table.{table, table-same}
 use Rattle.model.specs.Header.{count, span}
 use Rattle.model.specs.Places.{strides, place, index, inside}
 use Rattle.model.specs.Refusals.{zeroF}
-use Rattle.model.specs.Poly.{block, readAt}
+use Rattle.model.specs.Poly.{Block, block, readAt}
 use Rattle.model.specs.Product.{raisedAt}
+use Rattle.shape_words.specs.Lengths.{Lengths}
 use Rattle.shape_words.specs.Lengths.{Inside, count-is, count-pos, count-most, lengths-pos, inside-at, inside-four, inside-is, is-inside}
 use Rattle.shape_words.specs.Places.{horner, place-index, index-inside}
 use Rattle.product_linear.specs.Rows.{raisedFlat, linedFlat, Rows}
-use Rattle.product.specs.Room.{linedAt, Raising}
 
--- for the crates above, which go by such rows too
+-- under a linear factor, c and m, at an index of the result: what is shifted there added to +0.0, then c times the
+-- block, as far as it reaches
+abbrev pub linedAt : ℕ → Float → Float → Block → List ℕ → Float
+linedAt v c m b i =
+    cond (inside (b .lengths) i) (add binary64 (add binary64 zeroF (raisedAt v m b i)) (mul binary64 c (readAt b i))) (add binary64 zeroF (raisedAt v m b i))
+
+-- r the lengths n with one row more in v, or as many
+pub record Raising (n : List ℕ) (v : ℕ) (r : List ℕ) (ma mt : ℕ) : Type 0 where
+  pub var : v < 4
+  pub from : Lengths n
+  pub to : Lengths r
+  pub other : (w : ℕ) → w < 4 → (w ≡ v → ⊥) → at r w ≡ at n w
+  pub one : at r v ≤ at n v + 1
+  pub room : count n ≤ ma
+  pub full : mt ≡ count r
 
 -- ---- a place in three parts: the variables before v, v, those after it
 
