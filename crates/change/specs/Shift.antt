@@ -25,8 +25,7 @@ use Rattle.model.specs.Shifts.{inRow, rowSum, shiftDownPoly}
 use Rattle.shape_words.specs.Rules.{Ruled, Regular, ruled-at}
 use Rattle.shape_words.specs.Lengths.{lengths-of}
 use Rattle.shape.specs.Announced.{single-regular}
-use Rattle.shape.specs.Keeps.{Keeps}
-use Rattle.readings.specs.Kept.{full-keeps}
+use Rattle.shape.specs.Keeps.{Keeps, full-keeps}
 use Rattle.product_linear.specs.Rows.{Rows}
 use Rattle.product_linear.specs.Raise.{raise-rows, raise-small, Raising}
 use Rattle.change.specs.Room.{Shifted}

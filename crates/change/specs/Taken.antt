@@ -27,8 +27,7 @@ use Rattle.model.specs.Constructed.{wholeF}
 use Rattle.model.specs.Poly.{Poly, poly, blockOf}
 use Rattle.model.specs.Shifts.{inRow, rowsFrom, derivativeFactor, derivativePoly, coefficientFactor, expansionPoly}
 use Rattle.shape_words.specs.Rules.{Ruled, ruled-at}
-use Rattle.shape.specs.Keeps.{Keeps}
-use Rattle.readings.specs.Kept.{ones-keeps, full-keeps}
+use Rattle.shape.specs.Keeps.{Keeps, full-keeps, ones-keeps}
 use Rattle.change.specs.Room.{Shifted}
 use Rattle.change_factors.specs.Stripes.{Scaling}
 use Rattle.change.specs.Shift.{shift-regular, shifted-row, shift-rows, shift-small, shift-sits, shift-read}
