@@ -19,8 +19,8 @@ use Rattle.model.specs.Poly.{Poly, poly}
 use Rattle.model.specs.Negate.{negatedAt, negated}
 use Rattle.model.specs.Shifts.{shiftDownPoly}
 use Rattle.shape_words.specs.Rules.{Regular}
+use Rattle.shape.specs.Announced.{same-header}
 use Rattle.readings_row.specs.Term.{padded-full}
-use Rattle.sums.specs.Negate.{same-header}
 use Rattle.change.specs.Room.{Shifted}
 use Rattle.change.specs.Shift.{shift-down-keeps}
 use Rattle.change_factors.specs.Scale.{scaledPoly}

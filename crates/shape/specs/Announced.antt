@@ -122,3 +122,8 @@ shift-limits v n a = refl
 pub single-limits : (f : Family) {a : Header} → Regular a → ((k : ℕ) → limitAfter f k (limit a k) ≡ limit a k) → single f a .limits ≡ a .limits
 unfolding single
 single-limits f {a} g h = (rw (h 0, h 1, h 2, h 3)) ∙ sym (g .ls)
+
+-- the announced header of a header that keeps the rules is that header
+pub same-header : {h : Header} → Regular h → announced Same h noHeader ≡ h
+unfolding announced single
+same-header {h} r = let e : h ≡ single Same h = λ i. record { vars = h .vars; limits = r .ls i; lengths = r .ns i } in sym e

@@ -18,12 +18,8 @@ use Rattle.model.specs.Gates.{announcedOne}
 use Rattle.model.specs.Negate.{negatedAt, negated, negateGate, negateAnswer, negateOut}
 use Rattle.shape_words.specs.Rules.{Regular}
 use Rattle.shape_words.specs.Words.{pack-unpack}
+use Rattle.shape.specs.Announced.{same-header}
 use Rattle.gates.specs.Gate.{OneReady, one-ready, answer-no, answer-yes, leaves-no, leaves-yes, written-full}
-
--- the announced header of a header that keeps the rules is that header
-pub same-header : {h : Header} → Regular h → announced Same h noHeader ≡ h
-unfolding announced single
-same-header {h} r = let e : h ≡ single Same h = λ i. record { vars = h .vars; limits = r .ls i; lengths = r .ns i } in sym e
 
 -- refused
 module _ (w : ℕ) (a out : List Float) {r : Refusal} (e : r ≡ negateGate w a out) (n : r .number ≡ 0 → ⊥) where
