@@ -4,17 +4,15 @@ use mathlib.Core.List.{List, _++_}
 use mathlib.Core.Bool.{cond}
 use mathlib.Core.Path.{_≡_}
 use lib.ListN.{length, take, drop}
-use lib.Ieee.{Float, add, mul, binary64}
+use lib.Ieee.{Float}
 use Rattle.lists.specs.Part.{Below}
 use Rattle.lists.specs.Four.{at, four}
 use Rattle.model.specs.declared.Way.{Way}
 use Rattle.model.specs.Header.{count}
 use Rattle.model.specs.Limits.{cutTo, sumShape, maxShape}
-use Rattle.model.specs.Refusals.{zeroF}
-use Rattle.model.specs.Places.{inside}
-use Rattle.model.specs.Poly.{Block, readAt}
+use Rattle.model.specs.Poly.{Block}
 use Rattle.model.specs.Linear.{noLinear, linear}
-use Rattle.model.specs.Product.{way, grown, raisedAt}
+use Rattle.model.specs.Product.{way, grown}
 use Rattle.shape_words.specs.Lengths.{Lengths}
 
 -- which way, where neither is a constant and a line is looked for

@@ -4,15 +4,14 @@ use mathlib.Core.List.{List, [], _∷_, _++_}
 use mathlib.Core.Bool.{Bool, true, false, _&&_, cond}
 use mathlib.Core.Path.{_≡_, refl, sym, ap, _∙_}
 use native.Mathlib.Omega.{arith}
-use native.Mathlib.Nat.{le-trans, le-refl, mul-le-mul}
+use native.Mathlib.Nat.{le-trans, le-refl}
 use lib.Dec.{eqb, lit<}
-use lib.ListN.{length, take, drop, set, length-append, length-take, length-drop}
-use lib.Seq.{take-at, drop-at, drop-drop, length-take-le}
-use borrow.Rule.Slice.PartMut.{putMid}
+use lib.ListN.{length, drop, set}
+use lib.Seq.{take-at}
 use lib.Ieee.{Float, eq}
 use borrow.Author.Tests.{eq-eqb, ne-eqb, eqb-false}
 use Rattle.lists.specs.Table.{table, length-table}
-use Rattle.lists.specs.Part.{below-same, Kept}
+use Rattle.lists.specs.Part.{below-same}
 use Rattle.lists.specs.Four.{at, four, at-four, each, long, one-changed, at-same, at-other}
 use Rattle.model.specs.declared.Linear.{Linear}
 use Rattle.model.specs.declared.Way.{Way}
@@ -26,8 +25,8 @@ use Rattle.model.specs.Linear.{noLinear, linear}
 use Rattle.model.specs.Add.{joined, joinedBlock}
 use Rattle.model.specs.General.{general}
 use Rattle.model.specs.Product.{isConstant, isOne, way, justC, chosen, scaled, grown, raised, raisedAt, constantBlock, plainProduct, linearProduct, productOf}
-use Rattle.shape_words.specs.Lengths.{Lengths, count-is}
-use Rattle.blocks.specs.Rows.{Inner, count-inner, inner-of}
+use Rattle.shape_words.specs.Lengths.{Lengths}
+use Rattle.blocks.specs.Rows.{count-inner, inner-of}
 use Rattle.product_general.specs.Rows.{Multiplying}
 use Rattle.blocks.specs.Combine.{Combining}
 use Rattle.laws_exact.specs.Sits.{Sits, sum-at}

@@ -4,7 +4,7 @@ use mathlib.Core.List.{List, [], _∷_}
 use mathlib.Core.Path.{_≡_, refl, sym, ap, _∙_}
 use native.Mathlib.Omega.{arith}
 use native.Mathlib.Nat.{mul-le-mul-right, suc-mul, zero-mul}
-use lib.ListN.{length, getD, set, length-take, length-drop}
+use lib.ListN.{length, getD, set}
 use lib.Seq.{getD-drop}
 use lib.Ieee.{Float, nan, add, mul, binary64}
 use Rattle.lists.specs.Four.{at, each, at-four}

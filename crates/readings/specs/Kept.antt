@@ -1,24 +1,19 @@
 -- Every constructor, `taylor_polynomial` and `coefficients_of_term` keep what an operation owes of its result.
 use Prim.Native.Nat.{ℕ, _<_}
 use mathlib.Core.List.{List, [], _∷_}
-use mathlib.Core.Path.{_≡_, refl, sym}
-use native.Mathlib.Omega.{arith}
+use mathlib.Core.Path.{refl, sym}
 use lib.Dec.{leb}
-use lib.ListN.{length}
 use lib.Ieee.{Float}
 use borrow.Author.Tests.{leb-true, leb-false}
 use Rattle.lists.specs.Test.{decide}
-use Rattle.lists.specs.Four.{at-four}
 use Rattle.lists.specs.Table.{length-table}
-use Rattle.model.specs.declared.Header.{Header}
 use Rattle.model.specs.declared.Family.the-variants.{Term, Order}
-use Rattle.model.specs.Header.{header, len, span, stored, ones, noHeader, zeroWith, varWith}
+use Rattle.model.specs.Header.{header, len, stored, noHeader, zeroWith, varWith}
 use Rattle.model.specs.Announced.{announced}
 use Rattle.model.specs.Refusals.{zeroF}
-use Rattle.model.specs.Poly.{Poly, poly}
+use Rattle.model.specs.Poly.{Poly}
 use Rattle.model.specs.Readings.{taylorPolynomial, coefficientsOfTerm, oneF}
-use Rattle.shape_words.specs.Rules.{GoodVar, Ruled, Regular, ruled-at}
-use Rattle.shape.specs.Under.{under-same}
+use Rattle.shape_words.specs.Rules.{Ruled, Regular}
 use Rattle.shape.specs.Keeps.{Keeps, ones-keeps, full-keeps}
 use Rattle.model.specs.Constructed.{constant, variable}
 use lib.Seq.{length-take-le}

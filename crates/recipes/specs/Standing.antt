@@ -1,19 +1,18 @@
 -- Where the values of a run's places stand: an input's among the coefficients, a step's in the pool, each from its
 -- start on.
 use Prim.Native.Nat.{ℕ, zero, suc, _+_, _-_, _*_, _^_, _≤_, _<_}
-use mathlib.Core.Bool.{Bool, true, false, cond}
+use mathlib.Core.Bool.{Bool, true, false}
 use mathlib.Core.List.{List, [], _∷_, _++_}
 use mathlib.Core.Path.{_≡_, refl, sym, ap, _∙_}
 use native.Mathlib.Omega.{arith}
 use native.Mathlib.Numerals.{add-one}
-use native.Mathlib.Nat.{zero-add, suc-add}
 use lib.Dec.{ltb, eqb}
 use lib.ListN.{length, getD, set, take, drop, length-drop, length-set, length-map}
-use lib.Seq.{take-at, take-take, drop-drop, take-nil, length-take-le, getD-set-same, getD-set-other, take-suc}
+use lib.Seq.{take-at, take-take, drop-drop, length-take-le, getD-set-same, getD-set-other, take-suc}
 use lib.Ieee.{Float}
 use borrow.Author.Tests.{eqb-true, eqb-false}
 use Rattle.lists.specs.Test.{decide}
-use Rattle.lists.specs.Part.{part, Kept, drop-take}
+use Rattle.lists.specs.Part.{Kept, drop-take}
 use Rattle.model.specs.declared.Header.{Header}
 use Rattle.model_recipes.specs.declared.Step.{Step}
 use Rattle.model.specs.Header.{stored, noHeader}

@@ -3,7 +3,7 @@ use Prim.Native.Nat.{ℕ, _+_, _-_, _*_, _≤_}
 use mathlib.Core.List.{List, _++_}
 use mathlib.Core.Path.{_≡_, sym, ap, _∙_}
 use native.Mathlib.Omega.{arith}
-use native.Mathlib.Nat.{mul-le-mul-right, mul-le-mul, zero-mul}
+use native.Mathlib.Nat.{mul-le-mul-right, zero-mul}
 use lib.ListN.{length, take, drop, length-append, length-drop}
 use lib.Seq.{take-at, take-all}
 use lib.Ieee.{Float}
@@ -15,7 +15,7 @@ use Rattle.model.specs.Header.{count}
 use Rattle.model.specs.Poly.{block}
 use Rattle.model.specs.Quotient.{recurred}
 use Rattle.model.specs.Series.{after, timesWhole, overWhole}
-use Rattle.shape_words.specs.Lengths.{Lengths, count-is}
+use Rattle.shape_words.specs.Lengths.{Lengths}
 use Rattle.blocks.specs.Rows.{Inner, count-inner}
 use Rattle.product_general.specs.Index.{inRow}
 use Rattle.product_general.specs.Product.{stride-at}

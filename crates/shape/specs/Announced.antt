@@ -11,7 +11,7 @@ use Rattle.lists.specs.Four.{at, four}
 use Rattle.model.specs.declared.Header.{Header}
 use Rattle.model.specs.declared.Family.{Family}
 use Rattle.model.specs.declared.Family.the-variants.{Constant, Same, Sum, Product, Quotient, Series, Power, Shift, Substitution, Term, Order}
-use Rattle.model.specs.Header.{header, limit, len}
+use Rattle.model.specs.Header.{header, limit, len, noHeader}
 use Rattle.model.specs.Limits.{minDegreesP1}
 use Rattle.model.specs.Announced.{lessIn, limitAfter, lengthAfter, single, paired, announced}
 use Rattle.shape_words.specs.Rules.{GoodVar, Ruled, Regular, ruled-at, regular-four, none-regular}

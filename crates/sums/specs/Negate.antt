@@ -7,16 +7,14 @@ use lib.ListN.{length, take}
 use lib.Seq.{getD-take}
 use lib.Ieee.{Float, nan, neg}
 use Rattle.lists.specs.Table.{table, front, table-same, length-table}
-use Rattle.model.specs.declared.Header.{Header}
 use Rattle.model.specs.declared.Refusal.{Refusal}
 use Rattle.model.specs.declared.Answer.the-variants.{Done, Refused}
 use Rattle.model.specs.declared.Family.the-variants.{Same}
 use Rattle.model.specs.Header.{stored, noHeader}
 use Rattle.model.specs.Word.{headerOf, wordOf}
-use Rattle.model.specs.Announced.{announced, single}
+use Rattle.model.specs.Announced.{announced}
 use Rattle.model.specs.Gates.{announcedOne}
 use Rattle.model.specs.Negate.{negatedAt, negated, negateGate, negateAnswer, negateOut}
-use Rattle.shape_words.specs.Rules.{Regular}
 use Rattle.shape_words.specs.Words.{pack-unpack}
 use Rattle.shape.specs.Announced.{same-header}
 use Rattle.gates.specs.Gate.{OneReady, one-ready, answer-no, answer-yes, leaves-no, leaves-yes, written-full}

@@ -4,7 +4,6 @@ use mathlib.Core.List.{List}
 use mathlib.Core.Bool.{Bool}
 use mathlib.Core.Path.{_≡_, refl, sym, ap, _∙_}
 use native.Mathlib.Omega.{arith}
-use native.Mathlib.Nat.{mul-le-mul}
 use lib.ListN.{take, drop}
 use lib.Ieee.{Float}
 use Rattle.lists.specs.Four.{at}
@@ -19,7 +18,7 @@ use Rattle.model.specs.Poly.{block, held, cut}
 use Rattle.model.specs.Add.{joined, joinedBlock, combined}
 use Rattle.gates.specs.Gate.{PairReady}
 use Rattle.shape_words.specs.Rules.{Ruled, ruled-at}
-use Rattle.shape_words.specs.Lengths.{Lengths, lengths-of, count-is}
+use Rattle.shape_words.specs.Lengths.{Lengths, lengths-of}
 use Rattle.shape.specs.Cut.{cut-lengths}
 use Rattle.blocks.specs.Rows.{Inner, count-inner}
 use Rattle.blocks.specs.Two.{Two, Holds, cutPlaces, cut-is}
