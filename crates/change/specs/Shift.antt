@@ -28,8 +28,7 @@ use Rattle.shape.specs.Announced.{single-regular}
 use Rattle.shape.specs.Keeps.{Keeps, full-keeps}
 use Rattle.product_linear.specs.Rows.{Rows}
 use Rattle.product_linear.specs.Raise.{raise-rows, raise-small, Raising}
-use Rattle.change.specs.Room.{Shifted}
-use Rattle.change.specs.Room.{PartRoom}
+use Rattle.change.specs.Room.{Shifted, PartRoom}
 use Rattle.change.specs.Parts.{Others, Sits, sits}
 use Rattle.change_sums.specs.Sums.{sumAt}
 use Rattle.change.specs.Drop.{keptAt, droppedFlat}

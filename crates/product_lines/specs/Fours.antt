@@ -11,8 +11,7 @@ use Rattle.lists.specs.Table.{Filled, filled-more}
 use Rattle.lists.specs.Walk.{walk, walk-split, Walked, walked-none, walked-more, walked-end}
 use Rattle.model.specs.Refusals.{zeroF}
 use Rattle.model.specs.General.{lo, steps, term, line}
-use Rattle.product_lines.specs.Added.{lineAdded}
-use Rattle.product_lines.specs.Added.{line-more}
+use Rattle.product_lines.specs.Added.{lineAdded, line-more}
 
 -- every place that the terms from a up to b of the place k read is there; nx and ny are the lengths of the lists
 pub record Summing (k a b nx ny : ℕ) : Type 0 where

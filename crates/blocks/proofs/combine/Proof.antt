@@ -48,12 +48,5 @@ pub combine-spec : {M : Type 1} → statement M
 combine-spec =
     tie.close
     (tie.spec
-    first-joined-requires
-    (λ c. search needs)
-    returns
-    turned-joined-requires
-    (λ c. search needs)
-    returns-2
-    join-both-requires
-    (λ c. search needs)
-    returns-3)
+    first-joined-requires (λ c. search needs) returns turned-joined-requires (λ c. search needs) returns-2
+    join-both-requires (λ c. search needs) returns-3)

@@ -43,12 +43,5 @@ pub join-both-spec : {M : Type 1} → statement M
 join-both-spec =
     tie.close
     (tie.spec
-    (λ c κs. search needs)
-    join-lines-requires
-    (λ c. search needs)
-    returns
-    (λ c κs. search needs)
-    join-block-requires
-    join-block-requires-2
-    (λ c. search needs)
-    returns-2)
+    (λ c κs. search needs) join-lines-requires (λ c. search needs) returns (λ c κs. search needs) join-block-requires
+    join-block-requires-2 (λ c. search needs) returns-2)

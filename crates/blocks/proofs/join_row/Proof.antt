@@ -1,11 +1,10 @@
-use lib.ListN.{length, take, drop, length-take, length-drop}
+use lib.ListN.{length, take, drop, length-take, length-drop, length, take, drop}
 use mathlib.Core.List.{List}
 use Rattle.model.specs.Places.{place}
 use native.Mathlib.Omega.{arith}
 use native.Mathlib.Nat.{le-refl}
 use mathlib.Core.Path.{_≡_, sym, ap, _∙_}
 use Prim.Native.Nat.{_+_, _-_, _≤_}
-use lib.ListN.{length, take, drop}
 use lib.Ieee.{Float}
 use Rattle.lists.specs.Four.{at}
 use Rattle.lists.specs.Table.{table}
@@ -74,15 +73,5 @@ pub join-row-spec : {M : Type 1} → statement M
 join-row-spec =
     tie.close
     (tie.spec
-    (λ c κs. search needs)
-    place-of-requires
-    (λ c. search needs)
-    add-join-line
-    mul-join-line
-    (λ c. search needs)
-    (λ c. search needs)
-    part-join-line-end
-    join-line-requires
-    (λ c. search needs)
-    returns
-    returns-2)
+    (λ c κs. search needs) place-of-requires (λ c. search needs) add-join-line mul-join-line (λ c. search needs)
+    (λ c. search needs) part-join-line-end join-line-requires (λ c. search needs) returns returns-2)

@@ -95,14 +95,12 @@ next-row-requires c κs =
 
 loop-less : tie.Need-loop-less Inv-loop μ-loop
 loop-less c =
-    let c5 = c .before .before .before .before .before in
-    let start = c5 .before .before .before .before in
+    let c5 = c .before .before .before .before .before in let start = c5 .before .before .before .before in
     let q = start .pre .to .p3 in omega (arith, to-fits c5, to-len c5)
 
 loop-again : tie.Need-loop-again Inv-loop μ-loop
 loop-again c =
-    let c5 = c .before .before .before .before .before in
-    let c6 = c5 .before in
+    let c5 = c .before .before .before .before .before in let c6 = c5 .before in
     let start = c6 .before .before .before in
     let a = start .args in
     let p = start .pre in (
@@ -129,17 +127,5 @@ join-rows-spec =
     (tie.spec
     Inv-loop
     μ-loop
-    (λ c. omega arith)
-    loop-holds
-    add-join-row
-    mul-join-row
-    (λ c. omega arith)
-    (λ c. omega arith)
-    part-join-row-end
-    join-row-requires
-    add-at
-    next-row-requires
-    loop-less
-    loop-again
-    same-length
-    returns)
+    (λ c. omega arith) loop-holds add-join-row mul-join-row (λ c. omega arith) (λ c. omega arith) part-join-row-end
+    join-row-requires add-at next-row-requires loop-less loop-again same-length returns)

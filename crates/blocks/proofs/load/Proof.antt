@@ -20,8 +20,7 @@ copy-requires c κs = let p = (c .before .before .before .before .before) .pre i
 
 returns : tie.Need-returns
 returns c =
-    let c4 = c .before .before .before .before in
-    let start = c4 .before .before .before .before in
+    let c4 = c .before .before .before .before in let start = c4 .before .before .before .before in
     let a = start .args in
     let p = start .pre in
     let e : take (length (a .to .now)) (a .a .now) ≡ take (count (a .c)) (a .a .now) = ap (λ (k : ℕ). take k (a .a .now)) (p .full) in
@@ -46,11 +45,5 @@ pub load-spec : {M : Type 1} → statement M
 load-spec =
     tie.close
     (tie.spec
-    (λ c κs. search needs)
-    copy-requires
-    (λ c. search needs)
-    returns
-    longest-rows-requires
-    load-rows-requires
-    (λ c. search needs)
-    returns-2)
+    (λ c κs. search needs) copy-requires (λ c. search needs) returns longest-rows-requires load-rows-requires
+    (λ c. search needs) returns-2)

@@ -45,9 +45,7 @@ copied : (c : tie.After-copy Inv-loop μ-loop) →
     c .copy .last .1 .0 ≡ take (at (start .args .t3) 3)
     (drop (place (start .args .n) (c .before .before .before .before .before .loop .i)) (start .args .a .now))
 copied c =
-    let c3 = c .before .before .before in
-    let c5 = c3 .before .before in
-    let start = c5 .before .before .before in
+    let c3 = c .before .before .before in let c5 = c3 .before .before in let start = c5 .before .before .before in
     let w : ℕ = at (start .args .t3) 3 in
     let p = to-fits (c .before .before .before .before) in
     let e : c3 .place-of .result + w - c3 .place-of .result ≡ w = omega arith in
@@ -109,8 +107,7 @@ loop-less c =
 
 loop-again : tie.Need-loop-again Inv-loop μ-loop
 loop-again c =
-    let c7 = c .before .before .before .before .before .before .before in
-    let c8 = c7 .before in
+    let c7 = c .before .before .before .before .before .before .before in let c8 = c7 .before in
     let start = c8 .before .before .before in
     let a = start .args in
     let p = start .pre in (
@@ -137,23 +134,6 @@ load-rows-spec =
     (tie.spec
     Inv-loop
     μ-loop
-    (λ c. omega arith)
-    loop-holds
-    place-of-requires
-    add-copy
-    mul-copy
-    (λ c. omega arith)
-    (λ c. omega arith)
-    part-copy-end
-    add-copy-2
-    mul-copy-2
-    (λ c. omega arith)
-    (λ c. omega arith)
-    part-copy-end-2
-    copy-requires
-    add-at
-    next-row-requires
-    loop-less
-    loop-again
-    same-length
-    returns)
+    (λ c. omega arith) loop-holds place-of-requires add-copy mul-copy (λ c. omega arith) (λ c. omega arith)
+    part-copy-end add-copy-2 mul-copy-2 (λ c. omega arith) (λ c. omega arith) part-copy-end-2 copy-requires add-at
+    next-row-requires loop-less loop-again same-length returns)

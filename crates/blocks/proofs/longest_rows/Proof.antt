@@ -49,12 +49,5 @@ longest-rows-spec =
     (tie.spec
     Inv-loop
     μ-loop
-    loop-holds
-    (λ c. omega arith)
-    (λ c. omega arith)
-    merged-requires
-    merged-requires-2
-    sub-left
-    loop-less
-    loop-again
+    loop-holds (λ c. omega arith) (λ c. omega arith) merged-requires merged-requires-2 sub-left loop-less loop-again
     returns)

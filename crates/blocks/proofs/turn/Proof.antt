@@ -4,9 +4,8 @@ use native.Mathlib.Omega.{arith}
 use mathlib.Core.Path.{_≡_, refl, ap}
 use Prim.Native.Nat.{_≤_, _-_}
 use lib.ListN.{length}
-use lib.Ieee.{nan}
+use lib.Ieee.{nan, neg}
 use Rattle.model.specs.Negate.{negatedAt}
-use lib.Ieee.{neg}
 use Rattle.blocks.proofs.turn.Statement.{statement}
 use Rattle.blocks.proofs.turn.Tie as tie
 
@@ -40,13 +39,5 @@ turn-spec =
     (tie.spec
     Inv-loop
     μ-loop
-    loop-holds
-    (λ c. omega arith)
-    (λ c. omega arith)
-    (λ c. omega arith)
-    (λ c. omega arith)
-    (λ c. omega arith)
-    (λ c. omega arith)
-    loop-again
-    same-length
-    returns)
+    loop-holds (λ c. omega arith) (λ c. omega arith) (λ c. omega arith) (λ c. omega arith) (λ c. omega arith)
+    (λ c. omega arith) loop-again same-length returns)

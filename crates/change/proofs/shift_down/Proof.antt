@@ -75,9 +75,7 @@ slice-aggregate-shift-rows-2 c =
 
 shift-rows-requires : tie.Need-shift-rows-requires
 shift-rows-requires c κs =
-    let c3 = c .before .before .before in
-    let c6 = c3 .before .before .before in
-    let c7 = c6 .before in
+    let c3 = c .before .before .before in let c6 = c3 .before .before .before in let c7 = c6 .before in
     let start = c7 .before .before .before .before .before in
     record {
       rules = rw (c6 .header-of .ensures) (ready c7 .one .good .regular .rules);
@@ -96,11 +94,8 @@ pack-requires c κs =
 returns-2 : tie.Need-returns-2
 unfolding shiftDownPoly shiftDownAnswer shiftDownOut
 returns-2 c =
-    let c8 = c .before .before .before .before .before .before .before .before in
-    let c10 = c8 .before .before in
-    let c11 = c10 .before in
-    let c13 = c11 .before .before in
-    let start = c13 .before .before .before in
+    let c8 = c .before .before .before .before .before .before .before .before in let c10 = c8 .before .before in
+    let c11 = c10 .before in let c13 = c11 .before .before in let start = c13 .before .before .before in
     entry-done (c13 .in-gate .ensures) (c11 .if1 .left)
     (announcedOne (Shift (start .args .v) (start .args .n)) (start .args .head))
     (shiftDownPoly (start .args .v) (start .args .n) (held (start .args .head) (start .args .a .now)))
@@ -118,17 +113,6 @@ pub shift-down-spec : {M : Type 1} → statement M
 shift-down-spec =
     tie.close
     (tie.spec
-    (λ c κs. search needs)
-    returns
-    (λ c κs. search needs)
-    (λ c κs. search needs)
-    announced-of-requires
-    stored-of-requires
-    stored-of-requires-2
-    slice-aggregate-shift-rows
-    slice-relend-prefix-shift-rows
-    slice-aggregate-shift-rows-2
-    shift-rows-requires
-    pack-requires
-    (λ c. search needs)
-    returns-2)
+    (λ c κs. search needs) returns (λ c κs. search needs) (λ c κs. search needs) announced-of-requires
+    stored-of-requires stored-of-requires-2 slice-aggregate-shift-rows slice-relend-prefix-shift-rows
+    slice-aggregate-shift-rows-2 shift-rows-requires pack-requires (λ c. search needs) returns-2)

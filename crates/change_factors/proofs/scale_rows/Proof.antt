@@ -118,16 +118,5 @@ scale-rows-spec =
     (tie.spec
     Inv-loop
     μ-loop
-    mul-skip
-    scale-stripe-requires
-    loop-holds
-    add-factor
-    int-to-float-factor
-    int-to-float-factor-2
-    scale-stripe-requires-2
-    add-k
-    add-at
-    loop-less
-    loop-again
-    same-length
-    returns)
+    mul-skip scale-stripe-requires loop-holds add-factor int-to-float-factor int-to-float-factor-2
+    scale-stripe-requires-2 add-k add-at loop-less loop-again same-length returns)

@@ -79,8 +79,7 @@ loop-less c =
 
 loop-again : tie.Need-loop-again Inv-loop μ-loop
 loop-again c =
-    let c5 = c .before .before .before .before .before in
-    let c6 = c5 .before in
+    let c5 = c .before .before .before .before .before in let c6 = c5 .before in
     let start = c6 .before .before .before in
     let l = c6 .loop .inv .done .len in
     let f = fits c5 in
@@ -110,22 +109,6 @@ scale-stripe-spec =
     (tie.spec
     Inv-loop
     μ-loop
-    add-from
-    loop-holds
-    add-put-row
-    mul-put-row
-    (λ c. omega arith)
-    (λ c. omega arith)
-    part-put-row-end
-    add-put-row-2
-    mul-put-row-2
-    (λ c. omega arith)
-    (λ c. omega arith)
-    part-put-row-end-2
-    put-row-requires
-    add-from-2
-    add-at
-    loop-less
-    loop-again
-    same-length
-    returns)
+    add-from loop-holds add-put-row mul-put-row (λ c. omega arith) (λ c. omega arith) part-put-row-end add-put-row-2
+    mul-put-row-2 (λ c. omega arith) (λ c. omega arith) part-put-row-end-2 put-row-requires add-from-2 add-at loop-less
+    loop-again same-length returns)

@@ -19,8 +19,7 @@ fits : (c : tie.In-loop Inv-loop μ-loop) →
     let start = c .before .before .before .before .before .before .before .before in
     c .before .loop .at + length (c .before .before .before .before .clear .last .0) ≤ length (start .args .a .now)
 fits c =
-    let c4 = c .before .before .before .before in
-    let start = c4 .before .before .before .before in
+    let c4 = c .before .before .before .before in let start = c4 .before .before .before .before in
     row-below (length (c4 .clear .last .0)) (c .before .loop .j) (start .args .m) (c .before .loop .inv .1 .0) (omega arith) (rw (whole c4) (start .pre))
 
 clear-requires : tie.Need-clear-requires Inv-loop μ-loop
@@ -54,8 +53,7 @@ add-at c = omega (arith, fits (c .before .before .before .before .before))
 
 loop-again : tie.Need-loop-again Inv-loop μ-loop
 loop-again c =
-    let c6 = c .before .before .before .before .before .before in
-    let c9 = c6 .before .before .before in
+    let c6 = c .before .before .before .before .before .before in let c9 = c6 .before .before .before in
     let e : c6 .loop .at + length (c9 .clear .last .0) - c6 .loop .at ≡ length (c9 .clear .last .0) = omega arith in (
       omega arith,
       (
@@ -81,17 +79,5 @@ sum-rows-spec =
     (tie.spec
     Inv-loop
     μ-loop
-    clear-requires
-    loop-holds
-    add-add-row
-    mul-add-row
-    (λ c. omega arith)
-    (λ c. omega arith)
-    part-add-row-end
-    add-row-requires
-    add-at
-    (λ c. omega arith)
-    (λ c. omega arith)
-    loop-again
-    same-length
-    returns)
+    clear-requires loop-holds add-add-row mul-add-row (λ c. omega arith) (λ c. omega arith) part-add-row-end
+    add-row-requires add-at (λ c. omega arith) (λ c. omega arith) loop-again same-length returns)

@@ -48,8 +48,7 @@ array-read-if3 c = few (c .before)
 returns-3 : tie.Need-returns-3
 unfolding inGate
 returns-3 c =
-    let c8 = c .before .before .before .before .before .before .before .before in
-    let start = c8 .before in
+    let c8 = c .before .before .before .before .before .before .before .before in let start = c8 .before in
     (simp (
       lt-ltb _ _ (known (c .before .before .before)),
       le-ltb _ _ (rw (c .before .before .before .before .before .header-of .ensures) at (c .before .if3 .taken)),
@@ -69,8 +68,7 @@ fits-gate-requires c κs = rw (is-announced c) (one-announced _ _ (ready (c .bef
 returns-4 : tie.Need-returns-4
 unfolding inGate
 returns-4 c =
-    let c8 = c .before .before .before .before .before .before .before .before in
-    let c10 = c8 .before .before in
+    let c8 = c .before .before .before .before .before .before .before .before in let c10 = c8 .before .before in
     let start = c10 .before in
     (simp (
       lt-ltb _ _ (known (c .before .before .before .before .before)),
@@ -81,16 +79,5 @@ pub in-gate-spec : {M : Type 1} → statement M
 in-gate-spec =
     tie.close
     (tie.spec
-    (λ c κs. search needs)
-    returns
-    (λ c κs. search needs)
-    (λ c κs. search needs)
-    returns-2
-    mul-if3
-    array-read-if3
-    (λ c κs. search needs)
-    returns-3
-    (λ c κs. search needs)
-    announced-of-requires
-    fits-gate-requires
-    returns-4)
+    (λ c κs. search needs) returns (λ c κs. search needs) (λ c κs. search needs) returns-2 mul-if3 array-read-if3
+    (λ c κs. search needs) returns-3 (λ c κs. search needs) announced-of-requires fits-gate-requires returns-4)

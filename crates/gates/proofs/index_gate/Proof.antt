@@ -32,8 +32,7 @@ returns-2 c =
 returns-3 : tie.Need-returns-3
 unfolding indexGate
 returns-3 c =
-    let c9 = c .before .before .before .before .before .before .before .before .before in
-    let start = c9 .before in
+    let c9 = c .before .before .before .before .before .before .before .before .before in let start = c9 .before in
     (simp (
       known (c .before .before .before .before),
       not-true (inside (headerOf (start .args .word) .limits) (start .args .i))
@@ -47,8 +46,7 @@ returns-3 c =
 returns-4 : tie.Need-returns-4
 unfolding indexGate
 returns-4 c =
-    let c9 = c .before .before .before .before .before .before .before .before .before in
-    let start = c9 .before in
+    let c9 = c .before .before .before .before .before .before .before .before .before in let start = c9 .before in
     (simp (
       known (c .before .before .before .before),
       not-false (inside (headerOf (start .args .word) .limits) (start .args .i))
@@ -63,14 +61,5 @@ pub index-gate-spec : {M : Type 1} → statement M
 index-gate-spec =
     tie.close
     (tie.spec
-    (λ c κs. search needs)
-    returns
-    (λ c κs. search needs)
-    (λ c κs. search needs)
-    (λ c κs. search needs)
-    returns-2
-    (λ c κs. search needs)
-    (λ c κs. search needs)
-    returns-3
-    (λ c κs. search needs)
-    returns-4)
+    (λ c κs. search needs) returns (λ c κs. search needs) (λ c κs. search needs) (λ c κs. search needs) returns-2
+    (λ c κs. search needs) (λ c κs. search needs) returns-3 (λ c κs. search needs) returns-4)

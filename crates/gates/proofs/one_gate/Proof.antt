@@ -37,10 +37,5 @@ pub one-gate-spec : {M : Type 1} → statement M
 one-gate-spec =
     tie.close
     (tie.spec
-    (λ c κs. search needs)
-    returns
-    (λ c κs. search needs)
-    (λ c κs. search needs)
-    announced-of-requires
-    fits-gate-requires
-    returns-2)
+    (λ c κs. search needs) returns (λ c κs. search needs) (λ c κs. search needs) announced-of-requires
+    fits-gate-requires returns-2)

@@ -81,8 +81,7 @@ open-room-requires c κs =
 
 returns-3 : tie.Need-returns-3
 returns-3 c =
-    let c5 = c .before .before .before .before .before in
-    let c6 = c5 .before in
+    let c5 = c .before .before .before .before .before in let c6 = c5 .before in
     let start = c6 .before .before .before .before in
     passed-on _ _ _ _ _ _ _ (words (c .before .before .before .before .before .before .before))
     (not-false (full (start .args .ah) (start .args .am) && full (start .args .bh) (start .args .bm))
@@ -97,18 +96,6 @@ pub open-pair-spec : {M : Type 1} → statement M
 open-pair-spec =
     tie.close
     (tie.spec
-    (λ c κs. search needs)
-    (λ c κs. search needs)
-    (λ c κs. search needs)
-    (λ c κs. search needs)
-    returns
-    (λ c κs. search needs)
-    (λ c κs. search needs)
-    is-full-requires
-    is-full-requires-2
-    (λ c κs. search needs)
-    (λ c κs. search needs)
-    returns-2
-    announced-of-requires
-    open-room-requires
-    returns-3)
+    (λ c κs. search needs) (λ c κs. search needs) (λ c κs. search needs) (λ c κs. search needs) returns
+    (λ c κs. search needs) (λ c κs. search needs) is-full-requires is-full-requires-2 (λ c κs. search needs)
+    (λ c κs. search needs) returns-2 announced-of-requires open-room-requires returns-3)

@@ -46,12 +46,5 @@ pub read-gate-spec : {M : Type 1} → statement M
 read-gate-spec =
     tie.close
     (tie.spec
-    (λ c κs. search needs)
-    (λ c κs. search needs)
-    returns
-    (λ c κs. search needs)
-    is-full-requires
-    (λ c κs. search needs)
-    returns-2
-    (λ c κs. search needs)
-    returns-3)
+    (λ c κs. search needs) (λ c κs. search needs) returns (λ c κs. search needs) is-full-requires (λ c κs. search needs)
+    returns-2 (λ c κs. search needs) returns-3)

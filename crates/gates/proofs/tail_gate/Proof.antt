@@ -29,8 +29,7 @@ returns-2 c =
 returns-3 : tie.Need-returns-3
 unfolding tailGate
 returns-3 c =
-    let c8 = c .before .before .before .before .before .before .before .before in
-    let start = c8 .before in
+    let c8 = c .before .before .before .before .before .before .before .before in let start = c8 .before in
     (simp (
       one (c .before .before .before),
       le-ltb _ _ (rw (c .before .before .before .before .before .header-of .ensures) at (c .before .if3 .taken)),
@@ -40,8 +39,7 @@ returns-3 c =
 returns-4 : tie.Need-returns-4
 unfolding tailGate
 returns-4 c =
-    let c8 = c .before .before .before .before .before .before .before .before in
-    let start = c8 .before in
+    let c8 = c .before .before .before .before .before .before .before .before in let start = c8 .before in
     (simp (
       one (c .before .before .before),
       lt-ltb _ _ (rw (c .before .before .before .before .before .header-of .ensures) at (c .before .if3 .left)),
@@ -52,13 +50,5 @@ pub tail-gate-spec : {M : Type 1} → statement M
 tail-gate-spec =
     tie.close
     (tie.spec
-    (λ c κs. search needs)
-    returns
-    (λ c κs. search needs)
-    (λ c κs. search needs)
-    returns-2
-    (λ c. search needs)
-    (λ c κs. search needs)
-    returns-3
-    (λ c κs. search needs)
-    returns-4)
+    (λ c κs. search needs) returns (λ c κs. search needs) (λ c κs. search needs) returns-2 (λ c. search needs)
+    (λ c κs. search needs) returns-3 (λ c κs. search needs) returns-4)

@@ -28,9 +28,4 @@ pub with-gate-spec : {M : Type 1} → statement M
 with-gate-spec =
     tie.close
     (tie.spec
-    (λ c κs. search needs)
-    (λ c κs. search needs)
-    returns
-    (λ c κs. search needs)
-    fits-gate-requires
-    returns-2)
+    (λ c κs. search needs) (λ c κs. search needs) returns (λ c κs. search needs) fits-gate-requires returns-2)

@@ -31,8 +31,7 @@ is-roomy-requires c κs = rw (is-announced (c)) (one-announced _ _ (ready (c .be
 returns-2 : tie.Need-returns-2
 unfolding workGate
 returns-2 c =
-    let c8 = c .before .before .before .before .before .before .before .before in
-    let start = c8 .before in
+    let c8 = c .before .before .before .before .before .before .before .before in let start = c8 .before in
     (simp (not-true (roomy (announcedOne (start .args .f) (start .args .word)) (start .args .scratch))
     (rw (c .before .before .is-roomy .ensures, is-announced (c .before .before .before)) at
     (c .before .if2 .taken))) (c .by .ensures))
@@ -42,8 +41,7 @@ returns-2 c =
 returns-3 : tie.Need-returns-3
 unfolding workGate
 returns-3 c =
-    let c8 = c .before .before .before .before .before .before .before .before in
-    let start = c8 .before in
+    let c8 = c .before .before .before .before .before .before .before .before in let start = c8 .before in
     (simp (not-false (roomy (announcedOne (start .args .f) (start .args .word)) (start .args .scratch))
     (rw (c .before .before .is-roomy .ensures, is-announced (c .before .before .before)) at (c .before .if2 .left)))
     (c .none2 .ensures)) ∙ one-on (start .args .f) (start .args .word) (start .args .given) (start .args .lent) _
@@ -53,13 +51,5 @@ pub work-gate-spec : {M : Type 1} → statement M
 work-gate-spec =
     tie.close
     (tie.spec
-    (λ c κs. search needs)
-    returns
-    (λ c κs. search needs)
-    (λ c κs. search needs)
-    announced-of-requires
-    is-roomy-requires
-    (λ c κs. search needs)
-    returns-2
-    (λ c κs. search needs)
-    returns-3)
+    (λ c κs. search needs) returns (λ c κs. search needs) (λ c κs. search needs) announced-of-requires is-roomy-requires
+    (λ c κs. search needs) returns-2 (λ c κs. search needs) returns-3)

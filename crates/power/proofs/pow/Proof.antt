@@ -74,10 +74,8 @@ head : (c : tie.After-power-into) →
     header (c8 .announced-of .result .vars) (c8 .announced-of .result .limits) (c .power-into .result)
     ≡ (powerPoly (start .args .e) (held (start .args .head) (start .args .a .now))) .head
 head c =
-    let c8 = c .before .before .before .before .before .before .before .before in
-    let c10 = c8 .before .before in
-    let c11 = c10 .before in
-    let start = c11 .before .before .before .before .before .before in
+    let c8 = c .before .before .before .before .before .before .before .before in let c10 = c8 .before .before in
+    let c11 = c10 .before in let start = c11 .before .before .before .before .before .before in
     entry-head (start .args .head) (start .args .a .now) (start .args .e) (c10 .header-of .ensures) (is-announced c8)
     (c .before .before .before .before .before .stored-of .ensures) (ready c11 .one .good .regular)
     (c .power-into .ensures .0)
@@ -133,8 +131,7 @@ slice-aggregate-power-into-3 c = sym (length-take-le _ _ (fits (c .before .befor
 
 power-into-requires : tie.Need-power-into-requires
 power-into-requires c κs =
-    let c3 = c .before .before .before in
-    let c9 = c3 .before .before .before .before .before .before in
+    let c3 = c .before .before .before in let c9 = c3 .before .before .before .before .before .before in
     let c10 = c9 .before in
     let f = fits c3 in (
       entry-powers (ready c10) (c9 .header-of .ensures)
@@ -161,12 +158,8 @@ returns-2 : tie.Need-returns-2
 unfolding powerAnswer powerOut powerScratch
 returns-2 c =
     let c9 = c .before .before .before .before .before .before .before .before .before in
-    let c13 = c9 .before .before .before .before in
-    let c14 = c13 .before in
-    let c17 = c14 .before .before .before in
-    let c19 = c17 .before .before in
-    let c20 = c19 .before in
-    let c22 = c20 .before .before in
+    let c13 = c9 .before .before .before .before in let c14 = c13 .before in let c17 = c14 .before .before .before in
+    let c19 = c17 .before .before in let c20 = c19 .before in let c22 = c20 .before .before in
     let start = c22 .before .before .before .before in (
       done-answer (c22 .work-gate .ensures) (announcedOne (Power (start .args .e)) (start .args .head))
           (powerPoly (start .args .e) (held (start .args .head) (start .args .a .now))) (c20 .if1 .left)
@@ -189,24 +182,8 @@ pub pow-spec : {M : Type 1} → statement M
 pow-spec =
     tie.close
     (tie.spec
-    (λ c κs. search needs)
-    returns
-    (λ c κs. search needs)
-    (λ c κs. search needs)
-    announced-of-requires
-    stored-of-requires
-    stored-of-requires-2
-    mul-room
-    slice-aggregate-power-into
-    slice-relend-prefix-power-into
-    slice-aggregate-power-into-2
-    slice-relend-prefix-power-into-2
-    slice-aggregate-power-into-3
-    power-into-requires
-    slice-relend-prefix-clear
-    slice-aggregate-clear
-    (λ c κs. search needs)
-    pack-requires
-    (λ c. search needs)
-    (λ c. search needs)
-    returns-2)
+    (λ c κs. search needs) returns (λ c κs. search needs) (λ c κs. search needs) announced-of-requires
+    stored-of-requires stored-of-requires-2 mul-room slice-aggregate-power-into slice-relend-prefix-power-into
+    slice-aggregate-power-into-2 slice-relend-prefix-power-into-2 slice-aggregate-power-into-3 power-into-requires
+    slice-relend-prefix-clear slice-aggregate-clear (λ c κs. search needs) pack-requires (λ c. search needs)
+    (λ c. search needs) returns-2)

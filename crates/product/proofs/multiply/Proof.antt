@@ -10,8 +10,7 @@ multiply-short-requires c κs = short-room (c .before .before .before .before .s
 
 returns : tie.Need-returns
 returns c =
-    let c4 = c .before .before .before .before in
-    let c9 = c4 .before .before .before .before .before in
+    let c4 = c .before .before .before .before in let c9 = c4 .before .before .before .before .before in
     let start = c9 .before .before .before .before .before in
     let s = (c9 .short-way .ensures (c .before .before .before .before .before .before .before .if1 .taken)) in (
       c4 .multiply-short .ensures .0 ∙ short-answer s (omega (arith, start .fits .ah)) (start .args .out .now)
@@ -26,12 +25,5 @@ pub multiply-spec : {M : Type 1} → statement M
 multiply-spec =
     tie.close
     (tie.spec
-    (λ c κs. search needs)
-    multiply-short-requires
-    (λ c. search needs)
-    (λ c. search needs)
-    returns
-    (λ c κs. search needs)
-    (λ c. search needs)
-    (λ c. search needs)
-    (λ c. search needs))
+    (λ c κs. search needs) multiply-short-requires (λ c. search needs) (λ c. search needs) returns
+    (λ c κs. search needs) (λ c. search needs) (λ c. search needs) (λ c. search needs))

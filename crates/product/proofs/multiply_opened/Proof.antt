@@ -22,13 +22,11 @@ value c = productPoly (held (c .args .ah) (c .args .a .now)) (held (c .args .bh)
 
 head : (c : tie.After-multiply-into) →
     let c12 = c .before .before .before .before .before .before .before .before .before .before .before .before in
-    let c14 = c12 .before .before in
-    let c19 = c14 .before .before .before .before .before in
+    let c14 = c12 .before .before in let c19 = c14 .before .before .before .before .before in
     header (c14 .open-product .result .told .vars) (c14 .open-product .result .told .limits) (c .multiply-into .result) ≡ value c19 .head
 head c =
     let c11 = c .before .before .before .before .before .before .before .before .before .before .before in
-    let c14 = c11 .before .before .before in
-    let start = c14 .before .before .before .before .before in
+    let c14 = c11 .before .before .before in let start = c14 .before .before .before .before .before in
     let t = c14 .open-product .ensures .tells (c11 .if1 .left) in
     entry-head (start .args .ah) (start .args .a .now) (start .args .bh) (start .args .b .now) (t .left) (t .right)
     (told-by Product t) (t .count-a) (t .count-b) (c .multiply-into .ensures .0)
@@ -44,8 +42,7 @@ used c =
 
 rooms : (c : tie.After-multiply-into) →
     let c12 = c .before .before .before .before .before .before .before .before .before .before .before .before in
-    let c14 = c12 .before .before in
-    let start = c14 .before .before .before .before .before in
+    let c14 = c12 .before .before in let start = c14 .before .before .before .before .before in
     8 * c14 .open-product .result .n ≤ length
     (c .multiply-into .last .1 .1 .1 .1 .1 .1 .1 .0
     ++ drop (8 * c14 .open-product .result .n) (start .args .scratch .now))
@@ -67,8 +64,7 @@ returns c =
 
 mul-room : tie.Need-mul-room
 mul-room c =
-    let c6 = c .before .before .before .before .before .before in
-    let c9 = c6 .before .before .before in
+    let c6 = c .before .before .before .before .before .before in let c9 = c6 .before .before .before in
     omega (arith, (opened-count (c9 .open-product .ensures) (c6 .if1 .left)), (opened-ready (c9 .open-product .ensures) (c6 .if1 .left)) .announced .most)
 
 slice-aggregate-multiply-into : tie.Need-slice-aggregate-multiply-into
@@ -126,8 +122,7 @@ pack-requires : tie.Need-pack-requires
 pack-requires c κs =
     let c8 = c .before .before .before .before .before .before .before .before in
     let c19 = c8 .before .before .before .before .before .before .before .before .before .before .before in
-    let c22 = c19 .before .before .before in
-    let start = c22 .before .before .before .before .before in
+    let c22 = c19 .before .before .before in let start = c22 .before .before .before .before .before in
     rw (head c8) (entry-ruled (opened-ready (c22 .open-product .ensures) (c19 .if1 .left)) (start .args .a .now) (start .args .b .now))
 
 returns-2 : tie.Need-returns-2
@@ -135,8 +130,7 @@ unfolding productAnswer productOut productScratch
 returns-2 c =
     let c9 = c .before .before .before .before .before .before .before .before .before in
     let c20 = c9 .before .before .before .before .before .before .before .before .before .before .before in
-    let c23 = c20 .before .before .before in
-    let start = c23 .before .before .before .before .before in
+    let c23 = c20 .before .before .before in let start = c23 .before .before .before .before .before in
     let e = c23 .open-product .ensures .refusal in
     let z = c20 .if1 .left in
     let n = (opened-count (c23 .open-product .ensures) (c20 .if1 .left)) in
@@ -158,20 +152,7 @@ pub multiply-opened-spec : {M : Type 1} → statement M
 multiply-opened-spec =
     tie.close
     (tie.spec
-    (λ c κs. search needs)
-    returns
-    mul-room
-    slice-aggregate-multiply-into
-    slice-aggregate-multiply-into-2
-    slice-relend-prefix-multiply-into
-    slice-aggregate-multiply-into-3
-    slice-relend-prefix-multiply-into-2
-    slice-aggregate-multiply-into-4
-    multiply-into-requires
-    slice-relend-prefix-clear
-    slice-aggregate-clear
-    (λ c κs. search needs)
-    pack-requires
-    (λ c. search needs)
-    (λ c. search needs)
-    returns-2)
+    (λ c κs. search needs) returns mul-room slice-aggregate-multiply-into slice-aggregate-multiply-into-2
+    slice-relend-prefix-multiply-into slice-aggregate-multiply-into-3 slice-relend-prefix-multiply-into-2
+    slice-aggregate-multiply-into-4 multiply-into-requires slice-relend-prefix-clear slice-aggregate-clear
+    (λ c κs. search needs) pack-requires (λ c. search needs) (λ c. search needs) returns-2)

@@ -1,20 +1,17 @@
-use Rattle.product_general.specs.Rows.{Several}
+use Rattle.product_general.specs.Rows.{Several, placeOf}
 use Rattle.product_general.specs.Plane.{linesOf, rows-lined}
-use lib.ListN.{length-set}
-use Rattle.lists.specs.Table.{length-table}
+use lib.ListN.{length-set, length}
+use Rattle.lists.specs.Table.{length-table, Filled}
 use native.Mathlib.Omega.{arith}
 use mathlib.Core.Path.{_≡_, sym, ap, _∙_}
 use mathlib.Core.Bool.{true}
 use Prim.Native.Nat.{ℕ, _+_, _-_, _*_, _≤_, _<_}
-use lib.ListN.{length}
 use Rattle.lists.specs.Four.{at}
-use Rattle.lists.specs.Table.{Filled}
 use Rattle.model.specs.Places.{index}
 use Rattle.model.specs.General.{lo, steps, alone}
 use Rattle.shape_words.specs.Lengths.{lengths-pos}
 use Rattle.product_general.specs.Index.{inRow}
 use Rattle.product_general.specs.Product.{stepAt, stride-at, alone-by, span-pos, first-in}
-use Rattle.product_general.specs.Rows.{placeOf}
 use Rattle.product_general.specs.Pairs.{Paired, paired-none, paired-more, rows-step, pairs-end, row-none, row-next, rows-end, rows-none, rows-length}
 use Rattle.product_general.specs.Bounds.{in-array, row-small, line-size, Turn, turn, left-in, right-in, rowing-next, result-in, pairing-of}
 use borrow.Fn.Kinds.{In}
@@ -305,8 +302,7 @@ each-row-loop-less t c = omega (arith, c .before .before .before .before .loop-t
 
 each-row-loop-again : (t : ℕ) → each-row-lts.Need-loop-again (each-row-claims t) (each-row-at t) each-row.Post each-row-Inv-loop each-row-μ-loop
 each-row-loop-again t c =
-    let c4 = c .before .before .before .before in
-    let start = c4 .before .before .before .before .before in
+    let c4 = c .before .before .before .before in let start = c4 .before .before .before .before .before in
     let g = start .pre in
     let a = start .args in
     let l = c .before .before .before .before .before .loop in
@@ -481,88 +477,29 @@ pub +each-pair+each-row+rows-spec : {M : Type 1} → statement M
 +each-pair+each-row+rows-spec = close μ-each-pair μ-each-row μ-rows (λ t. each-pair-lts.spec (each-pair-claims t)
     (each-pair-at t)
     each-pair.Post
-    each-pair-Inv-loop
-    each-pair-μ-loop
-    (each-pair-add-w t)
-    (each-pair-mul-tx t)
-    (each-pair-array-read-tx t)
-    (each-pair-mul-ty t)
-    (each-pair-array-read-ty t)
-    (each-pair-mul-from t)
-    (each-pair-array-read-from t)
-    (each-pair-from-requires t)
-    (each-pair-mul-upto t)
-    (each-pair-array-read-upto t)
-    (each-pair-upto-requires t)
-    (each-pair-loop-holds t)
-    (each-pair-mul-p t)
-    (each-pair-sub-q t)
-    (each-pair-mul-q t)
-    (each-pair-mul-rows t)
-    (each-pair-sub-rows t)
-    (each-pair-part-rows-start t)
-    (each-pair-part-rows-end t)
-    (each-pair-mul-rows-2 t)
-    (each-pair-sub-rows-2 t)
-    (each-pair-part-rows-start-2 t)
-    (each-pair-part-rows-end-2 t)
-    (each-pair-rows-requires t)
-    (each-pair-add-j t)
-    (each-pair-loop-less t)
-    (each-pair-loop-again t)
-    (each-pair-same-length t)
+    each-pair-Inv-loop each-pair-μ-loop (each-pair-add-w t) (each-pair-mul-tx t) (each-pair-array-read-tx t)
+    (each-pair-mul-ty t) (each-pair-array-read-ty t) (each-pair-mul-from t) (each-pair-array-read-from t)
+    (each-pair-from-requires t) (each-pair-mul-upto t) (each-pair-array-read-upto t) (each-pair-upto-requires t)
+    (each-pair-loop-holds t) (each-pair-mul-p t) (each-pair-sub-q t) (each-pair-mul-q t) (each-pair-mul-rows t)
+    (each-pair-sub-rows t) (each-pair-part-rows-start t) (each-pair-part-rows-end t) (each-pair-mul-rows-2 t)
+    (each-pair-sub-rows-2 t) (each-pair-part-rows-start-2 t) (each-pair-part-rows-end-2 t) (each-pair-rows-requires t)
+    (each-pair-add-j t) (each-pair-loop-less t) (each-pair-loop-again t) (each-pair-same-length t)
     (each-pair-returns t))
     (λ t. each-row-lts.spec
     (each-row-claims t)
     (each-row-at t)
     each-row.Post
-    each-row-Inv-loop
-    each-row-μ-loop
-    (each-row-mul-n t)
-    (each-row-array-read-n t)
-    (each-row-mul-s t)
-    (each-row-array-read-s t)
-    (each-row-loop-holds t)
-    (each-row-mul-at t)
-    (each-row-add-each-pair t)
-    (each-row-mul-each-pair t)
-    (each-row-sub-each-pair t)
-    (each-row-part-each-pair-start t)
-    (each-row-part-each-pair-end t)
-    (each-row-each-pair-requires t)
-    (each-row-add-k t)
-    (each-row-loop-less t)
-    (each-row-loop-again t)
-    (each-row-same-length t)
-    (each-row-returns t))
+    each-row-Inv-loop each-row-μ-loop (each-row-mul-n t) (each-row-array-read-n t) (each-row-mul-s t)
+    (each-row-array-read-s t) (each-row-loop-holds t) (each-row-mul-at t) (each-row-add-each-pair t)
+    (each-row-mul-each-pair t) (each-row-sub-each-pair t) (each-row-part-each-pair-start t)
+    (each-row-part-each-pair-end t) (each-row-each-pair-requires t) (each-row-add-k t) (each-row-loop-less t)
+    (each-row-loop-again t) (each-row-same-length t) (each-row-returns t))
     λ t. rows-lts.spec (rows-claims t)
     (rows-at t)
     rows.Post
-    (rows-slice-read-res t)
-    (rows-shared-slice-read-res t)
-    (rows-shared-slice-read-res-2 t)
-    (rows-slice-write-res t)
-    (rows-same-length t)
-    (rows-returns t)
-    (rows-mul-if2 t)
-    (rows-array-read-if2 t)
-    (rows-mul-if2-2 t)
-    (rows-array-read-if2-2 t)
-    (rows-mul-nx t)
-    (rows-array-read-nx t)
-    (rows-mul-ny t)
-    (rows-array-read-ny t)
-    (rows-each-line-requires t)
-    (rows-same-length-2 t)
-    (rows-returns-2 t)
-    (rows-add-w t)
-    (rows-mul-if4 t)
-    (rows-array-read-if4 t)
-    (rows-mul-if4-2 t)
-    (rows-array-read-if4-2 t)
-    (rows-two-long-requires t)
-    (rows-same-length-3 t)
-    (rows-returns-3 t)
-    (rows-each-row-requires t)
-    (rows-same-length-4 t)
-    (rows-returns-4 t)
+    (rows-slice-read-res t) (rows-shared-slice-read-res t) (rows-shared-slice-read-res-2 t) (rows-slice-write-res t)
+    (rows-same-length t) (rows-returns t) (rows-mul-if2 t) (rows-array-read-if2 t) (rows-mul-if2-2 t)
+    (rows-array-read-if2-2 t) (rows-mul-nx t) (rows-array-read-nx t) (rows-mul-ny t) (rows-array-read-ny t)
+    (rows-each-line-requires t) (rows-same-length-2 t) (rows-returns-2 t) (rows-add-w t) (rows-mul-if4 t)
+    (rows-array-read-if4 t) (rows-mul-if4-2 t) (rows-array-read-if4-2 t) (rows-two-long-requires t)
+    (rows-same-length-3 t) (rows-returns-3 t) (rows-each-row-requires t) (rows-same-length-4 t) (rows-returns-4 t)

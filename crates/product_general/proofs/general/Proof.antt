@@ -39,10 +39,5 @@ pub general-spec : {M : Type 1} → statement M
 general-spec =
     tie.close
     (tie.spec
-    (λ c κs. search needs)
-    (λ c κs. search needs)
-    (λ c κs. search needs)
-    (λ c κs. search needs)
-    rows-requires
-    (λ c. search needs)
-    returns)
+    (λ c κs. search needs) (λ c κs. search needs) (λ c κs. search needs) (λ c κs. search needs) rows-requires
+    (λ c. search needs) returns)

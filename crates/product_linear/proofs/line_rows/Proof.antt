@@ -68,8 +68,7 @@ loop-less c =
 
 loop-again : tie.Need-loop-again Inv-loop μ-loop
 loop-again c =
-    let c6 = c .before .before .before .before .before .before in
-    let start = c6 .before .before .before in
+    let c6 = c .before .before .before .before .before .before in let start = c6 .before .before .before in
     let l = c6 .loop .inv .1 .1 .len in
     let f = fits (c .before .before .before .before .before) in
     let ew : c6 .loop .from + start .args .width - c6 .loop .from ≡ start .args .width = omega arith in
@@ -96,21 +95,6 @@ line-rows-spec =
     (tie.spec
     Inv-loop
     μ-loop
-    loop-holds
-    add-line-row
-    mul-line-row
-    (λ c. omega arith)
-    (λ c. omega arith)
-    part-line-row-end
-    add-line-row-2
-    mul-line-row-2
-    (λ c. omega arith)
-    (λ c. omega arith)
-    part-line-row-end-2
-    line-row-requires
-    add-from
-    add-at
-    loop-less
-    loop-again
-    same-length
-    returns)
+    loop-holds add-line-row mul-line-row (λ c. omega arith) (λ c. omega arith) part-line-row-end add-line-row-2
+    mul-line-row-2 (λ c. omega arith) (λ c. omega arith) part-line-row-end-2 line-row-requires add-from add-at loop-less
+    loop-again same-length returns)

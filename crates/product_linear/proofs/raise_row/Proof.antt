@@ -114,17 +114,5 @@ raise-row-spec =
     (tie.spec
     Inv-loop
     μ-loop
-    slice-relend-prefix-clear
-    slice-aggregate-clear
-    clear-requires
-    loop-holds
-    sub-to
-    mul-to
-    shared-slice-read-to
-    mul-to-2
-    slice-write-to
-    (λ c. omega arith)
-    (λ c. omega arith)
-    loop-again
-    same-length
-    returns)
+    slice-relend-prefix-clear slice-aggregate-clear clear-requires loop-holds sub-to mul-to shared-slice-read-to
+    mul-to-2 slice-write-to (λ c. omega arith) (λ c. omega arith) loop-again same-length returns)

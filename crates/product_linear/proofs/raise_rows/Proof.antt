@@ -63,8 +63,7 @@ loop-less c =
 
 loop-again : tie.Need-loop-again Inv-loop μ-loop
 loop-again c =
-    let c6 = c .before .before .before .before .before .before in
-    let start = c6 .before .before .before in
+    let c6 = c .before .before .before .before .before .before in let start = c6 .before .before .before in
     let l = c6 .loop .inv .1 .1 .len in
     let f = fits (c .before .before .before .before .before) in
     let ew : c6 .loop .from + start .args .width - c6 .loop .from ≡ start .args .width = omega arith in
@@ -90,21 +89,6 @@ raise-rows-spec =
     (tie.spec
     Inv-loop
     μ-loop
-    loop-holds
-    add-raise-row
-    mul-raise-row
-    (λ c. omega arith)
-    (λ c. omega arith)
-    part-raise-row-end
-    add-raise-row-2
-    mul-raise-row-2
-    (λ c. omega arith)
-    (λ c. omega arith)
-    part-raise-row-end-2
-    raise-row-requires
-    add-from
-    add-at
-    loop-less
-    loop-again
-    same-length
-    returns)
+    loop-holds add-raise-row mul-raise-row (λ c. omega arith) (λ c. omega arith) part-raise-row-end add-raise-row-2
+    mul-raise-row-2 (λ c. omega arith) (λ c. omega arith) part-raise-row-end-2 raise-row-requires add-from add-at
+    loop-less loop-again same-length returns)

@@ -46,13 +46,5 @@ scale-spec =
     (tie.spec
     Inv-loop
     μ-loop
-    loop-holds
-    mul-to
-    shared-slice-read-to
-    mul-to-2
-    slice-write-to
-    (λ c. omega arith)
-    (λ c. omega arith)
-    loop-again
-    same-length
-    returns)
+    loop-holds mul-to shared-slice-read-to mul-to-2 slice-write-to (λ c. omega arith) (λ c. omega arith) loop-again
+    same-length returns)

@@ -65,20 +65,6 @@ pub four-at-spec : {M : Type 1} → statement M
 four-at-spec =
     tie.close
     (tie.spec
-    (λ c. omega arith)
-    (λ c. omega arith)
-    four-full-requires
-    returns
-    (λ c. omega arith)
-    (λ c κs. omega arith)
-    (λ c κs. omega arith)
-    four-by-requires
-    returns-2
-    line-at-requires
-    (λ c. omega arith)
-    line-at-requires-2
-    (λ c. omega arith)
-    line-at-requires-3
-    (λ c. omega arith)
-    line-at-requires-4
-    returns-3)
+    (λ c. omega arith) (λ c. omega arith) four-full-requires returns (λ c. omega arith) (λ c κs. omega arith)
+    (λ c κs. omega arith) four-by-requires returns-2 line-at-requires (λ c. omega arith) line-at-requires-2
+    (λ c. omega arith) line-at-requires-3 (λ c. omega arith) line-at-requires-4 returns-3)

@@ -104,13 +104,8 @@ sum-on-requires-6 c κs =
 returns : tie.Need-returns
 unfolding ofBits
 returns c =
-    let c6 = c .before .before .before .before .before .before in
-    let c8 = c6 .before .before in
-    let c9 = c8 .before in
-    let c10 = c9 .before in
-    let c11 = c10 .before in
-    let c12 = c11 .before in
-    let start = c12 .before .before .before in
+    let c6 = c .before .before .before .before .before .before in let c8 = c6 .before .before in let c9 = c8 .before in
+    let c10 = c9 .before in let c11 = c10 .before in let c12 = c11 .before in let start = c12 .before .before .before in
     let a = start .args in
     four-lines (start .pre) (a .xs .now) (a .ys .now) (c6 .four-on .result) (c12 .from .ensures)
     (c11 .sum-on .ensures) (c10 .from2 .ensures) (c9 .sum-on2 .ensures) (c8 .from3 .ensures)
@@ -123,31 +118,7 @@ pub four-by-spec : {M : Type 1} → statement M
 four-by-spec =
     tie.close
     (tie.spec
-    from-requires
-    sum-on-requires
-    add-sum-on
-    add-from
-    from-requires-2
-    sum-on-requires-2
-    add-sum-on-2
-    add-from-2
-    from-requires-3
-    sum-on-requires-3
-    four-on-requires
-    add-sum-on-3
-    add-upto
-    upto-requires
-    (λ c. omega arith)
-    sum-on-requires-4
-    add-sum-on-4
-    add-upto-2
-    upto-requires-2
-    (λ c. omega arith)
-    sum-on-requires-5
-    add-sum-on-5
-    add-upto-3
-    upto-requires-3
-    (λ c. omega arith)
-    sum-on-requires-6
-    (λ c. omega arith)
-    returns)
+    from-requires sum-on-requires add-sum-on add-from from-requires-2 sum-on-requires-2 add-sum-on-2 add-from-2
+    from-requires-3 sum-on-requires-3 four-on-requires add-sum-on-3 add-upto upto-requires (λ c. omega arith)
+    sum-on-requires-4 add-sum-on-4 add-upto-2 upto-requires-2 (λ c. omega arith) sum-on-requires-5 add-sum-on-5
+    add-upto-3 upto-requires-3 (λ c. omega arith) sum-on-requires-6 (λ c. omega arith) returns)

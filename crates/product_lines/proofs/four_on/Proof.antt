@@ -117,35 +117,7 @@ four-on-spec =
     (tie.spec
     Inv-loop
     μ-loop
-    (λ c. omega arith)
-    (λ c. omega arith)
-    (λ c. omega arith)
-    (λ c. omega arith)
-    loop-holds
-    add-loop
-    mul-x
-    shared-slice-read-x
-    add-u
-    mul-u
-    shared-slice-read-u
-    sub-i
-    mul-y0
-    shared-slice-read-y0
-    add-y1
-    mul-y1
-    shared-slice-read-y1
-    add-y2
-    mul-y2
-    shared-slice-read-y2
-    sub-s0
-    mul-s0
-    shared-slice-read-s0
-    add-s3
-    mul-s3
-    shared-slice-read-s3
-    add-j
-    loop-less
-    loop-again
-    four-more-requires
-    returns
-    returns-2)
+    (λ c. omega arith) (λ c. omega arith) (λ c. omega arith) (λ c. omega arith) loop-holds add-loop mul-x
+    shared-slice-read-x add-u mul-u shared-slice-read-u sub-i mul-y0 shared-slice-read-y0 add-y1 mul-y1
+    shared-slice-read-y1 add-y2 mul-y2 shared-slice-read-y2 sub-s0 mul-s0 shared-slice-read-s0 add-s3 mul-s3
+    shared-slice-read-s3 add-j loop-less loop-again four-more-requires returns returns-2)

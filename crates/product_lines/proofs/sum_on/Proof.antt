@@ -51,13 +51,5 @@ sum-on-spec =
     (tie.spec
     Inv-loop
     μ-loop
-    loop-holds
-    mul-sum
-    shared-slice-read-sum
-    sub-sum
-    mul-sum-2
-    shared-slice-read-sum-2
-    add-j
-    loop-less
-    loop-again
+    loop-holds mul-sum shared-slice-read-sum sub-sum mul-sum-2 shared-slice-read-sum-2 add-j loop-less loop-again
     returns)

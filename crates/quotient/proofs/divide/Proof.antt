@@ -30,8 +30,7 @@ used c =
 
 rooms : (c : tie.After-divide-into) →
     let c12 = c .before .before .before .before .before .before .before .before .before .before .before .before in
-    let c15 = c12 .before .before .before in
-    let start = c15 .before .before .before .before .before in
+    let c15 = c12 .before .before .before in let start = c15 .before .before .before .before .before in
     8 * c15 .open-pair .result .n ≤ length (c .divide-into .last .1 .1 .1 .1 .1 .1 .1 .0 ++ drop (8 * c15 .open-pair .result .n) (start .args .scratch .now))
 rooms c = simp length-append (omega (arith, used c))
 
@@ -51,8 +50,7 @@ returns c =
 
 mul-room : tie.Need-mul-room
 mul-room c =
-    let c7 = c .before .before .before .before .before .before .before in
-    let c10 = c7 .before .before .before in
+    let c7 = c .before .before .before .before .before .before .before in let c10 = c7 .before .before .before in
     omega (arith, (opened-count (c10 .open-pair .ensures) (c7 .if1 .left)), (opened-ready (c10 .open-pair .ensures) (c7 .if1 .left)) .announced .most)
 
 slice-aggregate-divide-into : tie.Need-slice-aggregate-divide-into
@@ -120,8 +118,7 @@ unfolding quotientAnswer quotientOut quotientScratch
 returns-2 c =
     let c9 = c .before .before .before .before .before .before .before .before .before in
     let c21 = c9 .before .before .before .before .before .before .before .before .before .before .before .before in
-    let c24 = c21 .before .before .before in
-    let start = c24 .before .before .before .before .before in
+    let c24 = c21 .before .before .before in let start = c24 .before .before .before .before .before in
     let e = c24 .open-pair .ensures .refusal in
     let z = c21 .if1 .left in
     let n = (opened-count (c24 .open-pair .ensures) (c21 .if1 .left)) in
@@ -148,20 +145,7 @@ pub divide-spec : {M : Type 1} → statement M
 divide-spec =
     tie.close
     (tie.spec
-    (λ c κs. search needs)
-    returns
-    mul-room
-    slice-aggregate-divide-into
-    slice-aggregate-divide-into-2
-    slice-relend-prefix-divide-into
-    slice-aggregate-divide-into-3
-    slice-relend-prefix-divide-into-2
-    slice-aggregate-divide-into-4
-    divide-into-requires
-    slice-relend-prefix-clear
-    slice-aggregate-clear
-    (λ c κs. search needs)
-    pack-requires
-    (λ c. search needs)
-    (λ c. search needs)
-    returns-2)
+    (λ c κs. search needs) returns mul-room slice-aggregate-divide-into slice-aggregate-divide-into-2
+    slice-relend-prefix-divide-into slice-aggregate-divide-into-3 slice-relend-prefix-divide-into-2
+    slice-aggregate-divide-into-4 divide-into-requires slice-relend-prefix-clear slice-aggregate-clear
+    (λ c κs. search needs) pack-requires (λ c. search needs) (λ c. search needs) returns-2)

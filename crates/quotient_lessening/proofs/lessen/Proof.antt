@@ -71,17 +71,5 @@ lessen-spec =
     (tie.spec
     Inv-loop
     μ-loop
-    loop-holds
-    mul-work
-    shared-slice-read-work
-    add-work
-    mul-work-2
-    slice-read-work
-    add-work-2
-    mul-work-3
-    slice-write-work
-    (λ c. omega arith)
-    (λ c. omega arith)
-    loop-again
-    same-length
-    returns)
+    loop-holds mul-work shared-slice-read-work add-work mul-work-2 slice-read-work add-work-2 mul-work-3
+    slice-write-work (λ c. omega arith) (λ c. omega arith) loop-again same-length returns)

@@ -162,8 +162,7 @@ each-row-level-requires t c κs =
 each-row-add-k : (t : ℕ) → each-row-lts.Need-add-k (each-row-claims t) (each-row-at t) each-row.Post each-row-Inv-loop each-row-μ-loop
 each-row-add-k t c =
     let c12 = c .before .before .before .before .before .before .before .before .before .before .before .before in
-    let c14 = c12 .before .before in
-    let start = c14 .before .before .before .before in
+    let c14 = c12 .before .before in let start = c14 .before .before .before .before in
     omega (arith, row-small (start .pre .1 .0 .strided .result) (start .pre .1 .1 .0 .some) (c14 .loop-test .taken))
 
 each-row-loop-less : (t : ℕ) → each-row-lts.Need-loop-less (each-row-claims t) (each-row-at t) each-row.Post each-row-Inv-loop each-row-μ-loop
@@ -175,8 +174,7 @@ each-row-loop-less t c =
 each-row-loop-again : (t : ℕ) → each-row-lts.Need-loop-again (each-row-claims t) (each-row-at t) each-row.Post each-row-Inv-loop each-row-μ-loop
 each-row-loop-again t c =
     let c4 = c .before .before .before .before in
-    let c11 = c4 .before .before .before .before .before .before .before in
-    let c14 = c11 .before .before .before in
+    let c11 = c4 .before .before .before .before .before .before .before in let c14 = c11 .before .before .before in
     let c15 = c14 .before in
     let start = c15 .before .before .before in (
       omega (arith, c14 .loop-test .taken),
@@ -233,37 +231,14 @@ pub +each-row+level-spec : {M : Type 1} → statement M
 +each-row+level-spec = close μ-each-row μ-level (λ t. each-row-lts.spec (each-row-claims t)
     (each-row-at t)
     each-row.Post
-    each-row-Inv-loop
-    each-row-μ-loop
-    (each-row-add-w t)
-    (each-row-mul-n t)
-    (each-row-array-read-n t)
-    (each-row-mul-s t)
-    (each-row-array-read-s t)
-    (each-row-add-end t)
-    (each-row-loop-holds t)
-    (each-row-mul-at t)
-    (each-row-add-at t)
-    (each-row-slice-relend-prefix-gather t)
-    (each-row-slice-aggregate-gather t)
-    (each-row-gather-requires t)
-    (each-row-level-requires t)
-    (each-row-add-k t)
-    (each-row-loop-less t)
-    (each-row-loop-again t)
-    (each-row-same-length t)
-    (each-row-same-length-2 t)
-    (each-row-returns t))
+    each-row-Inv-loop each-row-μ-loop (each-row-add-w t) (each-row-mul-n t) (each-row-array-read-n t) (each-row-mul-s t)
+    (each-row-array-read-s t) (each-row-add-end t) (each-row-loop-holds t) (each-row-mul-at t) (each-row-add-at t)
+    (each-row-slice-relend-prefix-gather t) (each-row-slice-aggregate-gather t) (each-row-gather-requires t)
+    (each-row-level-requires t) (each-row-add-k t) (each-row-loop-less t) (each-row-loop-again t)
+    (each-row-same-length t) (each-row-same-length-2 t) (each-row-returns t))
     λ t. level-lts.spec
     (level-claims t)
     (level-at t)
     level.Post
-    (level-mul-if1 t)
-    (level-array-read-if1 t)
-    (level-line-requires t)
-    (level-same-length t)
-    (level-returns t)
-    (level-each-row-requires t)
-    (level-same-length-2 t)
-    (level-same-length-3 t)
-    (level-returns-2 t)
+    (level-mul-if1 t) (level-array-read-if1 t) (level-line-requires t) (level-same-length t) (level-returns t)
+    (level-each-row-requires t) (level-same-length-2 t) (level-same-length-3 t) (level-returns-2 t)

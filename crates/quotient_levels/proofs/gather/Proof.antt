@@ -160,21 +160,6 @@ pub gather-spec : {M : Type 1} → statement M
 gather-spec =
     tie.close
     (tie.spec
-    mul-at
-    array-read-at
-    mul-at-2
-    add-end
-    mul-taken-row
-    (λ c. omega arith)
-    part-taken-row-start
-    part-taken-row-end
-    mul-taken-row-2
-    sub-taken-row-2
-    part-taken-row-start-2
-    part-taken-row-end-2
-    taken-row-requires
-    add-lessen
-    lessen-requires
-    same-length
-    same-length-2
-    returns)
+    mul-at array-read-at mul-at-2 add-end mul-taken-row (λ c. omega arith) part-taken-row-start part-taken-row-end
+    mul-taken-row-2 sub-taken-row-2 part-taken-row-start-2 part-taken-row-end-2 taken-row-requires add-lessen
+    lessen-requires same-length same-length-2 returns)

@@ -110,8 +110,7 @@ loop-less c = omega (arith, c .before .before .before .before .before .before .b
 
 loop-again : tie.Need-loop-again Inv-loop μ-loop
 loop-again c =
-    let c8 = c .before .before .before .before .before .before .before .before in
-    let c9 = c8 .before in
+    let c8 = c .before .before .before .before .before .before .before .before in let c9 = c8 .before in
     let start = c9 .before .before in (
       omega (arith, c8 .loop-test .taken),
       line-more (start .args .work .now) (start .pre) (c8 .loop-test .taken) (c9 .loop .inv .1)
@@ -133,32 +132,7 @@ line-spec =
     (tie.spec
     Inv-loop
     μ-loop
-    loop-holds
-    mul-loop
-    array-read-loop
-    add-end
-    mul-from
-    array-read-from
-    from-requires
-    mul-sum-on
-    (λ c. omega arith)
-    part-sum-on-start
-    part-sum-on-end
-    mul-sum-on-2
-    sub-sum-on-2
-    part-sum-on-start-2
-    part-sum-on-end-2
-    sum-on-requires
-    add-through
-    mul-through
-    slice-read-through
-    through-requires
-    mul-work
-    slice-read-work
-    mul-work-2
-    slice-write-work
-    add-k
-    loop-less
-    loop-again
-    same-length
-    returns)
+    loop-holds mul-loop array-read-loop add-end mul-from array-read-from from-requires mul-sum-on (λ c. omega arith)
+    part-sum-on-start part-sum-on-end mul-sum-on-2 sub-sum-on-2 part-sum-on-start-2 part-sum-on-end-2 sum-on-requires
+    add-through mul-through slice-read-through through-requires mul-work slice-read-work mul-work-2 slice-write-work
+    add-k loop-less loop-again same-length returns)

@@ -162,30 +162,6 @@ taken-by-rows-spec =
     (tie.spec
     Inv-loop
     μ-loop
-    (λ c κs. search needs)
-    add-w
-    mul-s
-    array-read-s
-    mul-t
-    array-read-t
-    mul-from
-    array-read-from
-    from-requires
-    loop-holds
-    mul-p
-    sub-q
-    mul-q
-    mul-rows
-    sub-rows
-    part-rows-start
-    (λ c. omega arith)
-    mul-rows-2
-    sub-rows-2
-    part-rows-start-2
-    (λ c. omega arith)
-    rows-requires
-    add-j
-    loop-less
-    loop-again
-    same-length
-    returns)
+    (λ c κs. search needs) add-w mul-s array-read-s mul-t array-read-t mul-from array-read-from from-requires loop-holds
+    mul-p sub-q mul-q mul-rows sub-rows part-rows-start (λ c. omega arith) mul-rows-2 sub-rows-2 part-rows-start-2
+    (λ c. omega arith) rows-requires add-j loop-less loop-again same-length returns)

@@ -62,15 +62,5 @@ pub taken-row-spec : {M : Type 1} → statement M
 taken-row-spec =
     tie.close
     (tie.spec
-    mul-if1
-    array-read-if1
-    mul-from
-    array-read-from
-    from-requires
-    sum-on-requires
-    slice-write-row
-    same-length
-    returns
-    taken-by-rows-requires
-    same-length-2
-    returns-2)
+    mul-if1 array-read-if1 mul-from array-read-from from-requires sum-on-requires slice-write-row same-length returns
+    taken-by-rows-requires same-length-2 returns-2)

@@ -66,8 +66,7 @@ shared-slice-read-t12 c = low (c .before)
 returns-3 : tie.Need-returns-3
 unfolding coefficientAnswer
 returns-3 c =
-    let c8 = c .before .before .before .before .before .before .before .before in
-    let start = c8 .before .before in
+    let c8 = c .before .before .before .before .before .before .before .before in let start = c8 .before .before in
     read-done (c8 .index-gate .ensures) (c .before .before .before .before .before .before .if1 .left)
     (ap (λ k. getD (start .args .a .now) k nan) (placed (c .before))
     ∙ coefficient-stored (start .args .head) (start .args .a .now) (start .args .index) (there (c .before .before)))
@@ -76,12 +75,5 @@ pub coefficient-spec : {M : Type 1} → statement M
 coefficient-spec =
     tie.close
     (tie.spec
-    (λ c κs. search needs)
-    returns
-    (λ c κs. search needs)
-    (λ c κs. search needs)
-    returns-2
-    place-of-requires
-    mul-t8
-    shared-slice-read-t12
-    returns-3)
+    (λ c κs. search needs) returns (λ c κs. search needs) (λ c κs. search needs) returns-2 place-of-requires mul-t8
+    shared-slice-read-t12 returns-3)

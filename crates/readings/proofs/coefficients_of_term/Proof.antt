@@ -84,9 +84,7 @@ slice-aggregate-take-term-2 c =
 
 take-term-requires : tie.Need-take-term-requires
 take-term-requires c κs =
-    let c3 = c .before .before .before in
-    let c6 = c3 .before .before .before in
-    let c7 = c6 .before in
+    let c3 = c .before .before .before in let c6 = c3 .before .before .before in let c7 = c6 .before in
     let start = c7 .before .before .before .before .before in
     record {
       rules = rw (c6 .header-of .ensures) (ready c7 .one .good .regular .rules);
@@ -106,11 +104,8 @@ pack-requires c κs =
 returns-2 : tie.Need-returns-2
 unfolding coefficientsOfTermAnswer coefficientsOfTermOut
 returns-2 c =
-    let c3 = c .before .before .before in
-    let c8 = c3 .before .before .before .before .before in
-    let c10 = c8 .before .before in
-    let c11 = c10 .before in
-    let c13 = c11 .before .before in
+    let c3 = c .before .before .before in let c8 = c3 .before .before .before .before .before in
+    let c10 = c8 .before .before in let c11 = c10 .before in let c13 = c11 .before .before in
     let start = c13 .before .before .before in
     entry-done (c13 .in-gate .ensures) (c11 .if1 .left) (announcedOne (Term (start .args .v)) (start .args .head))
     (coefficientsOfTerm (start .args .v) (start .args .order) (held (start .args .head) (start .args .a .now)))
@@ -129,17 +124,6 @@ pub coefficients-of-term-spec : {M : Type 1} → statement M
 coefficients-of-term-spec =
     tie.close
     (tie.spec
-    (λ c κs. search needs)
-    returns
-    (λ c κs. search needs)
-    (λ c κs. search needs)
-    announced-of-requires
-    stored-of-requires
-    stored-of-requires-2
-    slice-aggregate-take-term
-    slice-relend-prefix-take-term
-    slice-aggregate-take-term-2
-    take-term-requires
-    pack-requires
-    (λ c. search needs)
-    returns-2)
+    (λ c κs. search needs) returns (λ c κs. search needs) (λ c κs. search needs) announced-of-requires
+    stored-of-requires stored-of-requires-2 slice-aggregate-take-term slice-relend-prefix-take-term
+    slice-aggregate-take-term-2 take-term-requires pack-requires (λ c. search needs) returns-2)

@@ -37,9 +37,4 @@ pub evaluate-all-one-spec : {M : Type 1} → statement M
 evaluate-all-one-spec =
     tie.close
     (tie.spec
-    (λ c κs. search needs)
-    returns
-    (λ c κs. search needs)
-    stored-of-requires
-    sum-to-requires
-    returns-2)
+    (λ c κs. search needs) returns (λ c κs. search needs) stored-of-requires sum-to-requires returns-2)

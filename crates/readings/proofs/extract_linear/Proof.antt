@@ -50,10 +50,5 @@ pub extract-linear-spec : {M : Type 1} → statement M
 extract-linear-spec =
     tie.close
     (tie.spec
-    (λ c κs. search needs)
-    returns
-    (λ c κs. search needs)
-    stored-of-requires
-    slice-aggregate-linear-of
-    linear-of-requires
-    returns-2)
+    (λ c κs. search needs) returns (λ c κs. search needs) stored-of-requires slice-aggregate-linear-of
+    linear-of-requires returns-2)

@@ -45,11 +45,5 @@ pub tail-spec : {M : Type 1} → statement M
 tail-spec =
     tie.close
     (tie.spec
-    (λ c κs. search needs)
-    returns
-    (λ c κs. search needs)
-    (λ c. omega arith)
-    add-least
-    (λ c κs. search needs)
-    sum-to-requires
-    returns-2)
+    (λ c κs. search needs) returns (λ c κs. search needs) (λ c. omega arith) add-least (λ c κs. search needs)
+    sum-to-requires returns-2)

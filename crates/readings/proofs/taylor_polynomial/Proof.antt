@@ -77,15 +77,10 @@ slice-aggregate-load-2 c =
 
 load-requires : tie.Need-load-requires
 load-requires c κs =
-    let c4 = c .before .before .before .before in
-    let c5 = c4 .before in
-    let c6 = c5 .before in
-    let c8 = c6 .before .before in
-    let c9 = c8 .before in
-    let start = c9 .before .before .before .before .before in
+    let c4 = c .before .before .before .before in let c5 = c4 .before in let c6 = c5 .before in
+    let c8 = c6 .before .before in let c9 = c8 .before in let start = c9 .before .before .before .before .before in
     order-cutting (start .args .v) (start .args .order) {h = c8 .header-of .result} {r = c6 .announced-of .result}
-    (rw (c8 .header-of .ensures) (ready c9 .one .good .regular .rules))
-    (rw (c8 .header-of .ensures) (is-announced c6))
+    (rw (c8 .header-of .ensures) (ready c9 .one .good .regular .rules)) (rw (c8 .header-of .ensures) (is-announced c6))
     (length-take-le _ (start .args .a .now) (rw (given c5) (ready c9 .one .full)) ∙ c5 .stored-of .ensures)
     (length-take-le _ (start .args .out .now) (rw (count c4) (ready c9 .one .room)) ∙ c4 .stored-of2 .ensures)
 
@@ -98,12 +93,8 @@ pack-requires c κs =
 returns-2 : tie.Need-returns-2
 unfolding taylorPolynomial taylorPolynomialAnswer taylorPolynomialOut
 returns-2 c =
-    let c8 = c .before .before .before .before .before .before .before .before in
-    let c9 = c8 .before in
-    let c10 = c9 .before in
-    let c12 = c10 .before .before in
-    let c13 = c12 .before in
-    let c15 = c13 .before .before in
+    let c8 = c .before .before .before .before .before .before .before .before in let c9 = c8 .before in
+    let c10 = c9 .before in let c12 = c10 .before .before in let c13 = c12 .before in let c15 = c13 .before .before in
     let start = c15 .before .before .before in
     entry-done (c15 .in-gate .ensures) (c13 .if1 .left)
     (announcedOne (Order (start .args .v) (start .args .order)) (start .args .head))
@@ -121,17 +112,6 @@ pub taylor-polynomial-spec : {M : Type 1} → statement M
 taylor-polynomial-spec =
     tie.close
     (tie.spec
-    (λ c κs. search needs)
-    returns
-    (λ c κs. search needs)
-    (λ c κs. search needs)
-    announced-of-requires
-    stored-of-requires
-    stored-of-requires-2
-    slice-aggregate-load
-    slice-relend-prefix-load
-    slice-aggregate-load-2
-    load-requires
-    pack-requires
-    (λ c. search needs)
-    returns-2)
+    (λ c κs. search needs) returns (λ c κs. search needs) (λ c κs. search needs) announced-of-requires
+    stored-of-requires stored-of-requires-2 slice-aggregate-load slice-relend-prefix-load slice-aggregate-load-2
+    load-requires pack-requires (λ c. search needs) returns-2)

@@ -41,8 +41,7 @@ write-short-requires c κs =
 
 returns-2 : tie.Need-returns-2
 returns-2 c =
-    let c4 = c .before .before .before .before in
-    let start = c4 .before .before .before .before .before in
+    let c4 = c .before .before .before .before in let start = c4 .before .before .before .before .before in
     entry-done (c .before .before .before .before .before .before .before .var-gate .ensures)
     (c .before .before .before .before .before .if1 .left) (varHeader (start .args .v) (start .args .limit))
     (variable (varHeader (start .args .v) (start .args .limit)) (start .args .x)) (start .args .out .now)
@@ -53,10 +52,5 @@ pub var-spec : {M : Type 1} → statement M
 var-spec =
     tie.close
     (tie.spec
-    (λ c κs. search needs)
-    returns
-    add-var-with-degrees-p1
-    (λ c κs. search needs)
-    write-short-requires
-    (λ c. search needs)
-    returns-2)
+    (λ c κs. search needs) returns add-var-with-degrees-p1 (λ c κs. search needs) write-short-requires
+    (λ c. search needs) returns-2)

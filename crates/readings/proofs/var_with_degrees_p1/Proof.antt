@@ -38,8 +38,7 @@ write-short-requires c κs =
 
 returns-2 : tie.Need-returns-2
 returns-2 c =
-    let c4 = c .before .before .before .before in
-    let start = c4 .before .before .before .before .before in
+    let c4 = c .before .before .before .before in let start = c4 .before .before .before .before .before in
     entry-done (c .before .before .before .before .before .before .before .var-with-gate .ensures)
     (c .before .before .before .before .before .if1 .left)
     (varWith (start .args .v) (start .args .vars) (start .args .limits))
@@ -51,9 +50,4 @@ pub var-with-degrees-p1-spec : {M : Type 1} → statement M
 var-with-degrees-p1-spec =
     tie.close
     (tie.spec
-    (λ c κs. search needs)
-    returns
-    (λ c κs. search needs)
-    write-short-requires
-    (λ c. search needs)
-    returns-2)
+    (λ c κs. search needs) returns (λ c κs. search needs) write-short-requires (λ c. search needs) returns-2)

@@ -83,17 +83,5 @@ pick-spec =
     (tie.spec
     Inv-loop
     μ-loop
-    loop-holds
-    index-of-requires
-    mul-i
-    array-write-i
-    place-of-requires
-    mul-to
-    shared-slice-read-to
-    (λ c. omega arith)
-    (λ c. omega arith)
-    (λ c. omega arith)
-    loop-less
-    loop-again
-    same-length
-    returns)
+    loop-holds index-of-requires mul-i array-write-i place-of-requires mul-to shared-slice-read-to (λ c. omega arith)
+    (λ c. omega arith) (λ c. omega arith) loop-less loop-again same-length returns)

@@ -29,8 +29,7 @@ write-short-requires c κs =
 
 returns-2 : tie.Need-returns-2
 returns-2 c =
-    let c4 = c .before .before .before .before in
-    let start = c4 .before .before .before .before .before in
+    let c4 = c .before .before .before .before in let start = c4 .before .before .before .before .before in
     entry-done (c .before .before .before .before .before .before .before .with-gate .ensures)
     (c .before .before .before .before .before .if1 .left) (zeroWith (start .args .vars) (start .args .limits))
     (constant (zeroWith (start .args .vars) (start .args .limits)) (start .args .x)) (start .args .out .now)
@@ -43,9 +42,4 @@ pub constant-with-spec : {M : Type 1} → statement M
 constant-with-spec =
     tie.close
     (tie.spec
-    (λ c κs. search needs)
-    returns
-    (λ c κs. search needs)
-    write-short-requires
-    (λ c. search needs)
-    returns-2)
+    (λ c κs. search needs) returns (λ c κs. search needs) write-short-requires (λ c. search needs) returns-2)

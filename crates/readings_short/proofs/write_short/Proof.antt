@@ -39,9 +39,4 @@ pub write-short-spec : {M : Type 1} → statement M
 write-short-spec =
     tie.close
     (tie.spec
-    slice-write-out
-    (λ c κs. search needs)
-    slice-write-out-2
-    (λ c κs. search needs)
-    same-length
-    returns)
+    slice-write-out (λ c κs. search needs) slice-write-out-2 (λ c κs. search needs) same-length returns)

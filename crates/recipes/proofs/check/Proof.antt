@@ -45,8 +45,7 @@ total-of-requires-2 c κs =
 
 returns-2 : tie.Need-returns-2
 returns-2 c =
-    let c7 = c .before .before .before .before .before .before .before in
-    let c10 = c7 .before .before .before in
+    let c7 = c .before .before .before .before .before .before .before in let c10 = c7 .before .before .before in
     let p = pass c7 in
     answer-yes _ _ (c10 .judge .ensures .answer) (c7 .if1 .left)
     (c .before .before .before .before .total-of .ensures ∙ ap total (p .part))
@@ -56,19 +55,6 @@ pub check-spec : {M : Type 1} → statement M
 check-spec =
     tie.close
     (tie.spec
-    (λ c. search needs)
-    (λ c κs. search needs)
-    returns
-    (λ c. search needs)
-    (λ c. search needs)
-    (λ c. search needs)
-    (λ c. search needs)
-    part-total-of-end
-    total-of-requires
-    (λ c. search needs)
-    (λ c. search needs)
-    (λ c. search needs)
-    part-largest-of-end
-    largest-of-requires
-    total-of-requires-2
-    returns-2)
+    (λ c. search needs) (λ c κs. search needs) returns (λ c. search needs) (λ c. search needs) (λ c. search needs)
+    (λ c. search needs) part-total-of-end total-of-requires (λ c. search needs) (λ c. search needs) (λ c. search needs)
+    part-largest-of-end largest-of-requires total-of-requires-2 returns-2)

@@ -28,8 +28,7 @@ returns c =
 
 run-admitted-requires : tie.Need-run-admitted-requires
 run-admitted-requires c κs =
-    let c4 = c .before .before .before .before in
-    let c7 = c4 .before .before .before in
+    let c4 = c .before .before .before .before in let c7 = c4 .before .before .before in
     let start = c7 .before .before .before .before .before .before .before .before in (
       admitted (start .args .headers .now) (start .args .coefficients .now) (start .args .steps .now)
           (start .args .pool .now) (start .args .words .now) (start .args .scratch .now) (c7 .admit .ensures)
@@ -42,8 +41,7 @@ run-admitted-requires c κs =
 returns-2 : tie.Need-returns-2
 returns-2 c =
     let c7 = c .before .before .before .before .before .before .before in
-    let c12 = c7 .before .before .before .before .before in
-    let c15 = c12 .before .before .before in
+    let c12 = c7 .before .before .before .before .before in let c15 = c12 .before .before .before in
     let start = c15 .before .before .before .before .before .before .before .before in (
       yes-answer (start .args .headers .now) (start .args .coefficients .now) (start .args .steps .now)
           (start .args .pool .now) (start .args .words .now) (start .args .scratch .now) (c15 .admit .ensures)
@@ -67,12 +65,5 @@ pub run-spec : {M : Type 1} → statement M
 run-spec =
     tie.close
     (tie.spec
-    (λ c. search needs)
-    (λ c κs. search needs)
-    returns
-    (λ c. search needs)
-    run-admitted-requires
-    (λ c. search needs)
-    (λ c. search needs)
-    (λ c. search needs)
-    returns-2)
+    (λ c. search needs) (λ c κs. search needs) returns (λ c. search needs) run-admitted-requires (λ c. search needs)
+    (λ c. search needs) (λ c. search needs) returns-2)

@@ -40,15 +40,5 @@ inputs-refusal-spec =
     (tie.spec
     Inv-loop
     μ-loop
-    loop-holds
-    (λ c. search needs)
-    (λ c. search needs)
-    (λ c κs. search needs)
-    cast-at
-    (λ c κs. search needs)
-    returns
-    (λ c. search needs)
-    (λ c. search needs)
-    loop-again
-    (λ c κs. search needs)
-    returns-2)
+    loop-holds (λ c. search needs) (λ c. search needs) (λ c κs. search needs) cast-at (λ c κs. search needs) returns
+    (λ c. search needs) (λ c. search needs) loop-again (λ c κs. search needs) returns-2)

@@ -29,8 +29,7 @@ note-inputs-requires c κs =
 
 steps-refusal-requires : tie.Need-steps-refusal-requires
 steps-refusal-requires c κs =
-    let c3 = c .before .before .before in
-    let c8 = c3 .before .before .before .before .before in
+    let c3 = c .before .before .before in let c8 = c3 .before .before .before .before .before in
     let start = c8 .before .before .before .before in
     ready _ _ (size c8) (c .before .before .before .before .before .before .before .inputs-refusal .ensures)
     (c .before .before .before .before .before .if2 .left) (start .args .known .now) (c3 .note-inputs .last .1 .0)
@@ -38,10 +37,8 @@ steps-refusal-requires c κs =
 
 returns-3 : tie.Need-returns-3
 returns-3 c =
-    let c8 = c .before .before .before .before .before .before .before .before in
-    let c10 = c8 .before .before in
-    let c11 = c10 .before in
-    let start = c11 .before .before .before .before in
+    let c8 = c .before .before .before .before .before .before .before .before in let c10 = c8 .before .before in
+    let c11 = c10 .before in let start = c11 .before .before .before .before in
     judged-steps _ _ (size c11) (c10 .inputs-refusal .ensures) (c8 .if2 .left) (start .pre)
     (c .before .before .before .before .before .before .note-inputs .ensures)
     (c .before .before .steps-refusal .ensures)
@@ -50,12 +47,5 @@ pub judge-spec : {M : Type 1} → statement M
 judge-spec =
     tie.close
     (tie.spec
-    (λ c. search needs)
-    (λ c κs. search needs)
-    returns
-    inputs-refusal-requires
-    returns-2
-    note-inputs-requires
-    steps-refusal-requires
-    (λ c. search needs)
-    returns-3)
+    (λ c. search needs) (λ c κs. search needs) returns inputs-refusal-requires returns-2 note-inputs-requires
+    steps-refusal-requires (λ c. search needs) returns-3)

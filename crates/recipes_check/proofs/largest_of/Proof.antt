@@ -36,13 +36,5 @@ largest-of-spec =
     (tie.spec
     Inv-loop
     μ-loop
-    loop-holds
-    (λ c. search needs)
-    (λ c. search needs)
-    (λ c κs. search needs)
-    stored-of-requires
-    (λ c κs. search needs)
-    (λ c. search needs)
-    (λ c. search needs)
-    loop-again
-    returns)
+    loop-holds (λ c. search needs) (λ c. search needs) (λ c κs. search needs) stored-of-requires (λ c κs. search needs)
+    (λ c. search needs) (λ c. search needs) loop-again returns)

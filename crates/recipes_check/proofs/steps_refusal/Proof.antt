@@ -33,8 +33,7 @@ slice-aggregate-gate c =
 
 gate-requires : tie.Need-gate-requires Inv-loop μ-loop
 gate-requires c κs =
-    let c3 = c .before .before .before in
-    let start = c3 .before .before .before in
+    let c3 = c .before .before .before in let start = c3 .before .before .before in
     (c3 .loop .inv .regular, omega (arith, judging-taken (c3 .loop .inv) (start .pre) (c .before .before .loop-test .taken), start .pre .fit))
 
 same-length : tie.Need-same-length Inv-loop μ-loop
@@ -69,15 +68,13 @@ pack-requires c κs =
 
 slice-write-known : tie.Need-slice-write-known Inv-loop μ-loop
 slice-write-known c =
-    let c8 = c .before .before .before .before .before .before .before .before in
-    let c9 = c8 .before in
+    let c8 = c .before .before .before .before .before .before .before .before in let c9 = c8 .before in
     let start = c9 .before .before .before in
     judging-room (c9 .loop .inv) (start .pre) (c8 .loop-test .taken)
 
 loop-again : tie.Need-loop-again Inv-loop μ-loop
 loop-again c =
-    let c8 = c .before .before .before .before .before .before .before .before in
-    let c9 = c8 .before in
+    let c8 = c .before .before .before .before .before .before .before .before in let c9 = c8 .before in
     let start = c9 .before .before .before in
     judging-more (c9 .loop .inv) (c8 .loop-test .taken)
     (judging-room (c9 .loop .inv) (start .pre) (c8 .loop-test .taken))
@@ -96,24 +93,7 @@ steps-refusal-spec =
     (tie.spec
     Inv-loop
     μ-loop
-    loop-holds
-    (λ c. search needs)
-    (λ c. search needs)
-    (λ c. search needs)
-    slice-reshare-prefix-gate
-    slice-aggregate-gate
-    gate-requires
-    same-length
-    returns
-    slice-reshare-prefix-announce
-    slice-aggregate-announce
-    announce-requires
-    pack-requires
-    (λ c. search needs)
-    slice-write-known
-    (λ c. search needs)
-    (λ c. search needs)
-    loop-again
-    (λ c κs. search needs)
-    same-length-2
-    returns-2)
+    loop-holds (λ c. search needs) (λ c. search needs) (λ c. search needs) slice-reshare-prefix-gate
+    slice-aggregate-gate gate-requires same-length returns slice-reshare-prefix-announce slice-aggregate-announce
+    announce-requires pack-requires (λ c. search needs) slice-write-known (λ c. search needs) (λ c. search needs)
+    loop-again (λ c κs. search needs) same-length-2 returns-2)

@@ -45,13 +45,5 @@ total-of-spec =
     (tie.spec
     Inv-loop
     μ-loop
-    loop-holds
-    (λ c. search needs)
-    (λ c. search needs)
-    (λ c κs. search needs)
-    stored-of-requires
-    add-sum
-    (λ c. search needs)
-    (λ c. search needs)
-    loop-again
-    returns)
+    loop-holds (λ c. search needs) (λ c. search needs) (λ c κs. search needs) stored-of-requires add-sum
+    (λ c. search needs) (λ c. search needs) loop-again returns)

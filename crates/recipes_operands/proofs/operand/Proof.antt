@@ -44,15 +44,5 @@ pub operand-spec : {M : Type 1} → statement M
 operand-spec =
     tie.close
     (tie.spec
-    add-result
-    mul-result
-    (λ c. search needs)
-    (λ c. search needs)
-    part-result-end
-    returns
-    add-result-2
-    mul-result-2
-    (λ c. search needs)
-    (λ c. search needs)
-    part-result-end-2
-    returns-2)
+    add-result mul-result (λ c. search needs) (λ c. search needs) part-result-end returns add-result-2 mul-result-2
+    (λ c. search needs) (λ c. search needs) part-result-end-2 returns-2)

@@ -91,14 +91,5 @@ pub load-pair-spec : {M : Type 1} → statement M
 load-pair-spec =
     tie.close
     (tie.spec
-    (λ c κs. search needs)
-    (λ c κs. search needs)
-    (λ c κs. search needs)
-    (λ c κs. search needs)
-    (λ c κs. search needs)
-    (λ c κs. search needs)
-    load-two-requires
-    is-zero-requires
-    is-zero-requires-2
-    (λ c. search needs)
-    returns)
+    (λ c κs. search needs) (λ c κs. search needs) (λ c κs. search needs) (λ c κs. search needs) (λ c κs. search needs)
+    (λ c κs. search needs) load-two-requires is-zero-requires is-zero-requires-2 (λ c. search needs) returns)

@@ -52,8 +52,7 @@ part-combine-end-2 c =
 
 combine-requires : tie.Need-combine-requires
 combine-requires c κs =
-    let c5 = c .before .before .before .before .before in
-    let c8 = c5 .before .before .before in
+    let c5 = c .before .before .before .before .before in let c8 = c5 .before .before .before in
     let start = c8 .before .before .before .before .before .before .before in
     let e = ends c5 in
     let l = start .pre .1 .0 in
@@ -66,10 +65,8 @@ combine-requires c κs =
 
 returns : tie.Need-returns
 returns c =
-    let c8 = c .before .before .before .before .before .before .before .before in
-    let c9 = c8 .before in
-    let c10 = c9 .before in
-    let c11 = c10 .before in
+    let c8 = c .before .before .before .before .before .before .before .before in let c9 = c8 .before in
+    let c10 = c9 .before in let c11 = c10 .before in
     let start = c11 .before .before .before .before .before .before .before in
     sum-stands (start .pre .0) (c11 .cut-to .ensures) (c10 .cut-to2 .ensures) (c9 .count-of .ensures)
     (c8 .count-of2 .ensures) (start .args .work .now) (start .args .zero)
@@ -87,11 +84,8 @@ divide-loaded-requires c κs =
 
 returns-2 : tie.Need-returns-2
 returns-2 c =
-    let c8 = c .before .before .before .before .before .before .before .before in
-    let c9 = c8 .before in
-    let c10 = c9 .before in
-    let c11 = c10 .before in
-    let c12 = c11 .before in
+    let c8 = c .before .before .before .before .before .before .before .before in let c9 = c8 .before in
+    let c10 = c9 .before in let c11 = c10 .before in let c12 = c11 .before in
     let start = c12 .before .before .before .before .before .before .before in
     quotient-stands (start .pre .0) (c12 .cut-to .ensures) (c11 .cut-to2 .ensures) (c10 .count-of .ensures)
     (c9 .count-of2 .ensures) (start .args .work .now) (start .args .zero) (c8 .if1 .left)
@@ -110,10 +104,8 @@ zero-to-requires c κs =
 
 returns-3 : tie.Need-returns-3
 returns-3 c =
-    let c8 = c .before .before .before .before .before .before .before .before in
-    let c9 = c8 .before in
-    let c10 = c9 .before in
-    let start = c10 .before .before .before .before .before .before .before in
+    let c8 = c .before .before .before .before .before .before .before .before in let c9 = c8 .before in
+    let c10 = c9 .before in let start = c10 .before .before .before .before .before .before .before in
     zero-stands (start .pre .0) (c10 .cut-to .ensures) (c9 .cut-to2 .ensures) (c8 .count-of .ensures)
     (c .before .before .before .before .before .before .before .count-of2 .ensures) (start .args .work .now)
     (start .args .zero) (c .before .before .before .before .before .before .if1 .left)
@@ -133,12 +125,8 @@ product-requires c κs =
 
 returns-4 : tie.Need-returns-4
 returns-4 c =
-    let c8 = c .before .before .before .before .before .before .before .before in
-    let c9 = c8 .before in
-    let c10 = c9 .before in
-    let c11 = c10 .before in
-    let c12 = c11 .before in
-    let c13 = c12 .before in
+    let c8 = c .before .before .before .before .before .before .before .before in let c9 = c8 .before in
+    let c10 = c9 .before in let c11 = c10 .before in let c12 = c11 .before in let c13 = c12 .before in
     let start = c13 .before .before .before .before .before .before .before in
     product-stands (start .pre .0) (c13 .cut-to .ensures) (c12 .cut-to2 .ensures) (c11 .count-of .ensures)
     (c10 .count-of2 .ensures) (start .args .work .now) (start .args .zero) (c9 .if1 .left) (c8 .if2 .left)
@@ -149,31 +137,8 @@ pub pair-front-spec : {M : Type 1} → statement M
 pair-front-spec =
     tie.close
     (tie.spec
-    (λ c κs. search needs)
-    (λ c κs. search needs)
-    count-of-requires
-    count-of-requires-2
-    add-end
-    (λ c. search needs)
-    (λ c. search needs)
-    part-combine-end
-    (λ c. search needs)
-    (λ c. search needs)
-    (λ c. search needs)
-    part-combine-end-2
-    combine-requires
-    (λ c. search needs)
-    (λ c. search needs)
-    returns
-    divide-loaded-requires
-    (λ c. search needs)
-    (λ c. search needs)
-    returns-2
-    zero-to-requires
-    (λ c. search needs)
-    returns-3
-    (λ c. search needs)
-    product-requires
-    (λ c. search needs)
-    (λ c. search needs)
-    returns-4)
+    (λ c κs. search needs) (λ c κs. search needs) count-of-requires count-of-requires-2 add-end (λ c. search needs)
+    (λ c. search needs) part-combine-end (λ c. search needs) (λ c. search needs) (λ c. search needs) part-combine-end-2
+    combine-requires (λ c. search needs) (λ c. search needs) returns divide-loaded-requires (λ c. search needs)
+    (λ c. search needs) returns-2 zero-to-requires (λ c. search needs) returns-3 (λ c. search needs) product-requires
+    (λ c. search needs) (λ c. search needs) returns-4)

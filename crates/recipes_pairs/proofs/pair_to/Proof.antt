@@ -163,23 +163,7 @@ pub pair-to-spec : {M : Type 1} → statement M
 pair-to-spec =
     tie.close
     (tie.spec
-    (λ c. search needs)
-    (λ c. search needs)
-    slice-aggregate-load-pair
-    (λ c. search needs)
-    slice-aggregate-load-pair-2
-    load-pair-requires
-    add-end
-    (λ c. search needs)
-    slice-aggregate-pair-front
-    mul-pair-front
-    (λ c. search needs)
-    (λ c. search needs)
-    (λ c. search needs)
-    pair-front-requires
-    count-of-requires
-    add-pad
-    pad-requires
-    (λ c. search needs)
-    (λ c. search needs)
-    returns)
+    (λ c. search needs) (λ c. search needs) slice-aggregate-load-pair (λ c. search needs) slice-aggregate-load-pair-2
+    load-pair-requires add-end (λ c. search needs) slice-aggregate-pair-front mul-pair-front (λ c. search needs)
+    (λ c. search needs) (λ c. search needs) pair-front-requires count-of-requires add-pad pad-requires
+    (λ c. search needs) (λ c. search needs) returns)

@@ -44,12 +44,5 @@ pub change-to-spec : {M : Type 1} → statement M
 change-to-spec =
     tie.close
     (tie.spec
-    (λ c. search needs)
-    slice-aggregate-change-from
-    (λ c. search needs)
-    slice-aggregate-change-from-2
-    change-from-requires
-    (λ c κs. search needs)
-    (λ c. search needs)
-    (λ c. search needs)
-    returns)
+    (λ c. search needs) slice-aggregate-change-from (λ c. search needs) slice-aggregate-change-from-2
+    change-from-requires (λ c κs. search needs) (λ c. search needs) (λ c. search needs) returns)

@@ -25,8 +25,7 @@ shift-rows-requires c κs = shifting (c .before .before .before .before .before 
 
 returns-2 : tie.Need-returns-2
 returns-2 c =
-    let c4 = c .before .before .before .before in
-    let c5 = c4 .before in
+    let c4 = c .before .before .before .before in let c5 = c4 .before in
     let start = c5 .before .before .before in (
       down-head (start .pre) (c5 .if1 .left) (c4 .if2 .taken) (start .args .a .now),
       down-places (start .pre) (c5 .if1 .left) (c4 .if2 .taken) (start .args .a .now) (c .before .before .shift-rows .ensures),
@@ -37,8 +36,7 @@ take-rows-requires c κs = shifting (c .before .before .before .before .before .
 
 returns-3 : tie.Need-returns-3
 returns-3 c =
-    let c4 = c .before .before .before .before in
-    let c5 = c4 .before in
+    let c4 = c .before .before .before .before in let c5 = c4 .before in
     let start = c5 .before .before .before in (
       c .before .before .take-rows .ensures .0
           ∙ ap (λ (p : Poly). p .head) (scaled-is (start .pre) (c5 .if1 .left) (c4 .if2 .left) (start .args .a .now)),
@@ -51,12 +49,5 @@ pub changed-spec : {M : Type 1} → statement M
 changed-spec =
     tie.close
     (tie.spec
-    negate-into-requires
-    (λ c. search needs)
-    returns
-    shift-rows-requires
-    (λ c. search needs)
-    returns-2
-    take-rows-requires
-    (λ c. search needs)
-    returns-3)
+    negate-into-requires (λ c. search needs) returns shift-rows-requires (λ c. search needs) returns-2
+    take-rows-requires (λ c. search needs) returns-3)

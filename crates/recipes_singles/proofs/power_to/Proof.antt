@@ -65,8 +65,7 @@ power-loaded-requires c κs =
 
 returns : tie.Need-returns
 returns c =
-    let c4 = c .before .before .before .before in
-    let c9 = c4 .before .before .before .before .before in
+    let c4 = c .before .before .before .before in let c9 = c4 .before .before .before .before .before in
     let start = c9 .before .before .before .before .before .before .before .before in
     let g = start .pre .1 .1 in (
       power-head (start .pre .0) (lying (start .args .input) (start .args .coefficients .now)
@@ -89,20 +88,7 @@ pub power-to-spec : {M : Type 1} → statement M
 power-to-spec =
     tie.close
     (tie.spec
-    (λ c. search needs)
-    (λ c. search needs)
-    slice-aggregate-load-base
-    (λ c. search needs)
-    slice-aggregate-load-base-2
-    load-base-requires
-    (λ c. search needs)
-    (λ c. search needs)
-    slice-aggregate-power-loaded
-    (λ c. search needs)
-    (λ c. search needs)
-    (λ c. search needs)
-    (λ c. search needs)
-    power-loaded-requires
-    (λ c. search needs)
-    (λ c. search needs)
-    returns)
+    (λ c. search needs) (λ c. search needs) slice-aggregate-load-base (λ c. search needs) slice-aggregate-load-base-2
+    load-base-requires (λ c. search needs) (λ c. search needs) slice-aggregate-power-loaded (λ c. search needs)
+    (λ c. search needs) (λ c. search needs) (λ c. search needs) power-loaded-requires (λ c. search needs)
+    (λ c. search needs) returns)

@@ -62,8 +62,7 @@ slice-aggregate-fill-2 c = sym (length-take-le _ _ (slice-relend-prefix-fill-2 (
 fill-requires-2 : tie.Need-fill-requires-2
 fill-requires-2 c κs =
     let c11 = c .before .before .before .before .before .before .before .before .before .before .before in
-    let c12 = c11 .before in
-    let c13 = c12 .before in
+    let c12 = c11 .before in let c13 = c12 .before in
     (omega (arith, c13 .count-of .ensures, c11 .count-of3 .ensures), simp length-take (omega (arith, c12 .count-of2 .ensures)))
 
 slice-reshare-prefix-act : tie.Need-slice-reshare-prefix-act
@@ -100,31 +99,8 @@ pub go-on-spec : {M : Type 1} → statement M
 go-on-spec =
     tie.close
     (tie.spec
-    count-of-requires
-    count-of-requires-2
-    count-of-requires-3
-    add-end
-    add-end-2
-    mul-end
-    slice-relend-prefix-read-full
-    slice-aggregate-read-full
-    read-full-requires
-    mul-fill
-    slice-relend-prefix-fill
-    slice-aggregate-fill
-    fill-requires
-    add-fill
-    mul-fill-2
-    slice-relend-prefix-fill-2
-    slice-aggregate-fill-2
-    fill-requires-2
-    slice-reshare-prefix-act
-    slice-aggregate-act
-    slice-reshare-prefix-act-2
-    slice-aggregate-act-2
-    numbers-of-requires
-    act-requires
-    same-length
-    same-length-2
-    same-length-3
-    returns)
+    count-of-requires count-of-requires-2 count-of-requires-3 add-end add-end-2 mul-end slice-relend-prefix-read-full
+    slice-aggregate-read-full read-full-requires mul-fill slice-relend-prefix-fill slice-aggregate-fill fill-requires
+    add-fill mul-fill-2 slice-relend-prefix-fill-2 slice-aggregate-fill-2 fill-requires-2 slice-reshare-prefix-act
+    slice-aggregate-act slice-reshare-prefix-act-2 slice-aggregate-act-2 numbers-of-requires act-requires same-length
+    same-length-2 same-length-3 returns)

@@ -16,11 +16,5 @@ show-row-spec =
     (tie.spec
     Inv-loop
     μ-loop
-    (λ c. omega arith)
-    (λ c. omega arith)
-    (λ c. omega arith)
-    (λ c κs. search needs)
-    (λ c. omega arith)
-    (λ c. omega arith)
-    (λ c. omega arith)
-    (λ c. search needs))
+    (λ c. omega arith) (λ c. omega arith) (λ c. omega arith) (λ c κs. search needs) (λ c. omega arith)
+    (λ c. omega arith) (λ c. omega arith) (λ c. search needs))

@@ -116,8 +116,7 @@ slice-aggregate-exp-into-3 c = sym (length-take-le _ _ (fits (c .before .before 
 
 exp-into-requires : tie.Need-exp-into-requires
 exp-into-requires c κs =
-    let c3 = c .before .before .before in
-    let c9 = c3 .before .before .before .before .before .before in
+    let c3 = c .before .before .before in let c9 = c3 .before .before .before .before .before .before in
     let c10 = c9 .before in
     let f = fits c3 in
     entry-whole (ready c10) (c9 .header-of .ensures)
@@ -141,12 +140,8 @@ returns-2 : tie.Need-returns-2
 unfolding expAnswer expOut seriesScratch
 returns-2 c =
     let c9 = c .before .before .before .before .before .before .before .before .before in
-    let c13 = c9 .before .before .before .before in
-    let c14 = c13 .before in
-    let c17 = c14 .before .before .before in
-    let c19 = c17 .before .before in
-    let c20 = c19 .before in
-    let c22 = c20 .before .before in
+    let c13 = c9 .before .before .before .before in let c14 = c13 .before in let c17 = c14 .before .before .before in
+    let c19 = c17 .before .before in let c20 = c19 .before in let c22 = c20 .before .before in
     let start = c22 .before .before .before .before in (
       done-answer (c22 .work-gate .ensures) (announcedOne Series (start .args .word))
           (expPoly (start .args .head) (held (start .args .word) (start .args .a .now))) (c20 .if1 .left)
@@ -170,24 +165,8 @@ pub exp-spec : {M : Type 1} → statement M
 exp-spec =
     tie.close
     (tie.spec
-    (λ c κs. search needs)
-    returns
-    (λ c κs. search needs)
-    (λ c κs. search needs)
-    announced-of-requires
-    stored-of-requires
-    stored-of-requires-2
-    mul-room
-    slice-aggregate-exp-into
-    slice-relend-prefix-exp-into
-    slice-aggregate-exp-into-2
-    slice-relend-prefix-exp-into-2
-    slice-aggregate-exp-into-3
-    exp-into-requires
-    slice-relend-prefix-clear
-    slice-aggregate-clear
-    (λ c κs. search needs)
-    pack-requires
-    (λ c. search needs)
-    (λ c. search needs)
-    returns-2)
+    (λ c κs. search needs) returns (λ c κs. search needs) (λ c κs. search needs) announced-of-requires
+    stored-of-requires stored-of-requires-2 mul-room slice-aggregate-exp-into slice-relend-prefix-exp-into
+    slice-aggregate-exp-into-2 slice-relend-prefix-exp-into-2 slice-aggregate-exp-into-3 exp-into-requires
+    slice-relend-prefix-clear slice-aggregate-clear (λ c κs. search needs) pack-requires (λ c. search needs)
+    (λ c. search needs) returns-2)

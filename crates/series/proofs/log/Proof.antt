@@ -116,11 +116,8 @@ slice-aggregate-log-into-3 c = sym (length-take-le _ _ (fits (c .before .before 
 
 log-into-requires : tie.Need-log-into-requires
 log-into-requires c κs =
-    let c3 = c .before .before .before in
-    let c7 = c3 .before .before .before .before in
-    let c9 = c7 .before .before in
-    let c10 = c9 .before in
-    let start = c10 .before .before .before .before .before .before in
+    let c3 = c .before .before .before in let c7 = c3 .before .before .before .before in let c9 = c7 .before .before in
+    let c10 = c9 .before in let start = c10 .before .before .before .before .before .before in
     let f = fits c3 in (
       entry-whole (ready c10) (c9 .header-of .ensures) (is-announced c7)
           (c .before .before .before .before .stored-of .ensures) (c3 .stored-of2 .ensures) (length-take-le _ _ (f .0))
@@ -144,12 +141,8 @@ returns-2 : tie.Need-returns-2
 unfolding logAnswer logOut seriesScratch
 returns-2 c =
     let c9 = c .before .before .before .before .before .before .before .before .before in
-    let c13 = c9 .before .before .before .before in
-    let c14 = c13 .before in
-    let c17 = c14 .before .before .before in
-    let c19 = c17 .before .before in
-    let c20 = c19 .before in
-    let c22 = c20 .before .before in
+    let c13 = c9 .before .before .before .before in let c14 = c13 .before in let c17 = c14 .before .before .before in
+    let c19 = c17 .before .before in let c20 = c19 .before in let c22 = c20 .before .before in
     let start = c22 .before .before .before .before in (
       done-answer (c22 .work-gate .ensures) (announcedOne Series (start .args .word))
           (logPoly (start .args .head) (held (start .args .word) (start .args .a .now))) (c20 .if1 .left)
@@ -173,24 +166,8 @@ pub log-spec : {M : Type 1} → statement M
 log-spec =
     tie.close
     (tie.spec
-    (λ c κs. search needs)
-    returns
-    (λ c κs. search needs)
-    (λ c κs. search needs)
-    announced-of-requires
-    stored-of-requires
-    stored-of-requires-2
-    mul-room
-    slice-aggregate-log-into
-    slice-relend-prefix-log-into
-    slice-aggregate-log-into-2
-    slice-relend-prefix-log-into-2
-    slice-aggregate-log-into-3
-    log-into-requires
-    slice-relend-prefix-clear
-    slice-aggregate-clear
-    (λ c κs. search needs)
-    pack-requires
-    (λ c. search needs)
-    (λ c. search needs)
-    returns-2)
+    (λ c κs. search needs) returns (λ c κs. search needs) (λ c κs. search needs) announced-of-requires
+    stored-of-requires stored-of-requires-2 mul-room slice-aggregate-log-into slice-relend-prefix-log-into
+    slice-aggregate-log-into-2 slice-relend-prefix-log-into-2 slice-aggregate-log-into-3 log-into-requires
+    slice-relend-prefix-clear slice-aggregate-clear (λ c κs. search needs) pack-requires (λ c. search needs)
+    (λ c. search needs) returns-2)

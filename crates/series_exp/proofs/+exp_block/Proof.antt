@@ -1,11 +1,10 @@
 use native.Mathlib.Omega.{arith}
-use Prim.Native.Nat.{ℕ, _+_, _-_, _<_}
+use Prim.Native.Nat.{ℕ, _+_, _-_, _<_, ℕ, _<_}
 use mathlib.Core.Path.{_≡_}
 use lib.ListN.{length, length-set}
 use borrow.Author.Needs.{needs}
 use Rattle.product_general.specs.Product.{span-none}
 use Rattle.series_exp.specs.Stacked.{room-same, room-next, block-none, block-more}
-use Prim.Native.Nat.{ℕ, _<_}
 use borrow.Fn.Kinds.{In}
 use borrow.Fn.PlainCycle.{Measures, is, falls, and}
 use Rattle.series_exp.proofs.exp_block.Reads as exp-block
@@ -56,8 +55,7 @@ exp-block-exp-block-requires t c κs =
 
 exp-block-exp-rows-requires : (t : ℕ) → exp-block-lts.Need-exp-rows-requires (exp-block-claims t) (exp-block-at t) exp-block.Post
 exp-block-exp-rows-requires t c κs =
-    let c6 = c .before .before .before .before .before .before in
-    let c9 = c6 .before .before .before in
+    let c6 = c .before .before .before .before .before .before in let c9 = c6 .before .before .before in
     let start = c9 .before .before .before .before in (
       start .pre .1 .0,
       (
@@ -76,8 +74,7 @@ exp-block-same-length-3 t c = search needs
 exp-block-returns-2 : (t : ℕ) → exp-block-lts.Need-returns-2 (exp-block-claims t) (exp-block-at t) exp-block.Post
 exp-block-returns-2 t c =
     let c4 = c .before .before .before .before in
-    let c11 = c4 .before .before .before .before .before .before .before in
-    let c14 = c11 .before .before .before in
+    let c11 = c4 .before .before .before .before .before .before .before in let c14 = c11 .before .before .before in
     let start = c14 .before .before .before .before in
     block-more (start .args .head) (start .args .lx) (start .args .r) (start .args .xs .now)
     (c11 .exp-block .last .1 .1 .1 .1 .1 .1 .1 .1 .0) (c4 .exp-rows .last .1 .1 .1 .1 .1 .1 .1 .0)
@@ -87,12 +84,6 @@ pub +exp-block-spec : {M : Type 1} → statement M
 +exp-block-spec = close μ-exp-block λ t. exp-block-lts.spec (exp-block-claims t)
     (exp-block-at t)
     exp-block.Post
-    (exp-block-slice-write-work t)
-    (exp-block-same-length t)
-    (exp-block-returns t)
-    (exp-block-add-exp-block t)
-    (exp-block-exp-block-requires t)
-    (exp-block-exp-rows-requires t)
-    (exp-block-same-length-2 t)
-    (exp-block-same-length-3 t)
-    (exp-block-returns-2 t)
+    (exp-block-slice-write-work t) (exp-block-same-length t) (exp-block-returns t) (exp-block-add-exp-block t)
+    (exp-block-exp-block-requires t) (exp-block-exp-rows-requires t) (exp-block-same-length-2 t)
+    (exp-block-same-length-3 t) (exp-block-returns-2 t)

@@ -93,26 +93,7 @@ pub exp-row-spec : {M : Type 1} → statement M
 exp-row-spec =
     tie.close
     (tie.spec
-    (λ c. search needs)
-    (λ c. search needs)
-    mul-at-2
-    (λ c. search needs)
-    (λ c. search needs)
-    add-end
-    (λ c. search needs)
-    (λ c. search needs)
-    (λ c. search needs)
-    (λ c. search needs)
-    (λ c. search needs)
-    (λ c. search needs)
-    part-gather-end-2
-    gather-requires
-    divide-by-requires
-    mul-copy
-    (λ c. search needs)
-    (λ c. search needs)
-    part-copy-end
-    copy-requires
-    (λ c. search needs)
-    (λ c. search needs)
-    returns)
+    (λ c. search needs) (λ c. search needs) mul-at-2 (λ c. search needs) (λ c. search needs) add-end (λ c. search needs)
+    (λ c. search needs) (λ c. search needs) (λ c. search needs) (λ c. search needs) (λ c. search needs)
+    part-gather-end-2 gather-requires divide-by-requires mul-copy (λ c. search needs) (λ c. search needs) part-copy-end
+    copy-requires (λ c. search needs) (λ c. search needs) returns)

@@ -167,9 +167,7 @@ loop-less c = omega (arith, c .before .before .before .before .before .before .b
 
 loop-again : tie.Need-loop-again Inv-loop μ-loop
 loop-again c =
-    let c4 = c .before .before .before .before in
-    let c7 = c4 .before .before .before in
-    let c8 = c7 .before in
+    let c4 = c .before .before .before .before in let c7 = c4 .before .before .before in let c8 = c7 .before in
     let start = c8 .before .before .before .before .before .before .before .before in (
       omega (arith, c7 .loop-test .taken),
       (
@@ -203,28 +201,6 @@ exp-rows-spec =
     (tie.spec
     Inv-loop
     μ-loop
-    mul-t
-    array-read-t
-    mul-s
-    array-read-s
-    mul-m
-    array-read-m
-    mul-e
-    array-read-e
-    mul-e-2
-    add-e
-    mul-weigh
-    sub-weigh
-    part-weigh-start
-    part-weigh-end
-    weigh-requires
-    loop-holds
-    slice-relend-prefix-exp-row
-    slice-aggregate-exp-row
-    exp-row-requires
-    add-k
-    loop-less
-    loop-again
-    same-length
-    same-length-2
-    returns)
+    mul-t array-read-t mul-s array-read-s mul-m array-read-m mul-e array-read-e mul-e-2 add-e mul-weigh sub-weigh
+    part-weigh-start part-weigh-end weigh-requires loop-holds slice-relend-prefix-exp-row slice-aggregate-exp-row
+    exp-row-requires add-k loop-less loop-again same-length same-length-2 returns)

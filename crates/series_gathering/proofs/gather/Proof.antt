@@ -45,15 +45,5 @@ pub gather-spec : {M : Type 1} → statement M
 gather-spec =
     tie.close
     (tie.spec
-    (λ c. search needs)
-    (λ c. search needs)
-    upto-requires
-    (λ c. search needs)
-    (λ c. search needs)
-    sum-on-requires
-    slice-write-row
-    (λ c. search needs)
-    returns
-    gather-rows-requires
-    (λ c. search needs)
-    returns-2)
+    (λ c. search needs) (λ c. search needs) upto-requires (λ c. search needs) (λ c. search needs) sum-on-requires
+    slice-write-row (λ c. search needs) returns gather-rows-requires (λ c. search needs) returns-2)

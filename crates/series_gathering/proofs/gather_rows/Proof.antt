@@ -134,8 +134,7 @@ loop-less c = omega (arith, c .before .before .before .before .before .before .b
 
 loop-again : tie.Need-loop-again Inv-loop μ-loop
 loop-again c =
-    let c7 = c .before .before .before .before .before .before .before in
-    let c8 = c7 .before in
+    let c7 = c .before .before .before .before .before .before .before in let c8 = c7 .before in
     let start = c8 .before .before .before .before .before .before .before .before in
     let f = c8 .loop .inv .1 .from in (
       omega (arith, c7 .loop-test .taken),
@@ -165,30 +164,6 @@ gather-rows-spec =
     (tie.spec
     Inv-loop
     μ-loop
-    (λ c κs. search needs)
-    add-w
-    mul-t
-    array-read-t
-    mul-s
-    array-read-s
-    loop-holds
-    left-row-requires
-    mul-p
-    sub-q
-    mul-q
-    add-rows
-    mul-rows
-    sub-rows
-    part-rows-start
-    part-rows-end
-    add-rows-2
-    mul-rows-2
-    sub-rows-2
-    part-rows-start-2
-    part-rows-end-2
-    rows-requires
-    add-j
-    loop-less
-    loop-again
-    same-length
-    returns)
+    (λ c κs. search needs) add-w mul-t array-read-t mul-s array-read-s loop-holds left-row-requires mul-p sub-q mul-q
+    add-rows mul-rows sub-rows part-rows-start part-rows-end add-rows-2 mul-rows-2 sub-rows-2 part-rows-start-2
+    part-rows-end-2 rows-requires add-j loop-less loop-again same-length returns)

@@ -1,5 +1,5 @@
 use native.Mathlib.Omega.{arith}
-use Prim.Native.Nat.{ℕ, _+_, _-_, _≤_, _<_}
+use Prim.Native.Nat.{ℕ, _+_, _-_, _≤_, _<_, ℕ, _<_}
 use mathlib.Core.Path.{_≡_, sym, _∙_}
 use lib.ListN.{length, length-set}
 use lib.Seq.{length-take-le}
@@ -8,7 +8,6 @@ use borrow.Table.Elements.{same-len}
 use Rattle.lists.specs.Four.{at}
 use Rattle.product_general.specs.Product.{span-none, alone-by, first-in}
 use Rattle.series_log.specs.LogBlock.{rows-same, rows-next, line-room, log-none, log-alone, log-others, not-one}
-use Prim.Native.Nat.{ℕ, _<_}
 use borrow.Fn.Kinds.{In}
 use borrow.Fn.PlainCycle.{Measures, is, falls, and}
 use Rattle.series_log.proofs.log_block.Reads as log-block
@@ -105,8 +104,7 @@ log-block-same-length-2 t c =
 
 log-block-returns-2 : (t : ℕ) → log-block-lts.Need-returns-2 (log-block-claims t) (log-block-at t) log-block.Post
 log-block-returns-2 t c =
-    let c5 = c .before .before .before .before .before in
-    let start = c5 .before .before .before .before in
+    let c5 = c .before .before .before .before .before in let start = c5 .before .before .before .before in
     log-alone (start .args .head) (start .args .t3) (start .args .t5) (start .args .xs .now) (start .args .work .now)
     (some t start (c5 .if1 .left))
     (sym (alone-by (start .args .t5) (start .pre .1 .0 .shaped .strided .by-r) (some t start (c5 .if1 .left)))
@@ -126,8 +124,7 @@ log-block-log-block-requires t c κs =
 
 log-block-log-rows-requires : (t : ℕ) → log-block-lts.Need-log-rows-requires (log-block-claims t) (log-block-at t) log-block.Post
 log-block-log-rows-requires t c κs =
-    let c6 = c .before .before .before .before .before .before in
-    let c10 = c6 .before .before .before .before in
+    let c6 = c .before .before .before .before .before .before in let c10 = c6 .before .before .before .before in
     let start = c10 .before .before .before .before in (
       start .pre .1 .0 .shaped,
       (
@@ -146,10 +143,8 @@ log-block-same-length-4 t c = search needs
 log-block-returns-3 : (t : ℕ) → log-block-lts.Need-returns-3 (log-block-claims t) (log-block-at t) log-block.Post
 log-block-returns-3 t c =
     let c4 = c .before .before .before .before in
-    let c11 = c4 .before .before .before .before .before .before .before in
-    let c14 = c11 .before .before .before in
-    let c15 = c14 .before in
-    let start = c15 .before .before .before .before in
+    let c11 = c4 .before .before .before .before .before .before .before in let c14 = c11 .before .before .before in
+    let c15 = c14 .before in let start = c15 .before .before .before .before in
     log-others (start .args .head) (start .args .t3) (start .args .t5) (start .args .xs .now)
     (c11 .log-block .last .1 .1 .1 .1 .1 .1 .1 .1 .0) (c4 .log-rows .last .1 .1 .1 .1 .1 .1 .1 .0)
     (some t start (c15 .if1 .left))
@@ -163,25 +158,9 @@ pub +log-block-spec : {M : Type 1} → statement M
 +log-block-spec = close μ-log-block λ t. log-block-lts.spec (log-block-claims t)
     (log-block-at t)
     log-block.Post
-    (log-block-slice-write-work t)
-    (log-block-same-length t)
-    (log-block-returns t)
-    (log-block-mul-if2 t)
-    (log-block-array-read-if2 t)
-    (log-block-mul-if2-2 t)
-    (log-block-array-read-if2-2 t)
-    (log-block-mul-m t)
-    (log-block-array-read-m t)
-    (log-block-mul-log-line t)
-    (log-block-array-read-log-line t)
-    (log-block-slice-relend-prefix-log-line t)
-    (log-block-slice-aggregate-log-line t)
-    (log-block-log-line-requires t)
-    (log-block-same-length-2 t)
-    (log-block-returns-2 t)
-    (log-block-add-log-block t)
-    (log-block-log-block-requires t)
-    (log-block-log-rows-requires t)
-    (log-block-same-length-3 t)
-    (log-block-same-length-4 t)
-    (log-block-returns-3 t)
+    (log-block-slice-write-work t) (log-block-same-length t) (log-block-returns t) (log-block-mul-if2 t)
+    (log-block-array-read-if2 t) (log-block-mul-if2-2 t) (log-block-array-read-if2-2 t) (log-block-mul-m t)
+    (log-block-array-read-m t) (log-block-mul-log-line t) (log-block-array-read-log-line t)
+    (log-block-slice-relend-prefix-log-line t) (log-block-slice-aggregate-log-line t) (log-block-log-line-requires t)
+    (log-block-same-length-2 t) (log-block-returns-2 t) (log-block-add-log-block t) (log-block-log-block-requires t)
+    (log-block-log-rows-requires t) (log-block-same-length-3 t) (log-block-same-length-4 t) (log-block-returns-3 t)

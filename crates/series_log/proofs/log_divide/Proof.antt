@@ -28,8 +28,7 @@ copy-requires c κs =
 returns : tie.Need-returns
 returns c =
     let c9 = c .before .before .before .before .before .before .before .before .before in
-    let c13 = c9 .before .before .before .before in
-    let start = c13 .before .before .before .before .before .before in
+    let c13 = c9 .before .before .before .before in let start = c13 .before .before .before .before .before .before in
     let s : ℕ = length (start .args .row .now) in
     let t : ℕ = length (start .args .xs .now) in
     let w1 : List Float = c13 .copy .last .1 .0 ++ drop s (start .args .work .now) in
@@ -54,16 +53,6 @@ pub log-divide-spec : {M : Type 1} → statement M
 log-divide-spec =
     tie.close
     (tie.spec
-    (λ c. search needs)
-    slice-aggregate-copy
-    copy-requires
-    (λ c. search needs)
-    (λ c. search needs)
-    (λ c. search needs)
-    (λ c. search needs)
-    (λ c. search needs)
-    (λ c κs. search needs)
-    (λ c κs. search needs)
-    (λ c. search needs)
-    (λ c. search needs)
-    returns)
+    (λ c. search needs) slice-aggregate-copy copy-requires (λ c. search needs) (λ c. search needs) (λ c. search needs)
+    (λ c. search needs) (λ c. search needs) (λ c κs. search needs) (λ c κs. search needs) (λ c. search needs)
+    (λ c. search needs) returns)

@@ -1,7 +1,6 @@
-use Prim.Native.Nat.{_<_}
+use Prim.Native.Nat.{_<_, _+_, _-_, _*_}
 use native.Mathlib.Omega.{arith}
 use mathlib.Core.Path.{_≡_, refl, sym, ap, _∙_}
-use Prim.Native.Nat.{_+_, _-_, _*_}
 use lib.ListN.{length}
 use Rattle.lists.specs.Four.{at}
 use Rattle.lists.specs.Table.{length-table}
@@ -94,15 +93,13 @@ part-add-operand-end c =
 add-add-operand-2 : tie.Need-add-add-operand-2
 add-add-operand-2 c =
     let c12 = c .before .before .before .before .before .before .before .before .before .before .before .before in
-    let c15 = c12 .before .before .before in
-    let start = c15 .before .before .before in
+    let c15 = c12 .before .before .before in let start = c15 .before .before .before in
     omega (arith, operand-less (start .pre .0) (start .pre .1), (start .pre .1) .work, rooms c15)
 
 mul-add-operand-2 : tie.Need-mul-add-operand-2
 mul-add-operand-2 c =
     let c12 = c .before .before .before .before .before .before .before .before .before .before .before .before in
-    let c15 = c12 .before .before .before in
-    let start = c15 .before .before .before in
+    let c15 = c12 .before .before .before in let start = c15 .before .before .before in
     omega (arith, operand-less (start .pre .0) (start .pre .1), (start .pre .1) .work, rooms c15)
 
 part-add-operand-end-2 : tie.Need-part-add-operand-end-2
@@ -113,8 +110,7 @@ part-add-operand-end-2 c =
 
 add-operand-requires : tie.Need-add-operand-requires
 add-operand-requires c κs =
-    let c5 = c .before .before .before .before .before in
-    let c8 = c5 .before .before .before in
+    let c5 = c .before .before .before .before .before in let c8 = c5 .before .before .before in
     let start = c8 .before .before .before .before .before .before .before .before .before .before .before .before in
     let d : (start .args .k) * (at (start .args .t3) (start .args .v)) + (at (start .args .t3) (start .args .v))
     - start .args .k * (at (start .args .t3) (start .args .v))
@@ -142,20 +138,14 @@ add-operand-requires c κs =
 same-length-4 : tie.Need-same-length-4
 same-length-4 c =
     let c12 = c .before .before .before .before .before .before .before .before .before .before .before .before in
-    let c13 = c12 .before in
-    let c17 = c13 .before .before .before .before in
+    let c13 = c12 .before in let c17 = c13 .before .before .before .before in
     c .before .before .before .before .add-operand .kept .1 .1 .1 .1 .1 .0 ∙ (c13 .turn .kept .0 ∙ c17 .gather-rows .kept .1 .1 .1 .1 .1 .1 .1 .1 .1 .1 .1 .0)
 
 returns-2 : tie.Need-returns-2
 returns-2 c =
-    let c4 = c .before .before .before .before in
-    let c8 = c4 .before .before .before .before in
-    let c9 = c8 .before in
-    let c10 = c9 .before in
-    let c13 = c10 .before .before .before in
-    let c17 = c13 .before .before .before .before in
-    let c21 = c17 .before .before .before .before in
-    let start = c21 .before .before .before .before in
+    let c4 = c .before .before .before .before in let c8 = c4 .before .before .before .before in let c9 = c8 .before in
+    let c10 = c9 .before in let c13 = c10 .before .before .before in let c17 = c13 .before .before .before .before in
+    let c21 = c17 .before .before .before .before in let start = c21 .before .before .before .before in
     let d : (start .args .k) * (at (start .args .t3) (start .args .v)) + (at (start .args .t3) (start .args .v))
     - start .args .k * (at (start .args .t3) (start .args .v))
     ≡ (at (start .args .t3) (start .args .v)) = omega arith in
@@ -178,39 +168,10 @@ pub log-gather-spec : {M : Type 1} → statement M
 log-gather-spec =
     tie.close
     (tie.spec
-    (λ c. search needs)
-    (λ c. search needs)
-    (λ c. search needs)
-    (λ c. search needs)
-    mul-at-2
-    first-turn-requires
-    add-gather-rows
-    (λ c. search needs)
-    (λ c. search needs)
-    (λ c. search needs)
-    part-gather-rows-end
-    gather-rows-requires
-    (λ c κs. search needs)
-    (λ c. search needs)
-    (λ c. search needs)
-    returns
-    (λ c. search needs)
-    (λ c. search needs)
-    mul-from
-    (λ c. search needs)
-    (λ c κs. search needs)
-    (λ c κs. search needs)
-    add-add-operand
-    mul-add-operand
-    (λ c. search needs)
-    (λ c. search needs)
-    part-add-operand-end
-    add-add-operand-2
-    mul-add-operand-2
-    (λ c. search needs)
-    (λ c. search needs)
-    part-add-operand-end-2
-    add-operand-requires
-    (λ c. search needs)
-    same-length-4
-    returns-2)
+    (λ c. search needs) (λ c. search needs) (λ c. search needs) (λ c. search needs) mul-at-2 first-turn-requires
+    add-gather-rows (λ c. search needs) (λ c. search needs) (λ c. search needs) part-gather-rows-end
+    gather-rows-requires (λ c κs. search needs) (λ c. search needs) (λ c. search needs) returns (λ c. search needs)
+    (λ c. search needs) mul-from (λ c. search needs) (λ c κs. search needs) (λ c κs. search needs) add-add-operand
+    mul-add-operand (λ c. search needs) (λ c. search needs) part-add-operand-end add-add-operand-2 mul-add-operand-2
+    (λ c. search needs) (λ c. search needs) part-add-operand-end-2 add-operand-requires (λ c. search needs)
+    same-length-4 returns-2)

@@ -103,8 +103,7 @@ part-log-divide-end-2 c =
 log-divide-requires : tie.Need-log-divide-requires
 log-divide-requires c κs =
     let c9 = c .before .before .before .before .before .before .before .before .before in
-    let c12 = c9 .before .before .before in
-    let start = c12 .before .before .before in
+    let c12 = c9 .before .before .before in let start = c12 .before .before .before in
     let d : 2 * start .args .n + 8 * (at (start .args .t5) (start .args .v)) - 2 * start .args .n
     ≡ 8 * (at (start .args .t5) (start .args .v)) = omega arith in
     let z : (at (start .args .t3) (start .args .v)) - 0 ≡ (at (start .args .t3) (start .args .v)) = omega arith in
@@ -147,16 +146,14 @@ part-copy-end : tie.Need-part-copy-end
 part-copy-end c =
     let c9 = c .before .before .before .before .before .before .before .before .before in
     let c21 = c9 .before .before .before .before .before .before .before .before .before .before .before .before in
-    let c22 = c21 .before in
-    let start = c22 .before .before .before in
+    let c22 = c21 .before in let start = c22 .before .before .before in
     omega (arith, log-fits (start .pre .0) (start .pre .1), log-half (start .pre .0) (start .pre .1), (start .pre .1) .work, rooms c22, len2 c9)
 
 copy-requires : tie.Need-copy-requires
 copy-requires c κs =
     let c10 = c .before .before .before .before .before .before .before .before .before .before in
     let c20 = c10 .before .before .before .before .before .before .before .before .before .before in
-    let c23 = c20 .before .before .before in
-    let start = c23 .before .before .before in
+    let c23 = c20 .before .before .before in let start = c23 .before .before .before in
     let e : (start .args .k) * (at (start .args .t5) (start .args .v)) + (at (start .args .t5) (start .args .v))
     - start .args .k * (at (start .args .t5) (start .args .v))
     ≡ (at (start .args .t5) (start .args .v)) = omega arith in
@@ -182,40 +179,35 @@ add-scale : tie.Need-add-scale
 add-scale c =
     let c12 = c .before .before .before .before .before .before .before .before .before .before .before .before in
     let c24 = c12 .before .before .before .before .before .before .before .before .before .before .before .before in
-    let c27 = c24 .before .before .before in
-    let start = c27 .before .before .before in
+    let c27 = c24 .before .before .before in let start = c27 .before .before .before in
     omega (arith, log-fits (start .pre .0) (start .pre .1), log-half (start .pre .0) (start .pre .1), (start .pre .1) .work, rooms c27)
 
 add-scale-2 : tie.Need-add-scale-2
 add-scale-2 c =
     let c12 = c .before .before .before .before .before .before .before .before .before .before .before .before in
     let c24 = c12 .before .before .before .before .before .before .before .before .before .before .before .before in
-    let c27 = c24 .before .before .before in
-    let start = c27 .before .before .before in
+    let c27 = c24 .before .before .before in let start = c27 .before .before .before in
     omega (arith, log-fits (start .pre .0) (start .pre .1), log-half (start .pre .0) (start .pre .1), (start .pre .1) .work, rooms c27)
 
 add-scale-3 : tie.Need-add-scale-3
 add-scale-3 c =
     let c12 = c .before .before .before .before .before .before .before .before .before .before .before .before in
     let c24 = c12 .before .before .before .before .before .before .before .before .before .before .before .before in
-    let c27 = c24 .before .before .before in
-    let start = c27 .before .before .before in
+    let c27 = c24 .before .before .before in let start = c27 .before .before .before in
     omega (arith, log-fits (start .pre .0) (start .pre .1), log-half (start .pre .0) (start .pre .1), (start .pre .1) .work, rooms c27)
 
 mul-scale : tie.Need-mul-scale
 mul-scale c =
     let c12 = c .before .before .before .before .before .before .before .before .before .before .before .before in
     let c24 = c12 .before .before .before .before .before .before .before .before .before .before .before .before in
-    let c27 = c24 .before .before .before in
-    let start = c27 .before .before .before in
+    let c27 = c24 .before .before .before in let start = c27 .before .before .before in
     omega (arith, log-fits (start .pre .0) (start .pre .1), log-half (start .pre .0) (start .pre .1), (start .pre .1) .work, rooms c27)
 
 part-scale-end : tie.Need-part-scale-end
 part-scale-end c =
     let c12 = c .before .before .before .before .before .before .before .before .before .before .before .before in
     let c24 = c12 .before .before .before .before .before .before .before .before .before .before .before .before in
-    let c27 = c24 .before .before .before in
-    let start = c27 .before .before .before in
+    let c27 = c24 .before .before .before in let start = c27 .before .before .before in
     omega (
       arith,
       log-fits (start .pre .0) (start .pre .1),
@@ -227,12 +219,10 @@ part-scale-end c =
 
 scale-requires : tie.Need-scale-requires
 scale-requires c κs =
-    let c4 = c .before .before .before .before in
-    let c9 = c4 .before .before .before .before .before in
+    let c4 = c .before .before .before .before in let c9 = c4 .before .before .before .before .before in
     let c15 = c9 .before .before .before .before .before .before in
     let c25 = c15 .before .before .before .before .before .before .before .before .before .before in
-    let c28 = c25 .before .before .before in
-    let start = c28 .before .before .before in
+    let c28 = c25 .before .before .before in let start = c28 .before .before .before in
     let f : (start .args .n) + start .args .k * (at (start .args .t5) (start .args .v))
     + (at (start .args .t5) (start .args .v))
     - (start .args .n + start .args .k * (at (start .args .t5) (start .args .v)))
@@ -284,12 +274,9 @@ same-length-2 c =
 returns : tie.Need-returns
 returns c =
     let c12 = c .before .before .before .before .before .before .before .before .before .before .before .before in
-    let c18 = c12 .before .before .before .before .before .before in
-    let c22 = c18 .before .before .before .before in
-    let c23 = c22 .before in
-    let c28 = c23 .before .before .before .before .before in
-    let c31 = c28 .before .before .before in
-    let start = c31 .before .before .before in
+    let c18 = c12 .before .before .before .before .before .before in let c22 = c18 .before .before .before .before in
+    let c23 = c22 .before in let c28 = c23 .before .before .before .before .before in
+    let c31 = c28 .before .before .before in let start = c31 .before .before .before in
     let d : 2 * start .args .n + 8 * (at (start .args .t5) (start .args .v)) - 2 * start .args .n
     ≡ 8 * (at (start .args .t5) (start .args .v)) = omega arith in
     let e : (start .args .k) * (at (start .args .t5) (start .args .v)) + (at (start .args .t5) (start .args .v))
@@ -331,40 +318,9 @@ pub log-row-spec : {M : Type 1} → statement M
 log-row-spec =
     tie.close
     (tie.spec
-    (λ c. search needs)
-    (λ c. search needs)
-    (λ c. search needs)
-    (λ c. search needs)
-    mul-at
-    (λ c. search needs)
-    (λ c κs. search needs)
-    (λ c κs. search needs)
-    (λ c κs. search needs)
-    (λ c. search needs)
-    (λ c. search needs)
-    part-log-divide-end
-    mul-log-divide
-    add-log-divide
-    (λ c. search needs)
-    (λ c. search needs)
-    (λ c. search needs)
-    part-log-divide-end-2
-    log-divide-requires
-    divide-by-requires
-    add-copy
-    mul-copy
-    (λ c. search needs)
-    (λ c. search needs)
-    part-copy-end
-    copy-requires
-    add-scale
-    add-scale-2
-    add-scale-3
-    mul-scale
-    (λ c. search needs)
-    (λ c. search needs)
-    part-scale-end
-    scale-requires
-    same-length
-    same-length-2
-    returns)
+    (λ c. search needs) (λ c. search needs) (λ c. search needs) (λ c. search needs) mul-at (λ c. search needs)
+    (λ c κs. search needs) (λ c κs. search needs) (λ c κs. search needs) (λ c. search needs) (λ c. search needs)
+    part-log-divide-end mul-log-divide add-log-divide (λ c. search needs) (λ c. search needs) (λ c. search needs)
+    part-log-divide-end-2 log-divide-requires divide-by-requires add-copy mul-copy (λ c. search needs)
+    (λ c. search needs) part-copy-end copy-requires add-scale add-scale-2 add-scale-3 mul-scale (λ c. search needs)
+    (λ c. search needs) part-scale-end scale-requires same-length same-length-2 returns)

@@ -58,8 +58,7 @@ slice-relend-prefix-log-row c =
 
 slice-aggregate-log-row : tie.Need-slice-aggregate-log-row Inv-loop μ-loop
 slice-aggregate-log-row c =
-    let c3 = c .before .before .before in
-    let start = c3 .before .before .before .before in
+    let c3 = c .before .before .before in let start = c3 .before .before .before .before in
     sym (length-take-le (at (start .args .t5) (start .args .v)) (c3 .loop .row)
     (omega (arith, log-width (start .pre .0) (start .pre .1 .0) (start .pre .1 .1), c3 .loop .inv .1 .1)))
 
@@ -76,9 +75,7 @@ loop-less c = omega (arith, c .before .before .before .before .before .before .b
 
 loop-again : tie.Need-loop-again Inv-loop μ-loop
 loop-again c =
-    let c4 = c .before .before .before .before in
-    let c7 = c4 .before .before .before in
-    let c8 = c7 .before in
+    let c4 = c .before .before .before .before in let c7 = c4 .before .before .before in let c8 = c7 .before in
     let start = c8 .before .before .before .before in (
       omega (arith, c7 .loop-test .taken),
       (
@@ -108,17 +105,5 @@ log-rows-spec =
     (tie.spec
     Inv-loop
     μ-loop
-    mul-s
-    array-read-s
-    mul-m
-    array-read-m
-    loop-holds
-    slice-relend-prefix-log-row
-    slice-aggregate-log-row
-    log-row-requires
-    add-k
-    loop-less
-    loop-again
-    same-length
-    same-length-2
-    returns)
+    mul-s array-read-s mul-m array-read-m loop-holds slice-relend-prefix-log-row slice-aggregate-log-row
+    log-row-requires add-k loop-less loop-again same-length same-length-2 returns)

@@ -1,12 +1,9 @@
-use Prim.Native.Nat.{ℕ}
-use lib.ListN.{length-set, set}
+use Prim.Native.Nat.{ℕ, _<_, _-_, _≤_}
+use lib.ListN.{length-set, set, length, take}
 use mathlib.Core.List.{[], _∷_}
-use Prim.Native.Nat.{_<_}
 use Rattle.lists.specs.Grow.{grow}
 use native.Mathlib.Omega.{arith}
 use mathlib.Core.Path.{_≡_, ap, _∙_}
-use Prim.Native.Nat.{_-_, _≤_}
-use lib.ListN.{length, take}
 use lib.Seq.{length-take-le}
 use Rattle.series_log_line.specs.Line.{nextPlace, Grown, grown-one, grown-more, grown-all, line-next}
 use Rattle.series_log_line.proofs.log_line.Statement.{statement}
@@ -60,9 +57,7 @@ loop-less c = omega (arith, c .before .before .before .loop-test .taken)
 
 loop-again : tie.Need-loop-again Inv-loop μ-loop
 loop-again c =
-    let c3 = c .before .before .before in
-    let c4 = c3 .before in
-    let start = c4 .before .before .before in
+    let c3 = c .before .before .before in let c4 = c3 .before in let start = c4 .before .before .before in
     let z : c4 .loop .k - 0 ≡ c4 .loop .k = omega arith in (
       omega (arith, c3 .loop-test .taken),
       grown-more (c4 .loop .inv .1) (c3 .loop-test .taken)
@@ -88,16 +83,5 @@ log-line-spec =
     (tie.spec
     Inv-loop
     μ-loop
-    slice-write-to
-    loop-holds
-    (λ c. omega arith)
-    (λ c. omega arith)
-    part-log-next-end
-    log-next-requires
-    mul-to
-    slice-write-to-2
-    add-k
-    loop-less
-    loop-again
-    same-length
-    returns)
+    slice-write-to loop-holds (λ c. omega arith) (λ c. omega arith) part-log-next-end log-next-requires mul-to
+    slice-write-to-2 add-k loop-less loop-again same-length returns)

@@ -15,8 +15,4 @@ pub log-next-spec : {M : Type 1} → statement M
 log-next-spec =
     tie.close
     (tie.spec
-    int-to-float-d
-    (λ c κs. search needs)
-    (λ c κs. search needs)
-    (λ c. search needs)
-    returns)
+    int-to-float-d (λ c κs. search needs) (λ c κs. search needs) (λ c. search needs) returns)

@@ -105,15 +105,5 @@ log-sum-spec =
     (tie.spec
     Inv-loop
     μ-loop
-    first-turn-requires
-    loop-holds
-    sub-sum
-    mul-sum
-    shared-slice-read-sum
-    mul-sum-2
-    shared-slice-read-sum-2
-    int-to-float-sum
-    add-j
-    loop-less
-    loop-again
-    returns)
+    first-turn-requires loop-holds sub-sum mul-sum shared-slice-read-sum mul-sum-2 shared-slice-read-sum-2
+    int-to-float-sum add-j loop-less loop-again returns)

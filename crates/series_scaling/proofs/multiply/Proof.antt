@@ -53,14 +53,5 @@ multiply-spec =
     (tie.spec
     Inv-loop
     μ-loop
-    int-to-float-d
-    loop-holds
-    mul-to
-    shared-slice-read-to
-    mul-to-2
-    slice-write-to
-    (λ c. omega arith)
-    (λ c. omega arith)
-    loop-again
-    same-length
-    returns)
+    int-to-float-d loop-holds mul-to shared-slice-read-to mul-to-2 slice-write-to (λ c. omega arith) (λ c. omega arith)
+    loop-again same-length returns)

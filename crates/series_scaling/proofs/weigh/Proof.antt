@@ -51,15 +51,5 @@ weigh-spec =
     (tie.spec
     Inv-loop
     μ-loop
-    loop-holds
-    div-j
-    mul-to
-    shared-slice-read-to
-    int-to-float-to
-    mul-to-2
-    slice-write-to
-    (λ c. omega arith)
-    (λ c. omega arith)
-    loop-again
-    same-length
-    returns)
+    loop-holds div-j mul-to shared-slice-read-to int-to-float-to mul-to-2 slice-write-to (λ c. omega arith)
+    (λ c. omega arith) loop-again same-length returns)

@@ -53,21 +53,6 @@ pub answer-spec : {M : Type 1} → statement M
 answer-spec =
     tie.close
     (tie.spec
-    (λ c κs. search needs)
-    (λ c κs. search needs)
-    (λ c κs. search needs)
-    (λ c. search needs)
-    (λ c. search needs)
-    (λ c. search needs)
-    (λ c. search needs)
-    (λ c κs. search needs)
-    (λ c κs. search needs)
-    returns
-    add-end
-    cast-put-done
-    mul-put-done
-    (λ c. search needs)
-    (λ c. search needs)
-    part-put-done-end
-    put-done-requires
-    returns-2)
+    (λ c κs. search needs) (λ c κs. search needs) (λ c κs. search needs) (λ c. search needs) (λ c. search needs)
+    (λ c. search needs) (λ c. search needs) (λ c κs. search needs) (λ c κs. search needs) returns add-end cast-put-done
+    mul-put-done (λ c. search needs) (λ c. search needs) part-put-done-end put-done-requires returns-2)

@@ -43,8 +43,7 @@ slice-aggregate-run-read c = sym (length-take-le _ _ (slice-reshare-prefix-run-r
 
 run-read-requires : tie.Need-run-read-requires
 run-read-requires c κs =
-    let c5 = c .before .before .before .before .before in
-    let c9 = c5 .before .before .before .before in
+    let c5 = c .before .before .before .before .before in let c9 = c5 .before .before .before .before in
     let start = c9 .before .before .before .before .before .before .before in (
       record {
         read = none c5;
@@ -56,8 +55,7 @@ run-read-requires c κs =
 returns-2 : tie.Need-returns-2
 returns-2 c =
     let c6 = c .before .before .before .before .before .before in
-    let c12 = c6 .before .before .before .before .before .before in
-    let c16 = c12 .before .before .before .before in
+    let c12 = c6 .before .before .before .before .before .before in let c16 = c12 .before .before .before .before in
     record {
       refusal = c6 .run-read .ensures .refusal;
       headers-len = c16 .read .ensures .len;
@@ -71,16 +69,6 @@ pub solve-spec : {M : Type 1} → statement M
 solve-spec =
     tie.close
     (tie.spec
-    (λ c κs. search needs)
-    (λ c κs. search needs)
-    (λ c. search needs)
-    returns
-    (λ c κs. search needs)
-    slice-reshare-prefix-run-read
-    slice-aggregate-run-read
-    run-read-requires
-    (λ c. search needs)
-    (λ c. search needs)
-    (λ c. search needs)
-    (λ c. search needs)
-    returns-2)
+    (λ c κs. search needs) (λ c κs. search needs) (λ c. search needs) returns (λ c κs. search needs)
+    slice-reshare-prefix-run-read slice-aggregate-run-read run-read-requires (λ c. search needs) (λ c. search needs)
+    (λ c. search needs) (λ c. search needs) returns-2)

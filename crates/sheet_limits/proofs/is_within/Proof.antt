@@ -30,12 +30,5 @@ pub is-within-spec : {M : Type 1} → statement M
 is-within-spec =
     tie.close
     (tie.spec
-    (λ c κs. search needs)
-    slice-aggregate-total-of
-    total-of-requires
-    (λ c. search needs)
-    (λ c. search needs)
-    (λ c. search needs)
-    (λ c. search needs)
-    total-of-requires-2
-    returns)
+    (λ c κs. search needs) slice-aggregate-total-of total-of-requires (λ c. search needs) (λ c. search needs)
+    (λ c. search needs) (λ c. search needs) total-of-requires-2 returns)

@@ -45,16 +45,6 @@ pub judge-own-spec : {M : Type 1} → statement M
 judge-own-spec =
     tie.close
     (tie.spec
-    (λ c κs. search needs)
-    (λ c. search needs)
-    returns
-    (λ c. search needs)
-    slice-reshare-prefix-is-within
-    slice-aggregate-is-within
-    is-within-requires
-    (λ c κs. search needs)
-    (λ c. search needs)
-    returns-2
-    (λ c κs. search needs)
-    (λ c. search needs)
-    returns-3)
+    (λ c κs. search needs) (λ c. search needs) returns (λ c. search needs) slice-reshare-prefix-is-within
+    slice-aggregate-is-within is-within-requires (λ c κs. search needs) (λ c. search needs) returns-2
+    (λ c κs. search needs) (λ c. search needs) returns-3)

@@ -36,12 +36,5 @@ all-lined-spec =
     (tie.spec
     Inv-loop
     μ-loop
-    loop-holds
-    (λ c. omega arith)
-    (λ c. omega arith)
-    (λ c κs. omega arith)
-    returns
-    (λ c. search needs)
-    (λ c. search needs)
-    loop-again
-    returns-2)
+    loop-holds (λ c. omega arith) (λ c. omega arith) (λ c κs. omega arith) returns (λ c. search needs)
+    (λ c. search needs) loop-again returns-2)

@@ -54,8 +54,7 @@ returns-3 c =
 
 slice-reshare-prefix-total-of : tie.Need-slice-reshare-prefix-total-of
 slice-reshare-prefix-total-of c =
-    let c6 = c .before .before .before .before .before .before in
-    let c7 = c6 .before in
+    let c6 = c .before .before .before .before .before .before in let c7 = c6 .before in
     let start = c7 .before .before .before .before .before .before in
     omega (
       arith,
@@ -74,9 +73,7 @@ slice-aggregate-total-of c =
 
 total-of-requires : tie.Need-total-of-requires
 total-of-requires c κs =
-    let c5 = c .before .before .before .before .before in
-    let c7 = c5 .before .before in
-    let c8 = c7 .before in
+    let c5 = c .before .before .before .before .before in let c7 = c5 .before .before in let c8 = c7 .before in
     let start = c8 .before .before .before .before .before .before in (
       good-known (mid-good (start .args .text .now) (start .args .headers .now) (size c8) (c7 .input-count .ensures)
           (start .pre) (c5 .read-headers .ensures) (c .before .if3 .left)),
@@ -91,8 +88,7 @@ total-of-requires c κs =
 
 add-rest : tie.Need-add-rest
 add-rest c =
-    let c9 = c .before .before .before .before .before .before .before .before .before in
-    let c10 = c9 .before in
+    let c9 = c .before .before .before .before .before .before .before .before .before in let c10 = c9 .before in
     let start = c10 .before .before .before .before .before .before in
     omega (
       arith,
@@ -106,14 +102,12 @@ add-rest c =
 
 add-rest-refusal : tie.Need-add-rest-refusal
 add-rest-refusal c =
-    let c9 = c .before .before .before .before .before .before .before .before .before in
-    let c10 = c9 .before in
+    let c9 = c .before .before .before .before .before .before .before .before .before in let c10 = c9 .before in
     omega (arith, c9 .input-count .ensures, (size c10) .few)
 
 rest-refusal-requires : tie.Need-rest-refusal-requires
 rest-refusal-requires c κs =
-    let c9 = c .before .before .before .before .before .before .before .before .before in
-    let c10 = c9 .before in
+    let c9 = c .before .before .before .before .before .before .before .before .before in let c10 = c9 .before in
     let start = c10 .before .before .before .before .before .before in
     omega (
       arith,
@@ -129,10 +123,8 @@ rest-refusal-requires c κs =
 
 returns-4 : tie.Need-returns-4
 returns-4 c =
-    let c8 = c .before .before .before .before .before .before .before .before in
-    let c10 = c8 .before .before in
-    let c11 = c10 .before in
-    let start = c11 .before .before .before .before .before .before in
+    let c8 = c .before .before .before .before .before .before .before .before in let c10 = c8 .before .before in
+    let c11 = c10 .before in let start = c11 .before .before .before .before .before .before in
     read-rest (start .args .text .now) (start .args .headers .now) (size c11) (c10 .input-count .ensures) (start .pre)
     (c8 .read-headers .ensures) (c .before .before .before .before .if3 .left)
     (c .before .before .total-of .ensures) (c .before .step-count .ensures) (c .rest-refusal .ensures)
@@ -141,24 +133,7 @@ pub read-spec : {M : Type 1} → statement M
 read-spec =
     tie.close
     (tie.spec
-    (λ c κs. search needs)
-    (λ c κs. search needs)
-    returns
-    (λ c κs. search needs)
-    (λ c κs. search needs)
-    returns-2
-    (λ c κs. search needs)
-    slice-relend-prefix-read-headers
-    slice-aggregate-read-headers
-    read-headers-requires
-    (λ c. search needs)
-    returns-3
-    slice-reshare-prefix-total-of
-    slice-aggregate-total-of
-    total-of-requires
-    (λ c κs. search needs)
-    add-rest
-    add-rest-refusal
-    rest-refusal-requires
-    (λ c. search needs)
-    returns-4)
+    (λ c κs. search needs) (λ c κs. search needs) returns (λ c κs. search needs) (λ c κs. search needs) returns-2
+    (λ c κs. search needs) slice-relend-prefix-read-headers slice-aggregate-read-headers read-headers-requires
+    (λ c. search needs) returns-3 slice-reshare-prefix-total-of slice-aggregate-total-of total-of-requires
+    (λ c κs. search needs) add-rest add-rest-refusal rest-refusal-requires (λ c. search needs) returns-4)

@@ -73,24 +73,6 @@ read-headers-spec =
     (tie.spec
     Inv-loop
     μ-loop
-    loop-holds
-    (λ c. omega arith)
-    mul-at
-    is-line-requires
-    (λ c κs. search needs)
-    same-length
-    returns
-    word-at-requires
-    (λ c κs. search needs)
-    cast-at
-    (λ c κs. search needs)
-    same-length-2
-    returns-2
-    (λ c. search needs)
-    (λ c. search needs)
-    add-i
-    loop-less
-    loop-again
-    (λ c κs. search needs)
-    same-length-3
-    returns-3)
+    loop-holds (λ c. omega arith) mul-at is-line-requires (λ c κs. search needs) same-length returns word-at-requires
+    (λ c κs. search needs) cast-at (λ c κs. search needs) same-length-2 returns-2 (λ c. search needs)
+    (λ c. search needs) add-i loop-less loop-again (λ c κs. search needs) same-length-3 returns-3)

@@ -26,8 +26,7 @@ head : (c : tie.After-substitute-into) →
     header (c12 .open-pair .result .told .vars) (c12 .open-pair .result .told .limits) (c .substitute-into .result) ≡ value c17 .head
 head c =
     let c9 = c .before .before .before .before .before .before .before .before .before in
-    let c12 = c9 .before .before .before in
-    let start = c12 .before .before .before .before .before in
+    let c12 = c9 .before .before .before in let start = c12 .before .before .before .before .before in
     let t = c12 .open-pair .ensures .tells (c9 .if1 .left) in
     entry-head (start .args .v) (start .args .ah) (start .args .a .now) (start .args .bh) (start .args .b .now)
     (t .left) (t .right) (told-by (Substitution (start .args .v)) t) (t .count-a) (t .count-b)
@@ -65,8 +64,7 @@ returns c =
 
 mul-room : tie.Need-mul-room
 mul-room c =
-    let c4 = c .before .before .before .before in
-    let c7 = c4 .before .before .before in
+    let c4 = c .before .before .before .before in let c7 = c4 .before .before .before in
     omega (arith, (opened-count (c7 .open-pair .ensures) (c4 .if1 .left)), (opened-ready (c7 .open-pair .ensures) (c4 .if1 .left)) .announced .most)
 
 slice-aggregate-substitute-into : tie.Need-slice-aggregate-substitute-into
@@ -103,8 +101,7 @@ slice-aggregate-substitute-into-4 c =
 substitute-into-requires : tie.Need-substitute-into-requires
 substitute-into-requires c κs =
     let c8 = c .before .before .before .before .before .before .before .before in
-    let c11 = c8 .before .before .before in
-    let start = c11 .before .before .before .before .before in
+    let c11 = c8 .before .before .before in let start = c11 .before .before .before .before .before in
     let f = opened-fits (c11 .open-pair .ensures) (c8 .if1 .left) in
     let t = c11 .open-pair .ensures .tells (c8 .if1 .left) in
     entry-given (opened-ready (c11 .open-pair .ensures) (c8 .if1 .left)) (t .left) (t .right)
@@ -121,8 +118,7 @@ pack-requires : tie.Need-pack-requires
 pack-requires c κs =
     let c8 = c .before .before .before .before .before .before .before .before in
     let c17 = c8 .before .before .before .before .before .before .before .before .before in
-    let c20 = c17 .before .before .before in
-    let start = c20 .before .before .before .before .before in
+    let c20 = c17 .before .before .before in let start = c20 .before .before .before .before .before in
     rw (head c8) (entry-ruled (opened-ready (c20 .open-pair .ensures) (c17 .if1 .left)) (start .args .a .now) (start .args .b .now) refl)
 
 returns-2 : tie.Need-returns-2
@@ -130,8 +126,7 @@ unfolding substituteAnswer substituteOut substituteScratch
 returns-2 c =
     let c9 = c .before .before .before .before .before .before .before .before .before in
     let c18 = c9 .before .before .before .before .before .before .before .before .before in
-    let c21 = c18 .before .before .before in
-    let start = c21 .before .before .before .before .before in
+    let c21 = c18 .before .before .before in let start = c21 .before .before .before .before .before in
     let e = c21 .open-pair .ensures .refusal in
     let z = c18 .if1 .left in
     let n = (opened-count (c21 .open-pair .ensures) (c18 .if1 .left)) in
@@ -154,20 +149,7 @@ pub subst-var-spec : {M : Type 1} → statement M
 subst-var-spec =
     tie.close
     (tie.spec
-    (λ c κs. search needs)
-    returns
-    mul-room
-    slice-aggregate-substitute-into
-    slice-aggregate-substitute-into-2
-    slice-relend-prefix-substitute-into
-    slice-aggregate-substitute-into-3
-    slice-relend-prefix-substitute-into-2
-    slice-aggregate-substitute-into-4
-    substitute-into-requires
-    slice-relend-prefix-clear
-    slice-aggregate-clear
-    (λ c κs. search needs)
-    pack-requires
-    (λ c. search needs)
-    (λ c. search needs)
-    returns-2)
+    (λ c κs. search needs) returns mul-room slice-aggregate-substitute-into slice-aggregate-substitute-into-2
+    slice-relend-prefix-substitute-into slice-aggregate-substitute-into-3 slice-relend-prefix-substitute-into-2
+    slice-aggregate-substitute-into-4 substitute-into-requires slice-relend-prefix-clear slice-aggregate-clear
+    (λ c κs. search needs) pack-requires (λ c. search needs) (λ c. search needs) returns-2)

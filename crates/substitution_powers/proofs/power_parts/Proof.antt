@@ -49,9 +49,7 @@ loop-less c = omega (arith, fits ((c .before .before .before .before)), c .befor
 
 loop-again : tie.Need-loop-again Inv-loop μ-loop
 loop-again c =
-    let c4 = c .before .before .before .before in
-    let c5 = c4 .before in
-    let start = c5 .before .before in
+    let c4 = c .before .before .before .before in let c5 = c4 .before in let start = c5 .before .before in
     let f = fits c4 in
     let q : c5 .loop .at + start .args .width - c5 .loop .at ≡ start .args .width = omega arith in (
       begins-next (c5 .loop .inv .0),
@@ -77,15 +75,5 @@ power-parts-spec =
     (tie.spec
     Inv-loop
     μ-loop
-    loop-holds
-    add-power-rows
-    mul-power-rows
-    (λ c. omega arith)
-    (λ c. omega arith)
-    part-power-rows-end
-    power-rows-requires
-    add-at
-    loop-less
-    loop-again
-    same-length
-    returns)
+    loop-holds add-power-rows mul-power-rows (λ c. omega arith) (λ c. omega arith) part-power-rows-end
+    power-rows-requires add-at loop-less loop-again same-length returns)

@@ -46,8 +46,7 @@ loop-less c = omega (arith, fits ((c .before .before .before .before)), c .befor
 
 loop-again : tie.Need-loop-again Inv-loop μ-loop
 loop-again c =
-    let c5 = c .before .before .before .before .before in
-    let start = c5 .before .before in
+    let c5 = c .before .before .before .before .before in let start = c5 .before .before in
     let l = c5 .loop .inv .1 .1 .len in
     let f = fits (c .before .before .before .before) in
     let q : c5 .loop .at + start .args .s - c5 .loop .at ≡ start .args .s = omega arith in (
@@ -73,15 +72,5 @@ power-rows-spec =
     (tie.spec
     Inv-loop
     μ-loop
-    loop-holds
-    add-times-each
-    mul-times-each
-    (λ c. omega arith)
-    (λ c. omega arith)
-    part-times-each-end
-    times-each-requires
-    add-at
-    loop-less
-    loop-again
-    same-length
-    returns)
+    loop-holds add-times-each mul-times-each (λ c. omega arith) (λ c. omega arith) part-times-each-end
+    times-each-requires add-at loop-less loop-again same-length returns)

@@ -49,13 +49,5 @@ times-each-spec =
     (tie.spec
     Inv-loop
     μ-loop
-    loop-holds
-    mul-to
-    slice-read-to
-    mul-to-2
-    slice-write-to
-    (λ c. omega arith)
-    (λ c. omega arith)
-    loop-again
-    same-length
+    loop-holds mul-to slice-read-to mul-to-2 slice-write-to (λ c. omega arith) (λ c. omega arith) loop-again same-length
     returns)

@@ -8,8 +8,7 @@ zero-to-requires c κs = first-some (c .before .before .before .pre)
 
 plus-row-requires : tie.Need-plus-row-requires
 plus-row-requires c κs =
-    let c4 = c .before .before .before .before in
-    let start = c4 .before .before .before .before in
+    let c4 = c .before .before .before .before in let start = c4 .before .before .before .before in
     first-adding (start .pre) (c4 .zero-to .ensures) (c4 .zero-to .kept .0)
 
 same-length : tie.Need-same-length

@@ -69,8 +69,7 @@ add-blocks-requires c κs =
 count-of-requires-3 : tie.Need-count-of-requires-3
 count-of-requires-3 c κs =
     let c10 = c .before .before .before .before .before .before .before .before .before .before in
-    let c13 = c10 .before .before .before in
-    let start = c13 .before .before .before in
+    let c13 = c10 .before .before .before in let start = c13 .before .before .before in
     add-whole (start .pre) (start .args .out .now) refl refl (c13 .count-of .ensures)
     (c .before .before .before .before .before .before .before .count-of2 .ensures) (c10 .keep .ensures)
     (c .before .before .add-blocks .ensures)
@@ -78,8 +77,7 @@ count-of-requires-3 c κs =
 keep-requires-2 : tie.Need-keep-requires-2
 keep-requires-2 c κs =
     let c10 = c .before .before .before .before .before .before .before .before .before .before in
-    let c13 = c10 .before .before .before in
-    let c16 = c13 .before .before .before in
+    let c13 = c10 .before .before .before in let c16 = c13 .before .before .before in
     let start = c16 .before .before .before in
     let f =
     add-fits (start .pre) (start .args .out .now) refl refl (c16 .count-of .ensures) (c10 .count-of2 .ensures)
@@ -90,10 +88,8 @@ keep-requires-2 c κs =
 returns : tie.Need-returns
 returns c =
     let c8 = c .before .before .before .before .before .before .before .before in
-    let c13 = c8 .before .before .before .before .before in
-    let c16 = c13 .before .before .before in
-    let c19 = c16 .before .before .before in
-    let start = c19 .before .before .before in
+    let c13 = c8 .before .before .before .before .before in let c16 = c13 .before .before .before in
+    let c19 = c16 .before .before .before in let start = c19 .before .before .before in
     add-turned (start .pre) (start .args .out .now) refl refl (c19 .count-of .ensures) (c13 .count-of2 .ensures)
     (c16 .keep .ensures) (c8 .add-blocks .ensures) (c .before .before .before .before .before .count-of3 .ensures)
     (c .before .before .keep2 .ensures)
@@ -102,24 +98,7 @@ pub plus-row-spec : {M : Type 1} → statement M
 plus-row-spec =
     tie.close
     (tie.spec
-    mul-row
-    mul-spare
-    count-of-requires
-    keep-requires
-    count-of-requires-2
-    add-end
-    add-top
-    (λ c. search needs)
-    (λ c. search needs)
-    (λ c. search needs)
-    part-add-blocks-end
-    (λ c. search needs)
-    (λ c. search needs)
-    (λ c. search needs)
-    part-add-blocks-end-2
-    add-blocks-requires
-    count-of-requires-3
-    keep-requires-2
-    (λ c. search needs)
-    (λ c. search needs)
-    returns)
+    mul-row mul-spare count-of-requires keep-requires count-of-requires-2 add-end add-top (λ c. search needs)
+    (λ c. search needs) (λ c. search needs) part-add-blocks-end (λ c. search needs) (λ c. search needs)
+    (λ c. search needs) part-add-blocks-end-2 add-blocks-requires count-of-requires-3 keep-requires-2
+    (λ c. search needs) (λ c. search needs) returns)

@@ -29,10 +29,8 @@ times-put-requires c κs =
 
 plus-row-requires : tie.Need-plus-row-requires
 plus-row-requires c κs =
-    let c6 = c .before .before .before .before .before .before in
-    let c9 = c6 .before .before .before in
-    let c10 = c9 .before in
-    let start = c10 .before .before .before in
+    let c6 = c .before .before .before .before .before .before in let c9 = c6 .before .before .before in
+    let c10 = c9 .before in let start = c10 .before .before .before in
     turn-adding (start .pre) (start .args .work .now) refl (ap (λ (x : ℕ). start .args .n + x) (c10 .count-of .ensures))
     (c9 .count-of2 .ensures) (c6 .times-put .ensures) (c6 .times-put .kept .1 .1 .1 .1 .1 .1 .1 .1 .1 .0)
     (c6 .times-put .kept .0)
@@ -40,9 +38,7 @@ plus-row-requires c κs =
 returns : tie.Need-returns
 returns c =
     let c11 = c .before .before .before .before .before .before .before .before .before .before .before in
-    let c14 = c11 .before .before .before in
-    let c15 = c14 .before in
-    let start = c15 .before .before .before in
+    let c14 = c11 .before .before .before in let c15 = c14 .before in let start = c15 .before .before .before in
     turn-turned (start .pre) (start .args .work .now) refl (ap (λ (x : ℕ). start .args .n + x) (c15 .count-of .ensures))
     (c14 .count-of2 .ensures) (c11 .times-put .ensures) (c .before .before .before .before .plus-row .ensures)
 
@@ -50,12 +46,5 @@ pub turn-spec : {M : Type 1} → statement M
 turn-spec =
     tie.close
     (tie.spec
-    count-of-requires
-    add-end
-    count-of-requires-2
-    mul-times-put
-    times-put-requires
-    plus-row-requires
-    (λ c. search needs)
-    (λ c. search needs)
-    returns)
+    count-of-requires add-end count-of-requires-2 mul-times-put times-put-requires plus-row-requires (λ c. search needs)
+    (λ c. search needs) returns)

@@ -34,10 +34,4 @@ pub choose-spec : {M : Type 1} → statement M
 choose-spec =
     tie.close
     (tie.spec
-    (λ c κs. search needs)
-    returns
-    is-zero-requires
-    returns-2
-    (λ c κs. search needs)
-    returns-3
-    returns-4)
+    (λ c κs. search needs) returns is-zero-requires returns-2 (λ c κs. search needs) returns-3 returns-4)

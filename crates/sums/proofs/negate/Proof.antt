@@ -37,8 +37,7 @@ negate-into-requires c κs =
 
 returns-2 : tie.Need-returns-2
 returns-2 c =
-    let c6 = c .before .before .before .before .before .before in
-    let c8 = c6 .before .before in
+    let c6 = c .before .before .before .before .before .before in let c8 = c6 .before .before in
     let start = c8 .before .before .before in
     let a = start .args in (
       negate-done (a .head) (a .a .now) (a .out .now) (start .fits .head .fits) (c8 .one-gate .ensures) (c6 .if1 .left),
@@ -51,10 +50,5 @@ pub negate-spec : {M : Type 1} → statement M
 negate-spec =
     tie.close
     (tie.spec
-    (λ c κs. search needs)
-    returns
-    (λ c κs. search needs)
-    stored-of-requires
-    negate-into-requires
-    (λ c. search needs)
+    (λ c κs. search needs) returns (λ c κs. search needs) stored-of-requires negate-into-requires (λ c. search needs)
     returns-2)

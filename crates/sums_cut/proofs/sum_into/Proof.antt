@@ -16,8 +16,7 @@ ends : (c : tie.After-count-of2) →
     let start = c .before .before .before .before .before .before .before .before .before .before .before .before in
     (c .before .count-of .result ≤ start .args .n) × (start .args .n + c .count-of2 .result ≤ length (start .args .work .now))
 ends c =
-    let c6 = c .before .before .before .before .before .before in
-    let c7 = c6 .before in
+    let c6 = c .before .before .before .before .before .before in let c7 = c6 .before in
     let start = c7 .before .before .before .before .before in
     let p = start .pre in
     let w = p .work in (
@@ -72,11 +71,8 @@ part-combine-end-2 c = omega (arith, ends (c .before .before), kept (c .before .
 
 combine-requires : tie.Need-combine-requires
 combine-requires c κs =
-    let c4 = c .before .before .before .before in
-    let c8 = c4 .before .before .before .before in
-    let c10 = c8 .before .before in
-    let c11 = c10 .before in
-    let start = c11 .before .before .before .before .before in
+    let c4 = c .before .before .before .before in let c8 = c4 .before .before .before .before in
+    let c10 = c8 .before .before in let c11 = c10 .before in let start = c11 .before .before .before .before .before in
     let e = ends c4 in
     let k = kept c8 in
     summing-combine (start .pre) (c11 .cut-to .ensures) (c10 .cut-to2 .ensures)
@@ -85,11 +81,8 @@ combine-requires c κs =
 
 returns : tie.Need-returns
 returns c =
-    let c7 = c .before .before .before .before .before .before .before in
-    let c8 = c7 .before in
-    let c11 = c8 .before .before .before in
-    let c13 = c11 .before .before in
-    let c14 = c13 .before in
+    let c7 = c .before .before .before .before .before .before .before in let c8 = c7 .before in
+    let c11 = c8 .before .before .before in let c13 = c11 .before .before in let c14 = c13 .before in
     let start = c14 .before .before .before .before .before in
     let a = start .args in
     summing-is (start .pre) (c14 .cut-to .ensures) (c13 .cut-to2 .ensures) (a .minus) (a .a .now) (a .b .now)
@@ -101,20 +94,6 @@ pub sum-into-spec : {M : Type 1} → statement M
 sum-into-spec =
     tie.close
     (tie.spec
-    (λ c κs. search needs)
-    (λ c κs. search needs)
-    load-two-requires
-    count-of-requires
-    count-of-requires-2
-    add-end
-    (λ c. search needs)
-    (λ c. search needs)
-    part-combine-end
-    (λ c. search needs)
-    (λ c. search needs)
-    (λ c. search needs)
-    part-combine-end-2
-    combine-requires
-    (λ c. search needs)
-    (λ c. search needs)
-    returns)
+    (λ c κs. search needs) (λ c κs. search needs) load-two-requires count-of-requires count-of-requires-2 add-end
+    (λ c. search needs) (λ c. search needs) part-combine-end (λ c. search needs) (λ c. search needs) (λ c. search needs)
+    part-combine-end-2 combine-requires (λ c. search needs) (λ c. search needs) returns)

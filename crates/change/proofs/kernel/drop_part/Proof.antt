@@ -13,8 +13,7 @@ same-length c = search needs
 
 returns : tie.Need-returns
 returns c =
-    let c4 = c .before .before .before .before in
-    let start = c4 .before .before .before in
+    let c4 = c .before .before .before .before in let start = c4 .before .before .before in
     dropped-all (start .args .s) (start .args .m) (start .args .a .now) (length (start .args .to .now)) (c4 .if1 .taken)
     (start .pre .one (c4 .if1 .taken) .0) (c .before .before .sum-rows .ensures .1)
 

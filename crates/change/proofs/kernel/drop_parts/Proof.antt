@@ -1,6 +1,5 @@
 use Rattle.product_linear.specs.Raised.{Along, along-first, along-next, row-fits, rows-more}
-use Rattle.change.specs.Drop.{droppedFlat}
-use Rattle.change.specs.Drop.{part-is}
+use Rattle.change.specs.Drop.{droppedFlat, part-is}
 use native.Mathlib.Omega.{arith}
 use mathlib.Core.Path.{_≡_, refl}
 use Prim.Native.Nat.{_+_, _-_, _≤_}
@@ -68,8 +67,7 @@ loop-less c =
 
 loop-again : tie.Need-loop-again Inv-loop μ-loop
 loop-again c =
-    let c5 = c .before .before .before .before .before in
-    let c6 = c5 .before in
+    let c5 = c .before .before .before .before .before in let c6 = c5 .before in
     let start = c6 .before .before .before in
     let l = c6 .loop .inv .1 .1 .len in
     let f = fits c5 in
@@ -96,21 +94,6 @@ drop-parts-spec =
     (tie.spec
     Inv-loop
     μ-loop
-    loop-holds
-    add-drop-part
-    mul-drop-part
-    (λ c. omega arith)
-    (λ c. omega arith)
-    part-drop-part-end
-    add-drop-part-2
-    mul-drop-part-2
-    (λ c. omega arith)
-    (λ c. omega arith)
-    part-drop-part-end-2
-    drop-part-requires
-    add-from
-    add-at
-    loop-less
-    loop-again
-    same-length
-    returns)
+    loop-holds add-drop-part mul-drop-part (λ c. omega arith) (λ c. omega arith) part-drop-part-end add-drop-part-2
+    mul-drop-part-2 (λ c. omega arith) (λ c. omega arith) part-drop-part-end-2 drop-part-requires add-from add-at
+    loop-less loop-again same-length returns)

@@ -45,8 +45,7 @@ part-copy-start c = omega (arith, next-is (c .before .before), (c .before .befor
 
 copy-requires : tie.Need-copy-requires
 copy-requires c κs =
-    let c4 = c .before .before .before .before in
-    let start = c4 .before .before .before .before in
+    let c4 = c .before .before .before .before in let start = c4 .before .before .before .before in
     let n = next-is c4 in let w = whole c4 in let p = start .pre in simp (length-take, length-drop) (omega arith)
 
 returns : tie.Need-returns
@@ -75,17 +74,6 @@ pub kept-rows-spec : {M : Type 1} → statement M
 kept-rows-spec =
     tie.close
     (tie.spec
-    (λ c. search needs)
-    slice-aggregate-front-row
-    front-row-requires
-    mul-copy
-    sub-copy
-    part-copy-start
-    (λ c. search needs)
-    (λ c. search needs)
-    (λ c. search needs)
-    (λ c. search needs)
-    (λ c. search needs)
-    copy-requires
-    (λ c. search needs)
-    returns)
+    (λ c. search needs) slice-aggregate-front-row front-row-requires mul-copy sub-copy part-copy-start
+    (λ c. search needs) (λ c. search needs) (λ c. search needs) (λ c. search needs) (λ c. search needs) copy-requires
+    (λ c. search needs) returns)

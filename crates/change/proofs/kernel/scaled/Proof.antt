@@ -84,9 +84,7 @@ slice-aggregate-take-rows-2 c =
 
 take-rows-requires : tie.Need-take-rows-requires
 take-rows-requires c κs =
-    let c3 = c .before .before .before in
-    let c6 = c3 .before .before .before in
-    let c7 = c6 .before in
+    let c3 = c .before .before .before in let c6 = c3 .before .before .before in let c7 = c6 .before in
     let start = c7 .before .before .before .before .before in
     record {
       rules = rw (c6 .header-of .ensures) (ready c7 .one .good .regular .rules);
@@ -106,11 +104,8 @@ pack-requires c κs =
 
 returns-2 : tie.Need-returns-2
 returns-2 c =
-    let c3 = c .before .before .before in
-    let c8 = c3 .before .before .before .before .before in
-    let c10 = c8 .before .before in
-    let c11 = c10 .before in
-    let c13 = c11 .before .before in
+    let c3 = c .before .before .before in let c8 = c3 .before .before .before .before .before in
+    let c10 = c8 .before .before in let c11 = c10 .before in let c13 = c11 .before .before in
     let start = c13 .before .before .before in
     entry-done (c13 .in-gate .ensures) (c11 .if1 .left)
     (announcedOne (Shift (start .args .v) (start .args .n)) (start .args .head))
@@ -131,17 +126,6 @@ pub scaled-spec : {M : Type 1} → statement M
 scaled-spec =
     tie.close
     (tie.spec
-    (λ c κs. search needs)
-    returns
-    (λ c κs. search needs)
-    (λ c κs. search needs)
-    announced-of-requires
-    stored-of-requires
-    stored-of-requires-2
-    slice-aggregate-take-rows
-    slice-relend-prefix-take-rows
-    slice-aggregate-take-rows-2
-    take-rows-requires
-    pack-requires
-    (λ c. search needs)
-    returns-2)
+    (λ c κs. search needs) returns (λ c κs. search needs) (λ c κs. search needs) announced-of-requires
+    stored-of-requires stored-of-requires-2 slice-aggregate-take-rows slice-relend-prefix-take-rows
+    slice-aggregate-take-rows-2 take-rows-requires pack-requires (λ c. search needs) returns-2)

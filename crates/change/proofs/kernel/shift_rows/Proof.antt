@@ -72,29 +72,8 @@ pub shift-rows-spec : {M : Type 1} → statement M
 shift-rows-spec =
     tie.close
     (tie.spec
-    strides-of-requires
-    (λ c. search needs)
-    (λ c. search needs)
-    (λ c. search needs)
-    (λ c. search needs)
-    add-if1
-    (λ c. search needs)
-    (λ c. search needs)
-    (λ c. search needs)
-    (λ c. search needs)
-    mul-drop-parts-3
-    (λ c. search needs)
-    (λ c. search needs)
-    mul-drop-parts-5
-    drop-parts-requires
-    (λ c. search needs)
-    returns
-    (λ c. search needs)
-    (λ c. search needs)
-    mul-drop-parts-7
-    (λ c. search needs)
-    (λ c. search needs)
-    mul-drop-parts-9
-    drop-parts-requires-2
-    (λ c. search needs)
-    returns-2)
+    strides-of-requires (λ c. search needs) (λ c. search needs) (λ c. search needs) (λ c. search needs) add-if1
+    (λ c. search needs) (λ c. search needs) (λ c. search needs) (λ c. search needs) mul-drop-parts-3 (λ c. search needs)
+    (λ c. search needs) mul-drop-parts-5 drop-parts-requires (λ c. search needs) returns (λ c. search needs)
+    (λ c. search needs) mul-drop-parts-7 (λ c. search needs) (λ c. search needs) mul-drop-parts-9 drop-parts-requires-2
+    (λ c. search needs) returns-2)

@@ -78,22 +78,7 @@ pub take-rows-spec : {M : Type 1} → statement M
 take-rows-spec =
     tie.close
     (tie.spec
-    (λ c. search needs)
-    (λ c. search needs)
-    (λ c κs. search needs)
-    (λ c κs. search needs)
-    (λ c. search needs)
-    returns
-    strides-of-requires
-    (λ c. search needs)
-    (λ c. search needs)
-    first-factor-requires
-    (λ c. search needs)
-    (λ c. search needs)
-    mul-scale-rows-2
-    (λ c. search needs)
-    (λ c. search needs)
-    mul-scale-rows-4
-    scale-rows-requires
-    (λ c. search needs)
-    returns-2)
+    (λ c. search needs) (λ c. search needs) (λ c κs. search needs) (λ c κs. search needs) (λ c. search needs) returns
+    strides-of-requires (λ c. search needs) (λ c. search needs) first-factor-requires (λ c. search needs)
+    (λ c. search needs) mul-scale-rows-2 (λ c. search needs) (λ c. search needs) mul-scale-rows-4 scale-rows-requires
+    (λ c. search needs) returns-2)

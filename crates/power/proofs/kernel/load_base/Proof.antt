@@ -32,9 +32,4 @@ pub load-base-spec : {M : Type 1} → statement M
 load-base-spec =
     tie.close
     (tie.spec
-    slice-relend-prefix-copy
-    slice-aggregate-copy
-    copy-requires
-    (λ c. search needs)
-    returns
-    returns-2)
+    slice-relend-prefix-copy slice-aggregate-copy copy-requires (λ c. search needs) returns returns-2)

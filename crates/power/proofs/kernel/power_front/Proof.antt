@@ -25,8 +25,7 @@ keep-requires c κs = let p = c .before .before .before .before .before .before 
 
 returns-2 : tie.Need-returns-2
 returns-2 c =
-    let c5 = c .before .before .before .before .before in
-    let c6 = c5 .before in
+    let c5 = c .before .before .before .before .before in let c6 = c5 .before in
     let start = c6 .before .before .before .before in
     let p = start .pre in
     let h = powers-base p (omega (arith, c6 .if2 .taken)) in
@@ -45,15 +44,5 @@ pub power-front-spec : {M : Type 1} → statement M
 power-front-spec =
     tie.close
     (tie.spec
-    slice-write-out
-    (λ c. search needs)
-    returns
-    (λ c κs. search needs)
-    keep-requires
-    (λ c. search needs)
-    (λ c. search needs)
-    returns-2
-    (λ c κs. search needs)
-    (λ c. search needs)
-    (λ c. search needs)
-    returns-3)
+    slice-write-out (λ c. search needs) returns (λ c κs. search needs) keep-requires (λ c. search needs)
+    (λ c. search needs) returns-2 (λ c κs. search needs) (λ c. search needs) (λ c. search needs) returns-3)

@@ -21,8 +21,7 @@ same-length-2 c = search needs
 
 returns : tie.Need-returns
 returns c =
-    let c4 = c .before .before .before .before in
-    let c9 = c4 .before .before .before .before .before in
+    let c4 = c .before .before .before .before in let c9 = c4 .before .before .before .before .before in
     let start = c9 .before .before .before .before .before in
     let e =
     loaded-same (start .args .e) (start .args .limits) (start .args .la) (c9 .load-base .ensures) (start .pre .1) in

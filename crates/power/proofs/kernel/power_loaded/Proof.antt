@@ -33,8 +33,7 @@ part-clear-start c =
 
 returns : tie.Need-returns
 returns c =
-    let c4 = c .before .before .before .before in
-    let c9 = c4 .before .before .before .before .before in
+    let c4 = c .before .before .before .before in let c9 = c4 .before .before .before .before .before in
     let start = c9 .before .before .before .before .before in
     let k = c9 .power-front .kept .1 .1 .1 .1 .1 .0 in
     let o = start .pre .out in (
@@ -53,13 +52,5 @@ pub power-loaded-spec : {M : Type 1} → statement M
 power-loaded-spec =
     tie.close
     (tie.spec
-    (λ c κs. search needs)
-    count-of-requires
-    mul-clear
-    sub-clear
-    part-clear-start
-    (λ c. search needs)
-    (λ c κs. search needs)
-    (λ c. search needs)
-    (λ c. search needs)
-    returns)
+    (λ c κs. search needs) count-of-requires mul-clear sub-clear part-clear-start (λ c. search needs)
+    (λ c κs. search needs) (λ c. search needs) (λ c. search needs) returns)

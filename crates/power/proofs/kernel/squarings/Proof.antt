@@ -22,14 +22,12 @@ loop-holds c = (turning-first (c .before .before .pre .0) (c .before .before .pr
 
 take-bit-requires : tie.Need-take-bit-requires Inv-loop μ-loop
 take-bit-requires c κs =
-    let c3 = c .before .before .before in
-    let start = c3 .before .before .before in
+    let c3 = c .before .before .before in let start = c3 .before .before .before in
     λ _. turn-bit (start .pre .0) (start .pre .1) (c3 .loop .inv .0) (simp length-set) refl (c3 .loop .inv .1)
 
 times-to-requires : tie.Need-times-to-requires Inv-loop μ-loop
 times-to-requires c κs =
-    let c6 = c .before .before .before .before .before .before in
-    let c9 = c6 .before .before .before in
+    let c6 = c .before .before .before .before .before .before in let c9 = c6 .before .before .before in
     let c10 = c9 .before in
     let start = c10 .before .before .before in (
       turn-square (start .pre .0) (start .pre .1) (c10 .loop .inv .0) (simp length-set) (c9 .loop-test .taken)
@@ -46,8 +44,7 @@ loop-less c =
 loop-again : tie.Need-loop-again Inv-loop μ-loop
 loop-again c =
     let c4 = c .before .before .before .before in
-    let c11 = c4 .before .before .before .before .before .before .before in
-    let c14 = c11 .before .before .before in
+    let c11 = c4 .before .before .before .before .before .before .before in let c14 = c11 .before .before .before in
     let c15 = c14 .before in
     let start = c15 .before .before .before in (
       turn-next (start .pre .0) (start .pre .1) (c15 .loop .inv .0) (simp length-set) (c14 .loop-test .taken)
@@ -57,8 +54,7 @@ loop-again c =
 
 times-front-requires : tie.Need-times-front-requires Inv-loop μ-loop
 times-front-requires c κs =
-    let c3 = c .before .before .before in
-    let start = c3 .before .before .before in
+    let c3 = c .before .before .before in let start = c3 .before .before .before in
     turn-bit (start .pre .0) (start .pre .1) (c3 .loop .inv .0) (simp length-set) refl (c3 .loop .inv .1)
 
 same-length : tie.Need-same-length Inv-loop μ-loop
@@ -86,14 +82,5 @@ squarings-spec =
     (tie.spec
     Inv-loop
     μ-loop
-    mul-work
-    slice-write-work
-    loop-holds
-    take-bit-requires
-    times-to-requires
-    loop-less
-    loop-again
-    times-front-requires
-    same-length
-    same-length-2
-    returns)
+    mul-work slice-write-work loop-holds take-bit-requires times-to-requires loop-less loop-again times-front-requires
+    same-length same-length-2 returns)

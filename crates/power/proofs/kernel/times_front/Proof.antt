@@ -38,12 +38,5 @@ pub times-front-spec : {M : Type 1} → statement M
 times-front-spec =
     tie.close
     (tie.spec
-    count-of-requires
-    add-ea
-    count-of-requires-2
-    add-eb
-    (λ c. search needs)
-    times-requires
-    (λ c. search needs)
-    (λ c. search needs)
-    returns)
+    count-of-requires add-ea count-of-requires-2 add-eb (λ c. search needs) times-requires (λ c. search needs)
+    (λ c. search needs) returns)

@@ -32,9 +32,4 @@ pub times-to-spec : {M : Type 1} → statement M
 times-to-spec =
     tie.close
     (tie.spec
-    (λ c κs. search needs)
-    count-of-requires
-    keep-requires
-    (λ c. search needs)
-    (λ c. search needs)
-    returns)
+    (λ c κs. search needs) count-of-requires keep-requires (λ c. search needs) (λ c. search needs) returns)

@@ -88,8 +88,7 @@ wide t c =
     up-wide (start .pre .1) (shape t (c .before .before .before .before)) (c .count-of .ensures)
 
 first : (t : ℕ) (c : linear-product-lts.After-keep (linear-product-claims t) (linear-product-at t) linear-product.Post) →
-    let c3 = c .before .before .before in
-    let c7 = c3 .before .before .before .before in
+    let c3 = c .before .before .before in let c7 = c3 .before .before .before .before in
     let start = c7 .before .before .before .before .before .before in
     First (start .args .work .now) (length (start .args .out .now)) (start .args .p) (start .args .e) (start .args .n)
     (start .args .line .variable) (start .args .spare) (start .args .limits) (start .args .stage)
@@ -108,10 +107,8 @@ first t c =
     }
 
 second : (t : ℕ) (c : linear-product-lts.After-product (linear-product-claims t) (linear-product-at t) linear-product.Post) →
-    let c5 = c .before .before .before .before .before in
-    let c8 = c5 .before .before .before in
-    let c12 = c8 .before .before .before .before in
-    let start = c12 .before .before .before .before .before .before in
+    let c5 = c .before .before .before .before .before in let c8 = c5 .before .before .before in
+    let c12 = c8 .before .before .before .before in let start = c12 .before .before .before .before .before .before in
     Second (start .args .work .now) (length (start .args .out .now)) (start .args .p) (start .args .e) (start .args .n)
     (start .args .line .variable) (start .args .spare) (start .args .limits) (start .args .stage)
     (c12 .raise-to .result) (c8 .count-of .result) (start .args .line .m) (start .args .line .c)
@@ -314,8 +311,7 @@ linear-product-same-length-4 t c =
 linear-product-returns-2 : (t : ℕ) → linear-product-lts.Need-returns-2 (linear-product-claims t) (linear-product-at t) linear-product.Post
 linear-product-returns-2 t c =
     let c9 = c .before .before .before .before .before .before .before .before .before in
-    let c12 = c9 .before .before .before in
-    let c17 = c12 .before .before .before .before .before in
+    let c12 = c9 .before .before .before in let c17 = c12 .before .before .before .before .before in
     let c26 = c17 .before .before .before .before .before .before .before .before .before in
     let start = c26 .before .before .before .before .before .before .before .before .before in
     line-made (second t c17) (c12 .count-of2 .ensures) (c9 .keep2 .ensures) (start .args .line) refl refl refl
@@ -380,8 +376,7 @@ product-choose-requires t c κs =
 
 product-linear-product-requires : (t : ℕ) → product-lts.Need-linear-product-requires (product-claims t) (product-at t) product.Post
 product-linear-product-requires t c κs =
-    let c4 = c .before .before .before .before in
-    let start = c4 .before .before .before .before .before .before in
+    let c4 = c .before .before .before .before in let start = c4 .before .before .before .before .before .before in
     (omega (arith, start .pre .0), room-four (start .pre .1) (c4 .choose .result) (c4 .choose .ensures) (c .before .before .if1 .taken))
 
 product-same-length : (t : ℕ) → product-lts.Need-same-length (product-claims t) (product-at t) product.Post
@@ -478,8 +473,7 @@ product-same-length-6 t c = search needs
 
 product-returns-3 : (t : ℕ) → product-lts.Need-returns-3 (product-claims t) (product-at t) product.Post
 product-returns-3 t c =
-    let c8 = c .before .before .before .before .before .before .before .before in
-    let c10 = c8 .before .before in
+    let c8 = c .before .before .before .before .before .before .before .before in let c10 = c8 .before .before in
     let start = c10 .before .before .before .before .before .before in
     made-plain (start .args .limits) (start .args .stage)
     (block (start .args .la) (part (start .args .pa) (start .args .ea) (start .args .work .now)))
@@ -491,66 +485,25 @@ pub +linear-product+product-spec : {M : Type 1} → statement M
 +linear-product+product-spec = close μ-linear-product μ-product (λ t. linear-product-lts.spec (linear-product-claims t)
     (linear-product-at t)
     linear-product.Post
-    (linear-product-mul-raise-to t)
-    (linear-product-sub-raise-to t)
-    (linear-product-part-raise-to-start t)
-    (linear-product-part-raise-to-end t)
-    (linear-product-raise-to-requires t)
-    (linear-product-same-length t)
-    (linear-product-same-length-2 t)
-    (linear-product-returns t)
-    (linear-product-count-of-requires t)
-    (linear-product-keep-requires t)
-    (linear-product-add-q t)
-    (linear-product-mul-work t)
-    (linear-product-slice-write-work t)
-    (linear-product-add-t t)
-    (linear-product-sub-product t)
-    (linear-product-product-requires t)
-    (linear-product-count-of-requires-2 t)
-    (linear-product-keep-requires-2 t)
-    (linear-product-add-u t)
-    (linear-product-mul-add-blocks t)
-    (linear-product-sub-add-blocks t)
-    (linear-product-part-add-blocks-start t)
-    (linear-product-part-add-blocks-end t)
-    (linear-product-mul-add-blocks-2 t)
-    (linear-product-sub-add-blocks-2 t)
-    (linear-product-part-add-blocks-start-2 t)
-    (linear-product-part-add-blocks-end-2 t)
-    (linear-product-add-blocks-requires t)
-    (linear-product-same-length-3 t)
-    (linear-product-same-length-4 t)
-    (linear-product-returns-2 t))
+    (linear-product-mul-raise-to t) (linear-product-sub-raise-to t) (linear-product-part-raise-to-start t)
+    (linear-product-part-raise-to-end t) (linear-product-raise-to-requires t) (linear-product-same-length t)
+    (linear-product-same-length-2 t) (linear-product-returns t) (linear-product-count-of-requires t)
+    (linear-product-keep-requires t) (linear-product-add-q t) (linear-product-mul-work t)
+    (linear-product-slice-write-work t) (linear-product-add-t t) (linear-product-sub-product t)
+    (linear-product-product-requires t) (linear-product-count-of-requires-2 t) (linear-product-keep-requires-2 t)
+    (linear-product-add-u t) (linear-product-mul-add-blocks t) (linear-product-sub-add-blocks t)
+    (linear-product-part-add-blocks-start t) (linear-product-part-add-blocks-end t) (linear-product-mul-add-blocks-2 t)
+    (linear-product-sub-add-blocks-2 t) (linear-product-part-add-blocks-start-2 t)
+    (linear-product-part-add-blocks-end-2 t) (linear-product-add-blocks-requires t) (linear-product-same-length-3 t)
+    (linear-product-same-length-4 t) (linear-product-returns-2 t))
     λ t. product-lts.spec (product-claims t)
     (product-at t)
     product.Post
-    (product-mul-choose t)
-    (product-sub-choose t)
-    (product-part-choose-start t)
-    (product-part-choose-end t)
-    (product-mul-choose-2 t)
-    (product-sub-choose-2 t)
-    (product-part-choose-start-2 t)
-    (product-part-choose-end-2 t)
-    (product-choose-requires t)
-    (product-linear-product-requires t)
-    (product-same-length t)
-    (product-same-length-2 t)
-    (product-returns t)
-    (product-linear-product-requires-2 t)
-    (product-same-length-3 t)
-    (product-same-length-4 t)
-    (product-returns-2 t)
-    (product-mul-plain t)
-    (product-sub-plain t)
-    (product-part-plain-start t)
-    (product-part-plain-end t)
-    (product-mul-plain-2 t)
-    (product-sub-plain-2 t)
-    (product-part-plain-start-2 t)
-    (product-part-plain-end-2 t)
-    (product-plain-requires t)
-    (product-same-length-5 t)
-    (product-same-length-6 t)
+    (product-mul-choose t) (product-sub-choose t) (product-part-choose-start t) (product-part-choose-end t)
+    (product-mul-choose-2 t) (product-sub-choose-2 t) (product-part-choose-start-2 t) (product-part-choose-end-2 t)
+    (product-choose-requires t) (product-linear-product-requires t) (product-same-length t) (product-same-length-2 t)
+    (product-returns t) (product-linear-product-requires-2 t) (product-same-length-3 t) (product-same-length-4 t)
+    (product-returns-2 t) (product-mul-plain t) (product-sub-plain t) (product-part-plain-start t)
+    (product-part-plain-end t) (product-mul-plain-2 t) (product-sub-plain-2 t) (product-part-plain-start-2 t)
+    (product-part-plain-end-2 t) (product-plain-requires t) (product-same-length-5 t) (product-same-length-6 t)
     (product-returns-3 t)

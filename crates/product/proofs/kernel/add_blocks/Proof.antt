@@ -26,8 +26,7 @@ combine-requires c κs =
 
 returns : tie.Need-returns
 returns c =
-    let c4 = c .before .before .before .before in
-    let c5 = c4 .before in
+    let c4 = c .before .before .before .before in let c5 = c4 .before in
     let start = c5 .before .before .before .before in
     let j =
     joined-is (start .args .n) (start .args .m) (start .args .a .now) (start .args .b .now) (c5 .max-shape .ensures)
@@ -41,10 +40,5 @@ pub add-blocks-spec : {M : Type 1} → statement M
 add-blocks-spec =
     tie.close
     (tie.spec
-    (λ c κs. search needs)
-    count-of-requires
-    slice-relend-prefix-combine
-    slice-aggregate-combine
-    combine-requires
-    (λ c. search needs)
-    returns)
+    (λ c κs. search needs) count-of-requires slice-relend-prefix-combine slice-aggregate-combine combine-requires
+    (λ c. search needs) returns)

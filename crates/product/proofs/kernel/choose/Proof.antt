@@ -88,15 +88,5 @@ pub choose-spec : {M : Type 1} → statement M
 choose-spec =
     tie.close
     (tie.spec
-    (λ c κs. search needs)
-    shared-slice-read-x
-    shared-slice-read-y
-    returns
-    returns-2
-    (λ c κs. search needs)
-    returns-3
-    (λ c κs. search needs)
-    returns-4
-    returns-5
-    (λ c κs. search needs)
-    returns-6)
+    (λ c κs. search needs) shared-slice-read-x shared-slice-read-y returns returns-2 (λ c κs. search needs) returns-3
+    (λ c κs. search needs) returns-4 returns-5 (λ c κs. search needs) returns-6)

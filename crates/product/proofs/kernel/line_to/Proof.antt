@@ -32,9 +32,7 @@ line-up-requires c κs =
 
 returns : tie.Need-returns
 returns c =
-    let c4 = c .before .before .before .before in
-    let c5 = c4 .before in
-    let start = c5 .before .before .before in
+    let c4 = c .before .before .before .before in let c5 = c4 .before in let start = c5 .before .before .before in
     let j =
     lined-block (start .pre .0) (c5 .grown-to .ensures) (start .args .line .c) (start .args .line .m)
     (start .args .a .now) (start .pre .1) (c .before .before .line-up .ensures) in
@@ -47,10 +45,5 @@ pub line-to-spec : {M : Type 1} → statement M
 line-to-spec =
     tie.close
     (tie.spec
-    grown-to-requires
-    count-of-requires
-    slice-relend-prefix-line-up
-    slice-aggregate-line-up
-    line-up-requires
-    (λ c. search needs)
-    returns)
+    grown-to-requires count-of-requires slice-relend-prefix-line-up slice-aggregate-line-up line-up-requires
+    (λ c. search needs) returns)

@@ -66,15 +66,5 @@ pub line-up-spec : {M : Type 1} → statement M
 line-up-spec =
     tie.close
     (tie.spec
-    strides-of-requires
-    mul-s
-    array-read-s
-    mul-line-rows
-    array-read-line-rows
-    mul-line-rows-2
-    mul-line-rows-3
-    array-read-line-rows-2
-    mul-line-rows-4
-    line-rows-requires
-    (λ c. search needs)
-    returns)
+    strides-of-requires mul-s array-read-s mul-line-rows array-read-line-rows mul-line-rows-2 mul-line-rows-3
+    array-read-line-rows-2 mul-line-rows-4 line-rows-requires (λ c. search needs) returns)

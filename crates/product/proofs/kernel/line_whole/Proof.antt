@@ -60,8 +60,7 @@ line-to-requires c κs = ((c .before .before .before .before .before .before) .p
 
 returns-3 : tie.Need-returns-3
 returns-3 c =
-    let c4 = c .before .before .before .before in
-    let start = c4 .before .before .before .before .before in
+    let c4 = c .before .before .before .before in let start = c4 .before .before .before .before .before in
     line-scaled (start .args .limits) (start .args .line) (block (start .args .n) (start .args .a .now))
     (c .before .before .before .before .before .if1 .left) (tests c4 .1) (big c4)
     (c .before .before .line-to .ensures)
@@ -70,14 +69,5 @@ pub line-whole-spec : {M : Type 1} → statement M
 line-whole-spec =
     tie.close
     (tie.spec
-    raise-to-requires
-    (λ c. search needs)
-    returns
-    (λ c κs. search needs)
-    linear-product-requires
-    (λ c. search needs)
-    (λ c. search needs)
-    returns-2
-    line-to-requires
-    (λ c. search needs)
-    returns-3)
+    raise-to-requires (λ c. search needs) returns (λ c κs. search needs) linear-product-requires (λ c. search needs)
+    (λ c. search needs) returns-2 line-to-requires (λ c. search needs) returns-3)

@@ -53,18 +53,14 @@ returns c =
 
 product-whole-requires : tie.Need-product-whole-requires
 product-whole-requires c κs =
-    let c8 = c .before .before .before .before .before .before .before .before in
-    let c9 = c8 .before in
+    let c8 = c .before .before .before .before .before .before .before .before in let c9 = c8 .before in
     let start = c9 .before .before .before .before .before in
     times-whole (start .pre) (c9 .cut-to .ensures) (c8 .cut-to2 .ensures) (same-a (c .before .before)) (same-b (c .before .before))
 
 returns-2 : tie.Need-returns-2
 returns-2 c =
-    let c7 = c .before .before .before .before .before .before .before in
-    let c10 = c7 .before .before .before in
-    let c11 = c10 .before in
-    let c13 = c11 .before .before in
-    let c14 = c13 .before in
+    let c7 = c .before .before .before .before .before .before .before in let c10 = c7 .before .before .before in
+    let c11 = c10 .before in let c13 = c11 .before .before in let c14 = c13 .before in
     let start = c14 .before .before .before .before .before in
     let a = start .args in
     whole-stands (start .pre) (c14 .cut-to .ensures) (c13 .cut-to2 .ensures) (same-a c7) (same-b c7) (a .a .now)
@@ -80,22 +76,19 @@ load-two-requires c κs =
 count-of-requires : tie.Need-count-of-requires
 count-of-requires c κs =
     let c10 = c .before .before .before .before .before .before .before .before .before .before in
-    let c11 = c10 .before in
-    let start = c11 .before .before .before .before .before in
+    let c11 = c10 .before in let start = c11 .before .before .before .before .before in
     times-lens (start .pre) (c11 .cut-to .ensures) (c10 .cut-to2 .ensures) .0
 
 count-of-requires-2 : tie.Need-count-of-requires-2
 count-of-requires-2 c κs =
     let c11 = c .before .before .before .before .before .before .before .before .before .before .before in
-    let c12 = c11 .before in
-    let start = c12 .before .before .before .before .before in
+    let c12 = c11 .before in let start = c12 .before .before .before .before .before in
     times-lens (start .pre) (c12 .cut-to .ensures) (c11 .cut-to2 .ensures) .1
 
 add-end : tie.Need-add-end
 add-end c =
     let c12 = c .before .before .before .before .before .before .before .before .before .before .before .before in
-    let c13 = c12 .before in
-    let start = c13 .before .before .before .before .before in
+    let c13 = c12 .before in let start = c13 .before .before .before .before .before in
     let p = start .pre in
     omega (arith, c .count-of2 .ensures, times-two p (c13 .cut-to .ensures) (c12 .cut-to2 .ensures) .small-b, p .work, times-small p)
 
@@ -108,9 +101,7 @@ mul-product c =
 product-requires : tie.Need-product-requires
 product-requires c κs =
     let c12 = c .before .before .before .before .before .before .before .before .before .before .before .before in
-    let c14 = c12 .before .before in
-    let c15 = c14 .before in
-    let start = c15 .before .before .before .before .before in
+    let c14 = c12 .before .before in let c15 = c14 .before in let start = c15 .before .before .before .before .before in
     times-room (start .pre) (c15 .cut-to .ensures) (c14 .cut-to2 .ensures)
     (c .before .before .before .before .before .before .load-two .kept .1 .1 .1 .1 .1 .1 .1 .0)
     (c .before .before .before .count-of .ensures) (c .before .before .count-of2 .ensures)
@@ -118,11 +109,8 @@ product-requires c κs =
 returns-3 : tie.Need-returns-3
 returns-3 c =
     let c8 = c .before .before .before .before .before .before .before .before in
-    let c11 = c8 .before .before .before in
-    let c16 = c11 .before .before .before .before .before in
-    let c17 = c16 .before in
-    let c19 = c17 .before .before in
-    let c20 = c19 .before in
+    let c11 = c8 .before .before .before in let c16 = c11 .before .before .before .before .before in
+    let c17 = c16 .before in let c19 = c17 .before .before in let c20 = c19 .before in
     let start = c20 .before .before .before .before .before in
     let a = start .args in
     times-stands (start .pre) (c20 .cut-to .ensures) (c19 .cut-to2 .ensures)
@@ -135,25 +123,7 @@ pub multiply-front-spec : {M : Type 1} → statement M
 multiply-front-spec =
     tie.close
     (tie.spec
-    (λ c κs. search needs)
-    (λ c κs. search needs)
-    is-zero-requires
-    is-zero-requires-2
-    zero-to-requires
-    (λ c. search needs)
-    returns
-    (λ c κs. search needs)
-    (λ c κs. search needs)
-    product-whole-requires
-    (λ c. search needs)
-    (λ c. search needs)
-    returns-2
-    load-two-requires
-    count-of-requires
-    count-of-requires-2
-    add-end
-    mul-product
-    product-requires
-    (λ c. search needs)
-    (λ c. search needs)
-    returns-3)
+    (λ c κs. search needs) (λ c κs. search needs) is-zero-requires is-zero-requires-2 zero-to-requires
+    (λ c. search needs) returns (λ c κs. search needs) (λ c κs. search needs) product-whole-requires (λ c. search needs)
+    (λ c. search needs) returns-2 load-two-requires count-of-requires count-of-requires-2 add-end mul-product
+    product-requires (λ c. search needs) (λ c. search needs) returns-3)

@@ -46,8 +46,7 @@ part-clear-end c =
 
 returns : tie.Need-returns
 returns c =
-    let c4 = c .before .before .before .before in
-    let c9 = c4 .before .before .before .before .before in
+    let c4 = c .before .before .before .before in let c9 = c4 .before .before .before .before .before in
     let start = c9 .before .before .before .before .before .before .before in
     let k = c9 .multiply-front .kept .1 .1 .1 .1 .1 .1 .0 in
     let o = start .pre .out in (
@@ -64,13 +63,5 @@ pub multiply-into-spec : {M : Type 1} → statement M
 multiply-into-spec =
     tie.close
     (tie.spec
-    (λ c κs. search needs)
-    count-of-requires
-    mul-clear
-    sub-clear
-    part-clear-start
-    part-clear-end
-    (λ c κs. search needs)
-    (λ c. search needs)
-    (λ c. search needs)
-    returns)
+    (λ c κs. search needs) count-of-requires mul-clear sub-clear part-clear-start part-clear-end (λ c κs. search needs)
+    (λ c. search needs) (λ c. search needs) returns)

@@ -79,11 +79,8 @@ general-requires c κs =
 
 returns-5 : tie.Need-returns-5
 returns-5 c =
-    let c4 = c .before .before .before .before in
-    let c5 = c4 .before in
-    let c8 = c5 .before .before .before in
-    let c9 = c8 .before in
-    let start = c9 .before .before .before .before in
+    let c4 = c .before .before .before .before in let c5 = c4 .before in let c8 = c5 .before .before .before in
+    let c9 = c8 .before in let start = c9 .before .before .before .before in
     put-same (plain-6 (start .args .limits) (start .args .c) (block (start .args .la) (start .args .a .now))
     (block (start .args .lb) (start .args .b .now)) (start .args .kind) (c9 .if1 .left) (c8 .if2 .left)
     (c .before .before .before .before .before .before .before .if3 .left)
@@ -98,22 +95,7 @@ pub plain-spec : {M : Type 1} → statement M
 plain-spec =
     tie.close
     (tie.spec
-    copied-requires
-    (λ c. search needs)
-    returns
-    copied-requires-2
-    (λ c. search needs)
-    returns-2
-    scaled-to-requires
-    (λ c. search needs)
-    returns-3
-    scaled-to-requires-2
-    (λ c. search needs)
-    returns-4
-    sum-shape-requires
-    count-of-requires
-    slice-relend-prefix-general
-    slice-aggregate-general
-    general-requires
-    (λ c. search needs)
+    copied-requires (λ c. search needs) returns copied-requires-2 (λ c. search needs) returns-2 scaled-to-requires
+    (λ c. search needs) returns-3 scaled-to-requires-2 (λ c. search needs) returns-4 sum-shape-requires
+    count-of-requires slice-relend-prefix-general slice-aggregate-general general-requires (λ c. search needs)
     returns-5)

@@ -10,8 +10,7 @@ choose-requires c κs = let p = (c .before .before .before .before) .pre .plain 
 
 line-whole-requires : tie.Need-line-whole-requires
 line-whole-requires c κs =
-    let c4 = c .before .before .before .before in
-    let start = c4 .before .before .before .before .before in
+    let c4 = c .before .before .before .before in let start = c4 .before .before .before .before .before in
     let a = start .args in whole-four (a .a .now) (a .b .now) (start .pre) (c4 .choose .result) (c4 .choose .ensures) (c .before .before .if1 .taken)
 
 returns : tie.Need-returns
@@ -25,8 +24,7 @@ returns c =
 
 line-whole-requires-2 : tie.Need-line-whole-requires-2
 line-whole-requires-2 c κs =
-    let c5 = c .before .before .before .before .before in
-    let start = c5 .before .before .before .before .before in
+    let c5 = c .before .before .before .before .before in let start = c5 .before .before .before .before .before in
     let a = start .args in whole-five (a .a .now) (a .b .now) (start .pre) (c5 .choose .result) (c5 .choose .ensures) (c .before .before .if2 .taken)
 
 returns-2 : tie.Need-returns-2
@@ -51,15 +49,5 @@ pub product-whole-spec : {M : Type 1} → statement M
 product-whole-spec =
     tie.close
     (tie.spec
-    choose-requires
-    line-whole-requires
-    (λ c. search needs)
-    (λ c. search needs)
-    returns
-    line-whole-requires-2
-    (λ c. search needs)
-    (λ c. search needs)
-    returns-2
-    (λ c κs. search needs)
-    (λ c. search needs)
-    returns-3)
+    choose-requires line-whole-requires (λ c. search needs) (λ c. search needs) returns line-whole-requires-2
+    (λ c. search needs) (λ c. search needs) returns-2 (λ c κs. search needs) (λ c. search needs) returns-3)

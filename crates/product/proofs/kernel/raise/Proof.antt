@@ -38,15 +38,5 @@ pub raise-spec : {M : Type 1} → statement M
 raise-spec =
     tie.close
     (tie.spec
-    strides-of-requires
-    (λ c. search needs)
-    (λ c. search needs)
-    (λ c. search needs)
-    (λ c. search needs)
-    mul-raise-rows-2
-    (λ c. search needs)
-    (λ c. search needs)
-    mul-raise-rows-4
-    raise-rows-requires
-    (λ c. search needs)
-    returns)
+    strides-of-requires (λ c. search needs) (λ c. search needs) (λ c. search needs) (λ c. search needs) mul-raise-rows-2
+    (λ c. search needs) (λ c. search needs) mul-raise-rows-4 raise-rows-requires (λ c. search needs) returns)

@@ -29,9 +29,7 @@ raise-requires c κs =
 
 returns : tie.Need-returns
 returns c =
-    let c4 = c .before .before .before .before in
-    let c5 = c4 .before in
-    let start = c5 .before .before .before in
+    let c4 = c .before .before .before .before in let c5 = c4 .before in let start = c5 .before .before .before in
     let j =
     raised-is (start .args .limits) (start .args .n) (start .args .line .variable) (start .args .line .m)
     (start .args .a .now) (c5 .grown-to .ensures) (c .before .before .raise .ensures) in
@@ -44,10 +42,5 @@ pub raise-to-spec : {M : Type 1} → statement M
 raise-to-spec =
     tie.close
     (tie.spec
-    grown-to-requires
-    count-of-requires
-    slice-relend-prefix-raise
-    slice-aggregate-raise
-    raise-requires
-    (λ c. search needs)
-    returns)
+    grown-to-requires count-of-requires slice-relend-prefix-raise slice-aggregate-raise raise-requires
+    (λ c. search needs) returns)

@@ -40,8 +40,7 @@ returns c =
 returns-2 : tie.Need-returns-2
 returns-2 c =
     let c8 = c .before .before .before .before .before .before .before .before in
-    let c11 = c8 .before .before .before in
-    let start = c11 .before .before .before .before .before in
+    let c11 = c8 .before .before .before in let start = c11 .before .before .before .before .before in
     other-made (start .args .limits) (block (start .args .la)
     (part (start .args .pa) (start .args .ea) (start .args .work .now)))
     (block (start .args .lb) (part (start .args .pb) (start .args .eb) (start .args .work .now)))
@@ -56,21 +55,6 @@ pub times-spec : {M : Type 1} → statement M
 times-spec =
     tie.close
     (tie.spec
-    (λ c. search needs)
-    (λ c. search needs)
-    (λ c. search needs)
-    (λ c. search needs)
-    is-zero-requires
-    (λ c. search needs)
-    (λ c. search needs)
-    (λ c. search needs)
-    (λ c. search needs)
-    is-zero-requires-2
-    zero-to-requires
-    (λ c. search needs)
-    (λ c. search needs)
-    returns
-    (λ c κs. search needs)
-    (λ c. search needs)
-    (λ c. search needs)
-    returns-2)
+    (λ c. search needs) (λ c. search needs) (λ c. search needs) (λ c. search needs) is-zero-requires (λ c. search needs)
+    (λ c. search needs) (λ c. search needs) (λ c. search needs) is-zero-requires-2 zero-to-requires (λ c. search needs)
+    (λ c. search needs) returns (λ c κs. search needs) (λ c. search needs) (λ c. search needs) returns-2)

@@ -33,8 +33,7 @@ slice-aggregate-short-into-2 c =
 
 short-into-requires : tie.Need-short-into-requires
 short-into-requires c κs =
-    let c4 = c .before .before .before .before in
-    let start = c4 .before .before .before .before in
+    let c4 = c .before .before .before .before in let start = c4 .before .before .before .before in
     record {
       lens =
           lengths-of {h = c4 .header-of .result} (rw (c4 .header-of .ensures) (start .pre .good .regular .rules));
@@ -72,16 +71,6 @@ pub multiply-short-spec : {M : Type 1} → statement M
 multiply-short-spec =
     tie.close
     (tie.spec
-    (λ c κs. search needs)
-    stored-of-requires
-    mul-room
-    slice-aggregate-short-into
-    slice-relend-prefix-short-into
-    slice-aggregate-short-into-2
-    short-into-requires
-    slice-relend-prefix-clear
-    slice-aggregate-clear
-    (λ c κs. search needs)
-    (λ c. search needs)
-    (λ c. search needs)
-    returns)
+    (λ c κs. search needs) stored-of-requires mul-room slice-aggregate-short-into slice-relend-prefix-short-into
+    slice-aggregate-short-into-2 short-into-requires slice-relend-prefix-clear slice-aggregate-clear
+    (λ c κs. search needs) (λ c. search needs) (λ c. search needs) returns)

@@ -62,13 +62,5 @@ pub own-count-spec : {M : Type 1} → statement M
 own-count-spec =
     tie.close
     (tie.spec
-    (λ c κs. search needs)
-    (λ c κs. search needs)
-    (λ c κs. search needs)
-    (λ c κs. search needs)
-    returns
-    stored-of-requires
-    stored-of-requires-2
-    mul-if2
-    returns-2
-    returns-3)
+    (λ c κs. search needs) (λ c κs. search needs) (λ c κs. search needs) (λ c κs. search needs) returns
+    stored-of-requires stored-of-requires-2 mul-if2 returns-2 returns-3)

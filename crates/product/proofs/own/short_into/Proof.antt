@@ -48,8 +48,7 @@ line-rows-requires c κs =
 
 returns-2 : tie.Need-returns-2
 returns-2 c =
-    let c5 = c .before .before .before .before .before in
-    let start = c5 .before .before .before .before .before in
+    let c5 = c .before .before .before .before .before in let start = c5 .before .before .before .before .before in
     lined-short (start .args .w) (start .args .t3) (start .args .a .now) (c5 .if1 .left)
     (lined-is (short-raising (start .pre) (c5 .if1 .left))
     (ap (λ (l : List ℕ). at l (start .args .w .line .variable))
@@ -60,15 +59,5 @@ pub short-into-spec : {M : Type 1} → statement M
 short-into-spec =
     tie.close
     (tie.spec
-    (λ c κs. search needs)
-    (λ c. search needs)
-    returns
-    (λ c κs. search needs)
-    mul-s
-    array-read-s
-    mul-width
-    array-read-width
-    mul-width-2
-    line-rows-requires
-    (λ c. search needs)
-    returns-2)
+    (λ c κs. search needs) (λ c. search needs) returns (λ c κs. search needs) mul-s array-read-s mul-width
+    array-read-width mul-width-2 line-rows-requires (λ c. search needs) returns-2)

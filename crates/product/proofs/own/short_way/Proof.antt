@@ -37,8 +37,7 @@ light-way-requires c κs =
 
 returns-2 : tie.Need-returns-2
 returns-2 c =
-    let c8 = c .before .before .before .before .before .before .before .before in
-    let c9 = c8 .before in
+    let c8 = c .before .before .before .before .before .before .before .before in let c9 = c8 .before in
     let start = c9 .before .before .before in
     λ z. owned-shortens (c9 .own-count .ensures (c8 .if1 .left))
     (c .before .before .before .before .before .before .header-of2 .ensures)
@@ -50,13 +49,5 @@ pub short-way-spec : {M : Type 1} → statement M
 short-way-spec =
     tie.close
     (tie.spec
-    (λ c κs. search needs)
-    (λ c κs. search needs)
-    returns
-    (λ c κs. search needs)
-    (λ c κs. search needs)
-    stored-of-requires
-    slice-aggregate-light-way
-    slice-aggregate-light-way-2
-    light-way-requires
-    returns-2)
+    (λ c κs. search needs) (λ c κs. search needs) returns (λ c κs. search needs) (λ c κs. search needs)
+    stored-of-requires slice-aggregate-light-way slice-aggregate-light-way-2 light-way-requires returns-2)

@@ -56,8 +56,7 @@ part-lines-start-2 c = omega (arith, here-right (c .before))
 
 lines-requires : tie.Need-lines-requires Inv-loop μ-loop
 lines-requires c κs =
-    let c3 = c .before .before .before in
-    let start = c3 .before .before .before .before .before in
+    let c3 = c .before .before .before in let start = c3 .before .before .before .before .before in
     let a = start .args in
     let l = c .before .before .before .before .loop in (
       (
@@ -103,21 +102,5 @@ each-line-spec =
     (tie.spec
     Inv-loop
     μ-loop
-    loop-holds
-    mul-p
-    sub-q
-    mul-q
-    mul-lines
-    sub-lines
-    part-lines-start
-    (λ c. omega arith)
-    mul-lines-2
-    sub-lines-2
-    part-lines-start-2
-    (λ c. omega arith)
-    lines-requires
-    add-j
-    loop-less
-    loop-again
-    same-length
-    returns)
+    loop-holds mul-p sub-q mul-q mul-lines sub-lines part-lines-start (λ c. omega arith) mul-lines-2 sub-lines-2
+    part-lines-start-2 (λ c. omega arith) lines-requires add-j loop-less loop-again same-length returns)

@@ -50,8 +50,7 @@ part-each-line-end c = omega (arith, fits (c .before .before))
 
 each-line-requires : tie.Need-each-line-requires Inv-loop μ-loop
 each-line-requires c κs =
-    let c4 = c .before .before .before .before in
-    let start = c4 .before .before .before .before in
+    let c4 = c .before .before .before .before in let start = c4 .before .before .before .before in
     let e : c4 .loop .k * start .args .s + start .args .s - c4 .loop .k * start .args .s ≡ start .args .s = omega arith in
     lining-of (start .pre) (c .before .before .before .loop-test .taken) (c .before .before .from .ensures) (c .before .upto .ensures) e (c4 .loop .res)
 
@@ -65,8 +64,7 @@ loop-less c = omega (arith, c .before .before .before .before .before .before .l
 
 loop-again : tie.Need-loop-again Inv-loop μ-loop
 loop-again c =
-    let c6 = c .before .before .before .before .before .before in
-    let c7 = c6 .before in
+    let c6 = c .before .before .before .before .before .before in let c7 = c6 .before in
     let start = c7 .before .before .before .before in
     let a = start .args in
     let l = c7 .loop in
@@ -95,18 +93,5 @@ plane-spec =
     (tie.spec
     Inv-loop
     μ-loop
-    loop-holds
-    mul-at
-    from-requires
-    upto-requires
-    add-each-line
-    mul-each-line
-    sub-each-line
-    part-each-line-start
-    part-each-line-end
-    each-line-requires
-    add-k
-    loop-less
-    loop-again
-    same-length
-    returns)
+    loop-holds mul-at from-requires upto-requires add-each-line mul-each-line sub-each-line part-each-line-start
+    part-each-line-end each-line-requires add-k loop-less loop-again same-length returns)

@@ -80,23 +80,6 @@ pub two-long-spec : {M : Type 1} → statement M
 two-long-spec =
     tie.close
     (tie.spec
-    add-w
-    mul-plane
-    array-read-plane
-    mul-plane-2
-    array-read-plane-2
-    mul-plane-3
-    array-read-plane-3
-    mul-plane-4
-    array-read-plane-4
-    mul-plane-5
-    array-read-plane-5
-    mul-plane-6
-    array-read-plane-6
-    mul-plane-7
-    array-read-plane-7
-    mul-plane-8
-    array-read-plane-8
-    plane-requires
-    same-length
-    returns)
+    add-w mul-plane array-read-plane mul-plane-2 array-read-plane-2 mul-plane-3 array-read-plane-3 mul-plane-4
+    array-read-plane-4 mul-plane-5 array-read-plane-5 mul-plane-6 array-read-plane-6 mul-plane-7 array-read-plane-7
+    mul-plane-8 array-read-plane-8 plane-requires same-length returns)

@@ -70,20 +70,6 @@ pub add-dividend-spec : {M : Type 1} → statement M
 add-dividend-spec =
     tie.close
     (tie.spec
-    array-read-if1
-    returns
-    array-read-from
-    array-read-join-block
-    array-read-t22
-    array-read-from-2
-    array-read-t22-2
-    array-read-join-block-2
-    count-of-requires
-    mul-from
-    mul-join-block
-    sub-join-block
-    part-join-block-start
-    (λ c. omega arith)
-    join-block-requires
-    same-length
-    returns-2)
+    array-read-if1 returns array-read-from array-read-join-block array-read-t22 array-read-from-2 array-read-t22-2
+    array-read-join-block-2 count-of-requires mul-from mul-join-block sub-join-block part-join-block-start
+    (λ c. omega arith) join-block-requires same-length returns-2)

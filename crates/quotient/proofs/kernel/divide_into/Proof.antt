@@ -21,9 +21,7 @@ count-of-requires-2 c κs =
 
 divide-loaded-requires : tie.Need-divide-loaded-requires
 divide-loaded-requires c κs =
-    let c3 = c .before .before .before in
-    let c8 = c3 .before .before .before .before .before in
-    let c9 = c8 .before in
+    let c3 = c .before .before .before in let c8 = c3 .before .before .before .before .before in let c9 = c8 .before in
     let start = c9 .before .before .before .before .before in (
       rw (c .before .before .before .before .before .before .load-two .kept .1 .1 .1 .1 .1 .1 .1 .0)
           (into-recur (start .pre) (c9 .cut-to .ensures) (c8 .cut-to2 .ensures) (c3 .count-of .ensures)
@@ -34,9 +32,7 @@ divide-loaded-requires c κs =
 returns : tie.Need-returns
 returns c =
     let c8 = c .before .before .before .before .before .before .before .before in
-    let c11 = c8 .before .before .before in
-    let c13 = c11 .before .before in
-    let c14 = c13 .before in
+    let c11 = c8 .before .before .before in let c13 = c11 .before .before in let c14 = c13 .before in
     let start = c14 .before .before .before .before .before in
     into-loaded (start .pre) (c14 .cut-to .ensures) (c13 .cut-to2 .ensures) (c8 .count-of .ensures)
     (c .before .before .before .before .before .before .before .count-of2 .ensures) (start .args .a .now)
@@ -47,12 +43,5 @@ pub divide-into-spec : {M : Type 1} → statement M
 divide-into-spec =
     tie.close
     (tie.spec
-    (λ c κs. search needs)
-    (λ c κs. search needs)
-    load-two-requires
-    count-of-requires
-    count-of-requires-2
-    divide-loaded-requires
-    (λ c. search needs)
-    (λ c. search needs)
-    returns)
+    (λ c κs. search needs) (λ c κs. search needs) load-two-requires count-of-requires count-of-requires-2
+    divide-loaded-requires (λ c. search needs) (λ c. search needs) returns)

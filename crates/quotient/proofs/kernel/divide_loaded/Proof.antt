@@ -34,15 +34,6 @@ pub divide-loaded-spec : {M : Type 1} → statement M
 divide-loaded-spec =
     tie.close
     (tie.spec
-    (λ c. search needs)
-    slice-read-divide-constant
-    slice-reshare-prefix-divide-constant
-    slice-aggregate-divide-constant
-    divide-constant-requires
-    (λ c. search needs)
-    (λ c. search needs)
-    returns
-    (λ c κs. search needs)
-    (λ c. search needs)
-    (λ c. search needs)
-    returns-2)
+    (λ c. search needs) slice-read-divide-constant slice-reshare-prefix-divide-constant slice-aggregate-divide-constant
+    divide-constant-requires (λ c. search needs) (λ c. search needs) returns (λ c κs. search needs) (λ c. search needs)
+    (λ c. search needs) returns-2)

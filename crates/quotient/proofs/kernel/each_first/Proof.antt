@@ -105,8 +105,7 @@ level-requires c κs =
 add-k : tie.Need-add-k Inv-loop μ-loop
 add-k c =
     let c12 = c .before .before .before .before .before .before .before .before .before .before .before .before in
-    let c14 = c12 .before .before in
-    let start = c14 .before .before .before .before in
+    let c14 = c12 .before .before in let start = c14 .before .before .before .before in
     omega (arith, row-small (start .pre .0 .strided .result) (omega arith) (c14 .loop-test .taken))
 
 loop-less : tie.Need-loop-less Inv-loop μ-loop
@@ -118,8 +117,7 @@ loop-less c =
 loop-again : tie.Need-loop-again Inv-loop μ-loop
 loop-again c =
     let c4 = c .before .before .before .before in
-    let c11 = c4 .before .before .before .before .before .before .before in
-    let c14 = c11 .before .before .before in
+    let c11 = c4 .before .before .before .before .before .before .before in let c14 = c11 .before .before .before in
     let c15 = c14 .before in
     let start = c15 .before .before .before in (
       omega (arith, c14 .loop-test .taken),
@@ -147,19 +145,6 @@ each-first-spec =
     (tie.spec
     Inv-loop
     μ-loop
-    (λ c. omega arith)
-    (λ c. omega arith)
-    add-end
-    loop-holds
-    mul-at
-    add-at
-    slice-relend-prefix-gather-first
-    slice-aggregate-gather-first
-    gather-first-requires
-    level-requires
-    add-k
-    loop-less
-    loop-again
-    same-length
-    same-length-2
-    returns)
+    (λ c. omega arith) (λ c. omega arith) add-end loop-holds mul-at add-at slice-relend-prefix-gather-first
+    slice-aggregate-gather-first gather-first-requires level-requires add-k loop-less loop-again same-length
+    same-length-2 returns)

@@ -191,28 +191,7 @@ pub gather-first-spec : {M : Type 1} → statement M
 gather-first-spec =
     tie.close
     (tie.spec
-    (λ c. omega arith)
-    mul-end
-    add-end
-    mul-taken-row
-    (λ c. omega arith)
-    part-taken-row-start
-    part-taken-row-end
-    mul-taken-row-2
-    sub-taken-row-2
-    part-taken-row-start-2
-    part-taken-row-end-2
-    taken-row-requires
-    (λ c κs. search needs)
-    slice-reshare-prefix-add-dividend
-    slice-aggregate-add-dividend
-    add-dividend-requires
-    add-copy
-    mul-copy
-    sub-copy
-    part-copy-start
-    part-copy-end
-    copy-requires
-    (λ c. search needs)
-    same-length-2
-    returns)
+    (λ c. omega arith) mul-end add-end mul-taken-row (λ c. omega arith) part-taken-row-start part-taken-row-end
+    mul-taken-row-2 sub-taken-row-2 part-taken-row-start-2 part-taken-row-end-2 taken-row-requires
+    (λ c κs. search needs) slice-reshare-prefix-add-dividend slice-aggregate-add-dividend add-dividend-requires add-copy
+    mul-copy sub-copy part-copy-start part-copy-end copy-requires (λ c. search needs) same-length-2 returns)

@@ -77,17 +77,5 @@ pub recur-spec : {M : Type 1} → statement M
 recur-spec =
     tie.close
     (tie.spec
-    strides-of-requires
-    strides-of-requires-2
-    mul-q
-    mul-p
-    add-each-first
-    each-first-requires
-    mul-copy
-    (λ c. omega arith)
-    part-copy-start
-    part-copy-end
-    copy-requires
-    same-length
-    same-length-2
-    returns)
+    strides-of-requires strides-of-requires-2 mul-q mul-p add-each-first each-first-requires mul-copy (λ c. omega arith)
+    part-copy-start part-copy-end copy-requires same-length same-length-2 returns)

@@ -54,16 +54,14 @@ shared-slice-read-t22 c = low (c .before .before .before) (c .before .before .if
 returns : tie.Need-returns Inv-loop μ-loop
 unfolding lineOf
 returns c =
-    let c5 = c .before .before .before .before .before in
-    let start = c5 .before .before .before in
+    let c5 = c .before .before .before .before .before in let start = c5 .before .before .before in
     rw (c .before .before .before .before .before .before .strides-of .ensures)
     (sym (c5 .loop .inv .1 ∙ from-found (block (start .args .t2) (start .args .a .now)) (4 - c5 .loop .left)
     (omega arith) (sym (is (c .before .before .before)) ∙ c .before .before .if1 .taken)))
 
 loop-again : tie.Need-loop-again Inv-loop μ-loop
 loop-again c =
-    let c3 = c .before .before .before in
-    let start = c3 .before .before .before in
+    let c3 = c .before .before .before in let start = c3 .before .before .before in
     let e : 4 - (c3 .loop .left - 1) ≡ 4 - c3 .loop .left + 1 = omega arith in (
       omega arith,
       rw e (c3 .loop .inv .1 ∙ from-next (block (start .args .t2) (start .args .a .now)) (4 - c3 .loop .left)
@@ -82,20 +80,6 @@ linear-of-spec =
     (tie.spec
     Inv-loop
     μ-loop
-    strides-of-requires
-    loop-holds
-    (λ c. omega arith)
-    (λ c. omega arith)
-    (λ c. omega arith)
-    (λ c. omega arith)
-    (λ c. omega arith)
-    (λ c κs. search needs)
-    shared-slice-read-t19
-    mul-t20
-    shared-slice-read-t22
-    returns
-    (λ c. omega arith)
-    (λ c. omega arith)
-    loop-again
-    (λ c κs. search needs)
-    returns-2)
+    strides-of-requires loop-holds (λ c. omega arith) (λ c. omega arith) (λ c. omega arith) (λ c. omega arith)
+    (λ c. omega arith) (λ c κs. search needs) shared-slice-read-t19 mul-t20 shared-slice-read-t22 returns
+    (λ c. omega arith) (λ c. omega arith) loop-again (λ c κs. search needs) returns-2)

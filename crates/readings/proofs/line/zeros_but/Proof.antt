@@ -20,14 +20,12 @@ loop-holds c = (omega arith, zeros-none (c .args .a .now) (c .args .s))
 
 returns : tie.Need-returns Inv-loop μ-loop
 returns c =
-    let c3 = c .before .before .before in
-    let start = c3 .before in
+    let c3 = c .before .before .before in let start = c3 .before in
     sym (zeros-stop (start .args .a .now) (start .args .s) (c3 .loop .k) _ (c3 .loop .inv .1) (not-true _ (c .if1 .taken)) (omega arith))
 
 loop-again : tie.Need-loop-again Inv-loop μ-loop
 loop-again c =
-    let c3 = c .before .before .before in
-    let start = c3 .before in
+    let c3 = c .before .before .before in let start = c3 .before in
     (omega arith, zeros-more (start .args .a .now) (start .args .s) (c3 .loop .k) (c3 .loop .inv .1) (not-false _ (c .if1 .left)))
 
 returns-2 : tie.Need-returns-2 Inv-loop μ-loop
@@ -41,11 +39,4 @@ zeros-but-spec =
     (tie.spec
     Inv-loop
     μ-loop
-    loop-holds
-    (λ c. omega arith)
-    (λ c. omega arith)
-    returns
-    (λ c. omega arith)
-    (λ c. omega arith)
-    loop-again
-    returns-2)
+    loop-holds (λ c. omega arith) (λ c. omega arith) returns (λ c. omega arith) (λ c. omega arith) loop-again returns-2)

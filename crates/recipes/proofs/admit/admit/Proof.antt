@@ -50,8 +50,7 @@ total-of-requires-2 c κs =
 returns-3 : tie.Need-returns-3
 returns-3 c =
     let c7 = c .before .before .before .before .before .before .before in
-    let c11 = c7 .before .before .before .before in
-    let start = c11 .before .before .before .before .before in
+    let c11 = c7 .before .before .before .before in let start = c11 .before .before .before .before .before in
     rw (c .by2 .ensures) (admit-5 (start .args .headers .now) (start .args .steps .now) (start .args .coefficients)
     (start .args .pool) (start .args .words) (start .args .scratch) (c11 .judge .ensures) (c7 .if1 .left)
     (c .before .before .before .before .before .before .total-of .ensures)
@@ -81,10 +80,8 @@ mul-if4 c =
 
 returns-4 : tie.Need-returns-4
 returns-4 c =
-    let c9 = c .before .before .before .before .before .before .before .before .before in
-    let c10 = c9 .before in
-    let c11 = c10 .before in
-    let c15 = c11 .before .before .before .before in
+    let c9 = c .before .before .before .before .before .before .before .before .before in let c10 = c9 .before in
+    let c11 = c10 .before in let c15 = c11 .before .before .before .before in
     let start = c15 .before .before .before .before .before in
     rw (c .by3 .ensures) (admit-6 (start .args .headers .now) (start .args .steps .now) (start .args .coefficients)
     (start .args .pool) (start .args .words) (start .args .scratch) (c15 .judge .ensures) (c11 .if1 .left)
@@ -95,10 +92,8 @@ returns-4 c =
 
 returns-5 : tie.Need-returns-5
 returns-5 c =
-    let c9 = c .before .before .before .before .before .before .before .before .before in
-    let c10 = c9 .before in
-    let c11 = c10 .before in
-    let c15 = c11 .before .before .before .before in
+    let c9 = c .before .before .before .before .before .before .before .before .before in let c10 = c9 .before in
+    let c11 = c10 .before in let c15 = c11 .before .before .before .before in
     let start = c15 .before .before .before .before .before in
     rw (c .none .ensures) (admit-none (start .args .headers .now) (start .args .steps .now) (start .args .coefficients)
     (start .args .pool) (start .args .words) (start .args .scratch) (c15 .judge .ensures) (c11 .if1 .left)
@@ -111,31 +106,8 @@ pub admit-spec : {M : Type 1} → statement M
 admit-spec =
     tie.close
     (tie.spec
-    (λ c κs. search needs)
-    (λ c. search needs)
-    returns
-    total-of-requires
-    (λ c κs. search needs)
-    (λ c. search needs)
-    returns-2
-    (λ c. search needs)
-    (λ c. search needs)
-    (λ c. search needs)
-    (λ c. search needs)
-    part-total-of-end
-    total-of-requires-2
-    (λ c κs. search needs)
-    (λ c. search needs)
-    returns-3
-    (λ c. search needs)
-    (λ c. search needs)
-    (λ c. search needs)
-    part-largest-of-end
-    largest-of-requires
-    mul-if4
-    (λ c κs. search needs)
-    (λ c. search needs)
-    returns-4
-    (λ c κs. search needs)
-    (λ c. search needs)
-    returns-5)
+    (λ c κs. search needs) (λ c. search needs) returns total-of-requires (λ c κs. search needs) (λ c. search needs)
+    returns-2 (λ c. search needs) (λ c. search needs) (λ c. search needs) (λ c. search needs) part-total-of-end
+    total-of-requires-2 (λ c κs. search needs) (λ c. search needs) returns-3 (λ c. search needs) (λ c. search needs)
+    (λ c. search needs) part-largest-of-end largest-of-requires mul-if4 (λ c κs. search needs) (λ c. search needs)
+    returns-4 (λ c κs. search needs) (λ c. search needs) returns-5)

@@ -114,29 +114,8 @@ pub run-admitted-spec : {M : Type 1} → statement M
 run-admitted-spec =
     tie.close
     (tie.spec
-    (λ c. search needs)
-    (λ c. search needs)
-    (λ c. search needs)
-    (λ c. search needs)
-    part-largest-of-end
-    largest-of-requires
-    mul-room
-    (λ c. search needs)
-    note-starts-requires
-    (λ c. search needs)
-    slice-relend-prefix-run-steps
-    slice-aggregate-run-steps-2
-    run-steps-requires
-    (λ c. search needs)
-    (λ c. search needs)
-    (λ c. search needs)
-    part-note-inputs-end
-    (λ c κs. search needs)
-    slice-relend-prefix-clear
-    slice-aggregate-clear
-    (λ c κs. search needs)
-    (λ c. search needs)
-    (λ c. search needs)
-    (λ c. search needs)
-    (λ c. search needs)
-    returns)
+    (λ c. search needs) (λ c. search needs) (λ c. search needs) (λ c. search needs) part-largest-of-end
+    largest-of-requires mul-room (λ c. search needs) note-starts-requires (λ c. search needs)
+    slice-relend-prefix-run-steps slice-aggregate-run-steps-2 run-steps-requires (λ c. search needs) (λ c. search needs)
+    (λ c. search needs) part-note-inputs-end (λ c κs. search needs) slice-relend-prefix-clear slice-aggregate-clear
+    (λ c κs. search needs) (λ c. search needs) (λ c. search needs) (λ c. search needs) (λ c. search needs) returns)

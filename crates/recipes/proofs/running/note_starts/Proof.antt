@@ -63,16 +63,5 @@ note-starts-spec =
     (tie.spec
     Inv-loop
     μ-loop
-    loop-holds
-    mul-starts
-    slice-write-starts
-    (λ c. search needs)
-    (λ c. search needs)
-    (λ c κs. search needs)
-    stored-of-requires
-    add-from
-    (λ c. search needs)
-    (λ c. search needs)
-    loop-again
-    same-length
-    returns)
+    loop-holds mul-starts slice-write-starts (λ c. search needs) (λ c. search needs) (λ c κs. search needs)
+    stored-of-requires add-from (λ c. search needs) (λ c. search needs) loop-again same-length returns)

@@ -62,8 +62,7 @@ stored-of-requires c κs =
 
 step-word-requires : tie.Need-step-word-requires Inv-loop μ-loop
 step-word-requires c κs =
-    let c4 = c .before .before .before .before in
-    let c9 = c4 .before .before .before .before .before in
+    let c4 = c .before .before .before .before in let c9 = c4 .before .before .before .before .before in
     let c10 = c9 .before in
     let start = c10 .before .before .before .before .before .before .before .before in (
       rw (c .before .before .before .before .before .before .before .step-of .ensures)
@@ -81,8 +80,7 @@ mul-known c =
 slice-write-known : tie.Need-slice-write-known Inv-loop μ-loop
 slice-write-known c =
     let c12 = c .before .before .before .before .before .before .before .before .before .before .before .before in
-    let c14 = c12 .before .before in
-    let c15 = c14 .before in
+    let c14 = c12 .before .before in let c15 = c14 .before in
     let start = c15 .before .before .before .before .before .before .before .before in
     omega (arith, fit (start .pre .0), c14 .loop-test .taken, c15 .loop .inv .0 .len-known, start .pre .0 .many)
 
@@ -96,16 +94,14 @@ mul-starts c =
 slice-write-starts : tie.Need-slice-write-starts Inv-loop μ-loop
 slice-write-starts c =
     let c12 = c .before .before .before .before .before .before .before .before .before .before .before .before in
-    let c14 = c12 .before .before in
-    let c15 = c14 .before in
+    let c14 = c12 .before .before in let c15 = c14 .before in
     let start = c15 .before .before .before .before .before .before .before .before in
     omega (arith, fit (start .pre .0), c14 .loop-test .taken, c15 .loop .inv .0 .len-starts)
 
 add-at : tie.Need-add-at Inv-loop μ-loop
 add-at c =
     let c9 = c .before .before .before .before .before .before .before .before .before in
-    let c14 = c9 .before .before .before .before .before in
-    let c15 = c14 .before in
+    let c14 = c9 .before .before .before .before .before in let c15 = c14 .before in
     let start = c15 .before .before .before .before .before .before .before .before in
     let g =
     step-lent (start .pre .0) (c15 .loop .inv .0) (c14 .loop-test .taken) (counted c9)
@@ -121,11 +117,8 @@ add-i c =
 
 loop-again : tie.Need-loop-again Inv-loop μ-loop
 loop-again c =
-    let c4 = c .before .before .before .before in
-    let c9 = c4 .before .before .before .before .before in
-    let c12 = c9 .before .before .before in
-    let c14 = c12 .before .before in
-    let c15 = c14 .before in
+    let c4 = c .before .before .before .before in let c9 = c4 .before .before .before .before .before in
+    let c12 = c9 .before .before .before in let c14 = c12 .before .before in let c15 = c14 .before in
     let start = c15 .before .before .before .before .before .before .before .before in (
       running-more (start .pre .0) (c15 .loop .inv .0) (c14 .loop-test .taken) (counted c9) (c15 .loop .inv .0 .len-pool)
           (rw (c12 .step-of .ensures) at (c4 .step-word .ensures .0))
@@ -157,26 +150,7 @@ run-steps-spec =
     (tie.spec
     Inv-loop
     μ-loop
-    loop-holds
-    (λ c. search needs)
-    (λ c. search needs)
-    (λ c κs. search needs)
-    add-p
-    mul-header-of
-    slice-read-header-of
-    (λ c κs. search needs)
-    stored-of-requires
-    step-word-requires
-    mul-known
-    slice-write-known
-    mul-starts
-    slice-write-starts
-    add-at
-    add-i
-    (λ c. search needs)
-    loop-again
-    same-length
-    same-length-2
-    same-length-3
-    same-length-4
+    loop-holds (λ c. search needs) (λ c. search needs) (λ c κs. search needs) add-p mul-header-of slice-read-header-of
+    (λ c κs. search needs) stored-of-requires step-word-requires mul-known slice-write-known mul-starts
+    slice-write-starts add-at add-i (λ c. search needs) loop-again same-length same-length-2 same-length-3 same-length-4
     returns)

@@ -79,20 +79,7 @@ pub step-word-spec : {M : Type 1} → statement M
 step-word-spec =
     tie.close
     (tie.spec
-    (λ c κs. search needs)
-    (λ c κs. search needs)
-    pack-requires
-    (λ c. search needs)
-    returns
-    mul-perform
-    shared-slice-read-perform
-    mul-perform-2
-    shared-slice-read-perform-2
-    mul-perform-3
-    shared-slice-read-perform-3
-    mul-perform-4
-    shared-slice-read-perform-4
-    perform-requires
-    (λ c. search needs)
-    (λ c. search needs)
+    (λ c κs. search needs) (λ c κs. search needs) pack-requires (λ c. search needs) returns mul-perform
+    shared-slice-read-perform mul-perform-2 shared-slice-read-perform-2 mul-perform-3 shared-slice-read-perform-3
+    mul-perform-4 shared-slice-read-perform-4 perform-requires (λ c. search needs) (λ c. search needs)
     (λ c. search needs))

@@ -28,8 +28,7 @@ below-limit-requires c κs = rw (ap (λ (s : Step). s .variable) (c .before .bef
 
 returns-3 : tie.Need-returns-3
 returns-3 c =
-    let c8 = c .before .before .before .before .before .before .before .before in
-    let start = c8 .before .before in
+    let c8 = c .before .before .before .before .before .before .before .before in let start = c8 .before .before in
     c .at3 .ensures ∙ gate-4 (start .args .word) (length (start .args .known .now)) (start .args .known .now) refl
     (c8 .is-formed .ensures) (not-false _ (c .before .before .before .before .before .before .before .if1 .left))
     (c .before .before .before .before .before .before .step-of .ensures)
@@ -44,11 +43,8 @@ stored-of-requires c κs =
 
 returns-4 : tie.Need-returns-4
 returns-4 c =
-    let c8 = c .before .before .before .before .before .before .before .before in
-    let c9 = c8 .before in
-    let c10 = c9 .before in
-    let c11 = c10 .before in
-    let start = c11 .before .before in
+    let c8 = c .before .before .before .before .before .before .before .before in let c9 = c8 .before in
+    let c10 = c9 .before in let c11 = c10 .before in let start = c11 .before .before in
     c .at4 .ensures ∙ gate-5 (start .args .word) (length (start .args .known .now)) (start .args .known .now) refl
     (c11 .is-formed .ensures) (not-false _ (c10 .if1 .left)) (c9 .step-of .ensures) (c8 .head-at .ensures)
     (c .before .before .before .before .before .before .before .has-variable .ensures)
@@ -59,11 +55,8 @@ returns-4 c =
 
 returns-5 : tie.Need-returns-5
 returns-5 c =
-    let c8 = c .before .before .before .before .before .before .before .before in
-    let c9 = c8 .before in
-    let c10 = c9 .before in
-    let c11 = c10 .before in
-    let start = c11 .before .before in
+    let c8 = c .before .before .before .before .before .before .before .before in let c9 = c8 .before in
+    let c10 = c9 .before in let c11 = c10 .before in let start = c11 .before .before in
     c .none .ensures ∙ gate-none (start .args .word) (length (start .args .known .now)) (start .args .known .now) refl
     (c11 .is-formed .ensures) (not-false _ (c10 .if1 .left)) (c9 .step-of .ensures) (c8 .head-at .ensures)
     (c .before .before .before .before .before .before .before .has-variable .ensures)
@@ -76,21 +69,7 @@ pub gate-spec : {M : Type 1} → statement M
 gate-spec =
     tie.close
     (tie.spec
-    (λ c. search needs)
-    (λ c κs. search needs)
-    (λ c κs. search needs)
-    returns
-    (λ c κs. search needs)
-    (λ c κs. search needs)
-    (λ c κs. search needs)
-    (λ c κs. search needs)
-    returns-2
-    below-limit-requires
-    (λ c κs. search needs)
-    returns-3
-    (λ c κs. search needs)
-    stored-of-requires
-    (λ c κs. search needs)
-    returns-4
-    (λ c κs. search needs)
-    returns-5)
+    (λ c. search needs) (λ c κs. search needs) (λ c κs. search needs) returns (λ c κs. search needs)
+    (λ c κs. search needs) (λ c κs. search needs) (λ c κs. search needs) returns-2 below-limit-requires
+    (λ c κs. search needs) returns-3 (λ c κs. search needs) stored-of-requires (λ c κs. search needs) returns-4
+    (λ c κs. search needs) returns-5)

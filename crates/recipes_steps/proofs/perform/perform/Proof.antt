@@ -67,8 +67,7 @@ stored-of-requires c κs =
 
 value-to-requires : tie.Need-value-to-requires
 value-to-requires c κs =
-    let c5 = c .before .before .before .before .before in
-    let c6 = c5 .before in
+    let c5 = c .before .before .before .before .before in let c6 = c5 .before in
     let start = c6 .before .before .before .before in (
       rw (c6 .header-of .ensures, c5 .header-of2 .ensures)
           (making (start .pre .0) (start .pre .1 .1) (is-announced (c .before .before .before))
@@ -99,8 +98,7 @@ pad-requires c κs =
 pack-requires : tie.Need-pack-requires
 pack-requires c κs =
     let c8 = c .before .before .before .before .before .before .before .before in
-    let c11 = c8 .before .before .before in
-    let c12 = c11 .before in
+    let c11 = c8 .before .before .before in let c12 = c11 .before in
     let start = c12 .before .before .before .before .before .before .before in
     rw (head-is c8)
     (value-ruled (making (start .pre .0) (start .pre .1 .1) (is-announced c12) (c11 .stored-of .ensures))
@@ -112,9 +110,7 @@ pack-requires c κs =
 returns : tie.Need-returns
 returns c =
     let c9 = c .before .before .before .before .before .before .before .before .before in
-    let c12 = c9 .before .before .before in
-    let c13 = c12 .before in
-    let c15 = c13 .before .before in
+    let c12 = c9 .before .before .before in let c13 = c12 .before in let c15 = c13 .before .before in
     let c16 = c15 .before in
     let start = c16 .before .before .before .before in (
       c .pack .ensures ∙ ap wordOf (head-is c9),
@@ -131,16 +127,5 @@ pub perform-spec : {M : Type 1} → statement M
 perform-spec =
     tie.close
     (tie.spec
-    (λ c κs. search needs)
-    (λ c κs. search needs)
-    (λ c κs. search needs)
-    announced-of-requires
-    stored-of-requires
-    value-to-requires
-    add-pad
-    add-pad-2
-    pad-requires
-    pack-requires
-    (λ c. search needs)
-    (λ c. search needs)
-    returns)
+    (λ c κs. search needs) (λ c κs. search needs) (λ c κs. search needs) announced-of-requires stored-of-requires
+    value-to-requires add-pad add-pad-2 pad-requires pack-requires (λ c. search needs) (λ c. search needs) returns)

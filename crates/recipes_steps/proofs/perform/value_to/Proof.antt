@@ -16,8 +16,7 @@ power-to-requires c κs =
 
 returns : tie.Need-returns
 returns c =
-    let c4 = c .before .before .before .before in
-    let c7 = c4 .before .before .before in
+    let c4 = c .before .before .before .before in let c7 = c4 .before .before .before in
     let start = c7 .before .before .before .before in (
       c4 .power-to .ensures .0 ∙ ap (λ (p : Poly). p .head)
           (power-value (start .pre .0) (c7 .if1 .taken)
@@ -39,8 +38,7 @@ pair-to-requires c κs =
 
 returns-2 : tie.Need-returns-2
 returns-2 c =
-    let c4 = c .before .before .before .before in
-    let c7 = c4 .before .before .before in
+    let c4 = c .before .before .before .before in let c7 = c4 .before .before .before in
     let start = c7 .before .before .before .before .before in (
       c4 .pair-to .ensures .0 ∙ ap (λ (p : Poly). p .head)
           (pair-value (start .pre .0) (c7 .if2 .taken)
@@ -62,8 +60,7 @@ substitute-to-requires c κs =
 
 returns-3 : tie.Need-returns-3
 returns-3 c =
-    let c4 = c .before .before .before .before in
-    let c7 = c4 .before .before .before in
+    let c4 = c .before .before .before .before in let c7 = c4 .before .before .before in
     let start = c7 .before .before .before .before .before .before in (
       c4 .substitute-to .ensures .0 ∙ ap (λ (p : Poly). p .head)
           (substitute-value (start .pre .0) (c7 .if3 .taken)
@@ -88,9 +85,7 @@ change-to-requires c κs =
 
 returns-4 : tie.Need-returns-4
 returns-4 c =
-    let c4 = c .before .before .before .before in
-    let c8 = c4 .before .before .before .before in
-    let c9 = c8 .before in
+    let c4 = c .before .before .before .before in let c8 = c4 .before .before .before .before in let c9 = c8 .before in
     let c10 = c9 .before in
     let start = c10 .before .before .before .before in (
       c4 .change-to .ensures .0 ∙ ap (λ (p : Poly). p .head)
@@ -110,20 +105,6 @@ pub value-to-spec : {M : Type 1} → statement M
 value-to-spec =
     tie.close
     (tie.spec
-    power-to-requires
-    (λ c. search needs)
-    (λ c. search needs)
-    returns
-    pair-to-requires
-    (λ c. search needs)
-    (λ c. search needs)
-    returns-2
-    substitute-to-requires
-    (λ c. search needs)
-    (λ c. search needs)
-    returns-3
-    (λ c. search needs)
-    change-to-requires
-    (λ c. search needs)
-    (λ c. search needs)
-    returns-4)
+    power-to-requires (λ c. search needs) (λ c. search needs) returns pair-to-requires (λ c. search needs)
+    (λ c. search needs) returns-2 substitute-to-requires (λ c. search needs) (λ c. search needs) returns-3
+    (λ c. search needs) change-to-requires (λ c. search needs) (λ c. search needs) returns-4)

@@ -76,10 +76,8 @@ plain-from-requires c κs =
 
 returns-2 : tie.Need-returns-2
 returns-2 c =
-    let c7 = c .before .before .before .before .before .before .before in
-    let c10 = c7 .before .before .before in
-    let c12 = c10 .before .before in
-    let start = c12 .before .before .before .before .before .before in
+    let c7 = c .before .before .before .before .before .before .before in let c10 = c7 .before .before .before in
+    let c12 = c10 .before .before in let start = c12 .before .before .before .before .before .before in
     wrote-of (front-kept (c7 .plain-from .last .1 .1 .1 .1 .1 .1 .1 .1 .0)
     (drop (start .args .n) (start .args .work .now)) (c .before .before .keep .ensures)
     (c7 .plain-from .kept .1 .1 .1 .1 .1 .1 .1 .1 .0
@@ -95,19 +93,7 @@ pub front-to-spec : {M : Type 1} → statement M
 front-to-spec =
     tie.close
     (tie.spec
-    (λ c. search needs)
-    slice-aggregate-way-from
-    way-from-requires
-    horner-to-requires
-    (λ c. search needs)
-    (λ c. search needs)
-    returns
-    (λ c. search needs)
-    slice-aggregate-plain-from
-    (λ c. search needs)
-    slice-aggregate-plain-from-2
-    plain-from-requires
-    (λ c κs. search needs)
-    (λ c. search needs)
-    (λ c. search needs)
+    (λ c. search needs) slice-aggregate-way-from way-from-requires horner-to-requires (λ c. search needs)
+    (λ c. search needs) returns (λ c. search needs) slice-aggregate-plain-from (λ c. search needs)
+    slice-aggregate-plain-from-2 plain-from-requires (λ c κs. search needs) (λ c. search needs) (λ c. search needs)
     returns-2)

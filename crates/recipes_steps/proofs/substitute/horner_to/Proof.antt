@@ -35,8 +35,7 @@ wrote c =
     (start .pre .1 .1 .1 .1))) (omega arith) (start .pre .1 .1 .1 .1)
 
 loaded : (c : tie.After-put-from) →
-    let c3 = c .before .before .before in
-    let c10 = c3 .before .before .before .before .before .before .before in
+    let c3 = c .before .before .before in let c10 = c3 .before .before .before .before .before .before .before in
     let c22 = c10 .before .before .before .before .before .before .before .before .before .before .before .before in
     let start = c22 .before .before in
     Kept 0 (count (c3 .cut-to .result)) (cutPlaces (start .args .y .lengths) (c3 .cut-to .result)
@@ -88,10 +87,8 @@ first-turn-requires c κs =
 
 returns : tie.Need-returns
 returns c =
-    let c5 = c .before .before .before .before .before in
-    let c10 = c5 .before .before .before .before .before in
-    let c13 = c10 .before .before .before in
-    let c14 = c13 .before in
+    let c5 = c .before .before .before .before .before in let c10 = c5 .before .before .before .before .before in
+    let c13 = c10 .before .before .before in let c14 = c13 .before in
     let start = c14 .before .before .before .before .before in
     wrote-of (wrote c5) (start-one (start .pre .0)
     (lying (start .args .xi) (start .args .coefficients .now) (take (start .args .at) (start .args .pool .now))
@@ -116,8 +113,7 @@ slice-aggregate-put-from c =
 put-from-requires : tie.Need-put-from-requires
 put-from-requires c κs =
     let c9 = c .before .before .before .before .before .before .before .before .before in
-    let c14 = c9 .before .before .before .before .before in
-    let c17 = c14 .before .before .before in
+    let c14 = c9 .before .before .before .before .before in let c17 = c14 .before .before .before in
     let start = c17 .before .before .before .before .before .before in (
       put-loads (start .pre .0) (c .before .before .cut-to .ensures) refl,
       (
@@ -140,13 +136,9 @@ put-from-requires c κs =
 
 rows-to-requires : tie.Need-rows-to-requires
 rows-to-requires c κs =
-    let c4 = c .before .before .before .before in
-    let c7 = c4 .before .before .before in
-    let c9 = c7 .before .before in
-    let c14 = c9 .before .before .before .before .before in
-    let c19 = c14 .before .before .before .before .before in
-    let c22 = c19 .before .before .before in
-    let c23 = c22 .before in
+    let c4 = c .before .before .before .before in let c7 = c4 .before .before .before in let c9 = c7 .before .before in
+    let c14 = c9 .before .before .before .before .before in let c19 = c14 .before .before .before .before .before in
+    let c22 = c19 .before .before .before in let c23 = c22 .before in
     let start = c23 .before .before .before .before .before in (
       start-room (start .pre .0) (lying (start .args .xi) (start .args .coefficients .now)
           (take (start .args .at) (start .args .pool .now)) (start .args .xf) (start .args .x) .coeffs)
@@ -170,12 +162,9 @@ rows-to-requires c κs =
 returns-2 : tie.Need-returns-2
 returns-2 c =
     let c9 = c .before .before .before .before .before .before .before .before .before in
-    let c12 = c9 .before .before .before in
-    let c14 = c12 .before .before in
-    let c19 = c14 .before .before .before .before .before in
-    let c24 = c19 .before .before .before .before .before in
-    let c27 = c24 .before .before .before in
-    let c28 = c27 .before in
+    let c12 = c9 .before .before .before in let c14 = c12 .before .before in
+    let c19 = c14 .before .before .before .before .before in let c24 = c19 .before .before .before .before .before in
+    let c27 = c24 .before .before .before in let c28 = c27 .before in
     let start = c28 .before .before .before .before .before in
     turns-wrote (ap (λ (z : List Float). turns (start .args .limits) (start .args .v)
     (block (start .args .x .lengths) z) (c27 .highest .result)
@@ -194,26 +183,8 @@ pub horner-to-spec : {M : Type 1} → statement M
 horner-to-spec =
     tie.close
     (tie.spec
-    (λ c κs. search needs)
-    highest-requires
-    (λ c. search needs)
-    (λ c. search needs)
-    (λ c. search needs)
-    slice-aggregate-row-from
-    row-from-requires
-    mul-first-turn
-    (λ c. search needs)
-    (λ c. search needs)
-    (λ c. search needs)
-    first-turn-requires
-    (λ c. search needs)
-    (λ c. search needs)
-    returns
-    (λ c κs. search needs)
-    slice-reshare-prefix-put-from
-    slice-aggregate-put-from
-    put-from-requires
-    rows-to-requires
-    (λ c. search needs)
-    (λ c. search needs)
-    returns-2)
+    (λ c κs. search needs) highest-requires (λ c. search needs) (λ c. search needs) (λ c. search needs)
+    slice-aggregate-row-from row-from-requires mul-first-turn (λ c. search needs) (λ c. search needs)
+    (λ c. search needs) first-turn-requires (λ c. search needs) (λ c. search needs) returns (λ c κs. search needs)
+    slice-reshare-prefix-put-from slice-aggregate-put-from put-from-requires rows-to-requires (λ c. search needs)
+    (λ c. search needs) returns-2)

@@ -42,8 +42,7 @@ copy-requires c κs =
 
 returns : tie.Need-returns
 returns c =
-    let c4 = c .before .before .before .before in
-    let c6 = c4 .before .before in
+    let c4 = c .before .before .before .before in let c6 = c4 .before .before in
     let start = c6 .before .before .before .before .before in
     stands-same (plain-0 (start .args .w) (start .args .limits) (start .args .v)
     (block (start .args .x .lengths) (take (stored (start .args .x))
@@ -89,14 +88,5 @@ pub plain-from-spec : {M : Type 1} → statement M
 plain-from-spec =
     tie.close
     (tie.spec
-    (λ c κs. search needs)
-    (λ c κs. search needs)
-    copy-requires
-    (λ c. search needs)
-    returns
-    zero-put-requires
-    (λ c. search needs)
-    returns-2
-    line-put-requires
-    (λ c. search needs)
-    returns-3)
+    (λ c κs. search needs) (λ c κs. search needs) copy-requires (λ c. search needs) returns zero-put-requires
+    (λ c. search needs) returns-2 line-put-requires (λ c. search needs) returns-3)

@@ -2,11 +2,10 @@ use native.Mathlib.Omega.{arith}
 use mathlib.Core.Path.{_≡_, sym, ap, _∙_}
 use Prim.Native.Nat.{ℕ, _≤_}
 use lib.ListN.{length, take, drop}
-use Rattle.model.specs.Header.{stored}
+use Rattle.model.specs.Header.{stored, count}
 use Rattle.recipes_operands.specs.Lent.{source, length-operand}
 use lib.Seq.{length-take-le}
 use Rattle.lists.specs.Table.{length-table}
-use Rattle.model.specs.Header.{count}
 use Rattle.substitution_turn.specs.Turn.{front-kept}
 use borrow.Author.Needs.{needs}
 use Rattle.recipes_steps.proofs.substitute.put_from.Statement.{statement}
@@ -57,11 +56,5 @@ pub put-from-spec : {M : Type 1} → statement M
 put-from-spec =
     tie.close
     (tie.spec
-    (λ c κs. search needs)
-    (λ c κs. search needs)
-    (λ c κs. search needs)
-    (λ c. search needs)
-    slice-aggregate-load
-    load-requires
-    (λ c. search needs)
-    returns)
+    (λ c κs. search needs) (λ c κs. search needs) (λ c κs. search needs) (λ c. search needs) slice-aggregate-load
+    load-requires (λ c. search needs) returns)

@@ -49,8 +49,7 @@ slice-aggregate-row-from c =
 
 row-from-requires : tie.Need-row-from-requires Inv-loop μ-loop
 row-from-requires c κs =
-    let c3 = c .before .before .before in
-    let start = c3 .before .before .before .before in
+    let c3 = c .before .before .before in let start = c3 .before .before .before .before in
     let s = to-less (c3 .loop .inv) (c3 .loop .left - 1) (omega (arith, c .before .before .loop-test .taken)) in (
       next-picks (s .runs .room) refl,
       (
@@ -84,11 +83,8 @@ turn-requires c κs =
 
 loop-again : tie.Need-loop-again Inv-loop μ-loop
 loop-again c =
-    let c4 = c .before .before .before .before in
-    let c9 = c4 .before .before .before .before .before in
-    let c12 = c9 .before .before .before in
-    let c13 = c12 .before in
-    let start = c13 .before .before .before .before in
+    let c4 = c .before .before .before .before in let c9 = c4 .before .before .before .before .before in
+    let c12 = c9 .before .before .before in let c13 = c12 .before in let start = c13 .before .before .before .before in
     let s = to-less (c13 .loop .inv) (c13 .loop .left - 1) (omega (arith, c12 .loop-test .taken)) in
     to-next s (same-operand (start .args .xi) (start .args .coefficients .now) (start .args .xf) (start .args .x)
     (c13 .loop .inv .stays .below .head)) (c9 .row-from .ensures) (c4 .turn .ensures)
@@ -113,20 +109,6 @@ rows-to-spec =
     (tie.spec
     Inv-loop
     μ-loop
-    mul-row
-    add-end
-    loop-holds
-    (λ c. omega arith)
-    slice-reshare-prefix-row-from
-    slice-aggregate-row-from
-    row-from-requires
-    mul-turn
-    (λ c. omega arith)
-    (λ c. omega arith)
-    part-turn-end
-    turn-requires
-    (λ c. omega arith)
-    loop-again
-    same-length
-    same-length-2
-    returns)
+    mul-row add-end loop-holds (λ c. omega arith) slice-reshare-prefix-row-from slice-aggregate-row-from
+    row-from-requires mul-turn (λ c. omega arith) (λ c. omega arith) part-turn-end turn-requires (λ c. omega arith)
+    loop-again same-length same-length-2 returns)

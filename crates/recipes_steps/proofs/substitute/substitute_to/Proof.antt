@@ -89,14 +89,5 @@ pub substitute-to-spec : {M : Type 1} → statement M
 substitute-to-spec =
     tie.close
     (tie.spec
-    (λ c. search needs)
-    (λ c. search needs)
-    slice-aggregate-front-to
-    front-to-requires
-    count-of-requires
-    add-pad
-    add-pad-2
-    pad-requires
-    (λ c. search needs)
-    (λ c. search needs)
-    returns)
+    (λ c. search needs) (λ c. search needs) slice-aggregate-front-to front-to-requires count-of-requires add-pad
+    add-pad-2 pad-requires (λ c. search needs) (λ c. search needs) returns)

@@ -82,22 +82,7 @@ pub paired-header-spec : {M : Type 1} → statement M
 paired-header-spec =
     tie.close
     (tie.spec
-    (λ c κs. search needs)
-    (λ c κs. search needs)
-    (λ c. search needs)
-    (λ c. search needs)
-    (λ c. search needs)
-    paired-length-requires
-    (λ c. search needs)
-    (λ c. search needs)
-    (λ c. search needs)
-    paired-length-requires-2
-    (λ c. search needs)
-    (λ c. search needs)
-    (λ c. search needs)
-    paired-length-requires-3
-    (λ c. search needs)
-    (λ c. search needs)
-    (λ c. search needs)
-    paired-length-requires-4
-    returns)
+    (λ c κs. search needs) (λ c κs. search needs) (λ c. search needs) (λ c. search needs) (λ c. search needs)
+    paired-length-requires (λ c. search needs) (λ c. search needs) (λ c. search needs) paired-length-requires-2
+    (λ c. search needs) (λ c. search needs) (λ c. search needs) paired-length-requires-3 (λ c. search needs)
+    (λ c. search needs) (λ c. search needs) paired-length-requires-4 returns)

@@ -30,9 +30,5 @@ pub product-header-spec : {M : Type 1} → statement M
 product-header-spec =
     tie.close
     (tie.spec
-    (λ c κs. search needs)
-    (λ c κs. search needs)
-    (λ c κs. search needs)
-    (λ c κs. search needs)
-    sum-shape-requires
+    (λ c κs. search needs) (λ c κs. search needs) (λ c κs. search needs) (λ c κs. search needs) sum-shape-requires
     returns)

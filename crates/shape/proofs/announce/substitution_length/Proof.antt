@@ -25,12 +25,5 @@ pub substitution-length-spec : {M : Type 1} → statement M
 substitution-length-spec =
     tie.close
     (tie.spec
-    (λ c. search needs)
-    (λ c. search needs)
-    mul-more
-    add-least
-    (λ c κs. search needs)
-    add-least-2
-    (λ c κs. search needs)
-    returns
-    returns-2)
+    (λ c. search needs) (λ c. search needs) mul-more add-least (λ c κs. search needs) add-least-2 (λ c κs. search needs)
+    returns returns-2)

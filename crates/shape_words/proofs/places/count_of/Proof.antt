@@ -21,11 +21,5 @@ pub count-of-spec : {M : Type 1} → statement M
 count-of-spec =
     tie.close
     (tie.spec
-    (λ c. search needs)
-    (λ c. search needs)
-    (λ c. search needs)
-    (λ c. search needs)
-    mul-result
-    mul-result-2
-    mul-result-3
+    (λ c. search needs) (λ c. search needs) (λ c. search needs) (λ c. search needs) mul-result mul-result-2 mul-result-3
     returns)

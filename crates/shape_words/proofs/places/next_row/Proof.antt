@@ -42,21 +42,6 @@ pub next-row-spec : {M : Type 1} → statement M
 next-row-spec =
     tie.close
     (tie.spec
-    (λ c. search needs)
-    add-if1
-    (λ c. search needs)
-    (λ c. search needs)
-    (λ c. search needs)
-    (λ c. search needs)
-    add-t22
-    returns
-    (λ c. search needs)
-    add-if2
-    (λ c. search needs)
-    (λ c. search needs)
-    (λ c. search needs)
-    add-t33
-    returns-2
-    (λ c. search needs)
-    add-t8
-    returns-3)
+    (λ c. search needs) add-if1 (λ c. search needs) (λ c. search needs) (λ c. search needs) (λ c. search needs) add-t22
+    returns (λ c. search needs) add-if2 (λ c. search needs) (λ c. search needs) (λ c. search needs) add-t33 returns-2
+    (λ c. search needs) add-t8 returns-3)

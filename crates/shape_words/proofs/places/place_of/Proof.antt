@@ -30,17 +30,5 @@ pub place-of-spec : {M : Type 1} → statement M
 place-of-spec =
     tie.close
     (tie.spec
-    (λ c. search needs)
-    (λ c. search needs)
-    mul-result
-    (λ c. search needs)
-    add-result
-    (λ c. search needs)
-    mul-result-2
-    (λ c. search needs)
-    add-result-2
-    (λ c. search needs)
-    mul-result-3
-    (λ c. search needs)
-    add-result-3
-    returns)
+    (λ c. search needs) (λ c. search needs) mul-result (λ c. search needs) add-result (λ c. search needs) mul-result-2
+    (λ c. search needs) add-result-2 (λ c. search needs) mul-result-3 (λ c. search needs) add-result-3 returns)

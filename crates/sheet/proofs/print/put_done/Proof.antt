@@ -30,8 +30,7 @@ fourth c = put-then (third (c .before .before .before .before)) (c .put-line .en
 
 put-decimal-requires : tie.Need-put-decimal-requires
 put-decimal-requires c κs =
-    let c3 = c .before .before .before in
-    let start = c3 .before .before .before .before .before in
+    let c3 = c .before .before .before in let start = c3 .before .before .before .before .before in
     omega (
       arith,
       put-len (c3 .put-bytes .ensures),
@@ -69,8 +68,7 @@ put-floats-requires : tie.Need-put-floats-requires
 put-floats-requires c κs =
     let c3 = c .before .before .before in
     let c11 = c3 .before .before .before .before .before .before .before .before in
-    let c15 = c11 .before .before .before .before in
-    let start = c15 .before .before .before .before .before in
+    let c15 = c11 .before .before .before .before in let start = c15 .before .before .before .before .before in
     omega (
       arith,
       put-len (fourth c3),
@@ -90,11 +88,5 @@ pub put-done-spec : {M : Type 1} → statement M
 put-done-spec =
     tie.close
     (tie.spec
-    (λ c. search needs)
-    (λ c κs. search needs)
-    put-decimal-requires
-    put-byte-requires
-    put-line-requires
-    put-floats-requires
-    (λ c. search needs)
-    returns)
+    (λ c. search needs) (λ c κs. search needs) put-decimal-requires put-byte-requires put-line-requires
+    put-floats-requires (λ c. search needs) returns)

@@ -36,8 +36,7 @@ put-byte-requires c κs =
 put-decimal-requires-2 : tie.Need-put-decimal-requires-2
 put-decimal-requires-2 c κs =
     let c8 = c .before .before .before .before .before .before .before .before in
-    let c13 = c8 .before .before .before .before .before in
-    let start = c13 .before .before .before .before in
+    let c13 = c8 .before .before .before .before .before in let start = c13 .before .before .before .before in
     let a = c13 .put-bytes .ensures in
     let b = c8 .put-decimal .ensures in
     let d = c .before .before .before .before .put-byte .ensures in
@@ -56,8 +55,7 @@ put-decimal-requires-2 c κs =
 put-byte-requires-2 : tie.Need-put-byte-requires-2
 put-byte-requires-2 c κs =
     let c8 = c .before .before .before .before .before .before .before .before in
-    let c12 = c8 .before .before .before .before in
-    let c17 = c12 .before .before .before .before .before in
+    let c12 = c8 .before .before .before .before in let c17 = c12 .before .before .before .before .before in
     let start = c17 .before .before .before .before in
     let a = c17 .put-bytes .ensures in
     let b = c12 .put-decimal .ensures in
@@ -81,8 +79,7 @@ returns : tie.Need-returns
 unfolding refusedText
 returns c =
     let c11 = c .before .before .before .before .before .before .before .before .before .before .before in
-    let c15 = c11 .before .before .before .before in
-    let c20 = c15 .before .before .before .before .before in
+    let c15 = c11 .before .before .before .before in let c20 = c15 .before .before .before .before .before in
     let a = c20 .put-bytes .ensures in
     let b = c15 .put-decimal .ensures in
     let d = c11 .put-byte .ensures in
@@ -93,13 +90,5 @@ pub put-refusal-spec : {M : Type 1} → statement M
 put-refusal-spec =
     tie.close
     (tie.spec
-    (λ c. search needs)
-    (λ c κs. search needs)
-    (λ c. search needs)
-    put-decimal-requires
-    put-byte-requires
-    (λ c. search needs)
-    put-decimal-requires-2
-    put-byte-requires-2
-    (λ c. search needs)
-    returns)
+    (λ c. search needs) (λ c κs. search needs) (λ c. search needs) put-decimal-requires put-byte-requires
+    (λ c. search needs) put-decimal-requires-2 put-byte-requires-2 (λ c. search needs) returns)

@@ -49,16 +49,6 @@ pub room-of-spec : {M : Type 1} → statement M
 room-of-spec =
     tie.close
     (tie.spec
-    (λ c. search needs)
-    (λ c. search needs)
-    (λ c. search needs)
-    (λ c. search needs)
-    slice-aggregate-total-of
-    total-of-requires
-    (λ c. search needs)
-    slice-aggregate-total-of-2
-    total-of-requires-2
-    total-of-requires-3
-    largest-of-requires
-    mul-t16
-    returns)
+    (λ c. search needs) (λ c. search needs) (λ c. search needs) (λ c. search needs) slice-aggregate-total-of
+    total-of-requires (λ c. search needs) slice-aggregate-total-of-2 total-of-requires-2 total-of-requires-3
+    largest-of-requires mul-t16 returns)

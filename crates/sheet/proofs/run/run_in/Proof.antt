@@ -70,23 +70,7 @@ pub run-in-spec : {M : Type 1} → statement M
 run-in-spec =
     tie.close
     (tie.spec
-    (λ c. search needs)
-    fill-floats-requires
-    (λ c κs. search needs)
-    (λ c. search needs)
-    sub-done
-    (λ c. search needs)
-    slice-read-done
-    done-requires
-    (λ c. search needs)
-    (λ c κs. search needs)
-    (λ c. search needs)
-    (λ c. search needs)
-    (λ c. search needs)
-    (λ c. search needs)
-    returns
-    (λ c. search needs)
-    (λ c. search needs)
-    (λ c. search needs)
-    (λ c. search needs)
-    returns-2)
+    (λ c. search needs) fill-floats-requires (λ c κs. search needs) (λ c. search needs) sub-done (λ c. search needs)
+    slice-read-done done-requires (λ c. search needs) (λ c κs. search needs) (λ c. search needs) (λ c. search needs)
+    (λ c. search needs) (λ c. search needs) returns (λ c. search needs) (λ c. search needs) (λ c. search needs)
+    (λ c. search needs) returns-2)

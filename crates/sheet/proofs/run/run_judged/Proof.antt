@@ -64,18 +64,7 @@ pub run-judged-spec : {M : Type 1} → statement M
 run-judged-spec =
     tie.close
     (tie.spec
-    (λ c κs. search needs)
-    (λ c κs. search needs)
-    (λ c κs. search needs)
-    room-of-requires
-    array-borrow-prefix-coefficients
-    slice-aggregate-run-in
-    slice-relend-prefix-run-in
-    slice-aggregate-run-in-2
-    array-borrow-prefix-words
-    slice-aggregate-run-in-3
-    array-borrow-prefix-scratch
-    slice-aggregate-run-in-4
-    run-in-requires
-    (λ c. search needs)
-    returns)
+    (λ c κs. search needs) (λ c κs. search needs) (λ c κs. search needs) room-of-requires
+    array-borrow-prefix-coefficients slice-aggregate-run-in slice-relend-prefix-run-in slice-aggregate-run-in-2
+    array-borrow-prefix-words slice-aggregate-run-in-3 array-borrow-prefix-scratch slice-aggregate-run-in-4
+    run-in-requires (λ c. search needs) returns)

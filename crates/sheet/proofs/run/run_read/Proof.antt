@@ -63,8 +63,7 @@ slice-aggregate-judge-own c = sym (length-take-le _ _ (slice-reshare-prefix-judg
 returns : tie.Need-returns
 returns c =
     let c10 = c .before .before .before .before .before .before .before .before .before .before in
-    let c12 = c10 .before .before in
-    let c13 = c12 .before in
+    let c12 = c10 .before .before in let c13 = c12 .before in
     let start = c13 .before .before .before .before .before .before in
     record {
       refusal =
@@ -78,8 +77,7 @@ returns c =
 slice-reshare-prefix-run-judged : tie.Need-slice-reshare-prefix-run-judged
 slice-reshare-prefix-run-judged c =
     let c9 = c .before .before .before .before .before .before .before .before .before in
-    let c11 = c9 .before .before in
-    let c12 = c11 .before in
+    let c11 = c9 .before .before in let c12 = c11 .before in
     let start = c12 .before .before .before .before .before .before in
     omega (
       arith,
@@ -95,8 +93,7 @@ slice-aggregate-run-judged c = sym (length-take-le _ _ (slice-reshare-prefix-run
 slice-reshare-prefix-run-judged-2 : tie.Need-slice-reshare-prefix-run-judged-2
 slice-reshare-prefix-run-judged-2 c =
     let c12 = c .before .before .before .before .before .before .before .before .before .before .before .before in
-    let c13 = c12 .before in
-    let start = c13 .before .before .before .before .before .before in
+    let c13 = c12 .before in let start = c13 .before .before .before .before .before .before in
     omega (
       arith,
       c .before .before .before .before .before .judge-own .ensures .len,
@@ -111,8 +108,7 @@ slice-aggregate-run-judged-2 c = sym (length-take-le _ _ (slice-reshare-prefix-r
 run-judged-requires : tie.Need-run-judged-requires
 run-judged-requires c κs =
     let c12 = c .before .before .before .before .before .before .before .before .before .before .before .before in
-    let c14 = c12 .before .before in
-    let c15 = c14 .before in
+    let c14 = c12 .before .before in let c15 = c14 .before in
     let start = c15 .before .before .before .before .before .before in (
       running (start .pre .0) (steps-read (start .pre .0) (start .args .steps .now) (c15 .step-count .ensures)
           (c14 .total-of .ensures) (start .pre .1 .steps) (c12 .fill-words .ensures))
@@ -125,9 +121,7 @@ run-judged-requires c κs =
 returns-2 : tie.Need-returns-2
 returns-2 c =
     let c10 = c .before .before .before .before .before .before .before .before .before .before in
-    let c15 = c10 .before .before .before .before .before in
-    let c17 = c15 .before .before in
-    let c18 = c17 .before in
+    let c15 = c10 .before .before .before .before .before in let c17 = c15 .before .before in let c18 = c17 .before in
     let start = c18 .before .before .before .before .before .before in
     ended-done _ _
     (running (start .pre .0) (steps-read (start .pre .0) (start .args .steps .now) (c18 .step-count .ensures)
@@ -141,27 +135,9 @@ pub run-read-spec : {M : Type 1} → statement M
 run-read-spec =
     tie.close
     (tie.spec
-    (λ c κs. search needs)
-    add-end
-    (λ c. search needs)
-    total-of-requires
-    add-fill-words-2
-    slice-relend-prefix-fill-words
-    slice-aggregate-fill-words
-    fill-words-requires
-    slice-reshare-prefix-judge-own
-    slice-aggregate-judge-own
-    (λ c κs. search needs)
-    (λ c κs. search needs)
-    (λ c. search needs)
-    (λ c. search needs)
-    returns
-    slice-reshare-prefix-run-judged
-    slice-aggregate-run-judged
-    slice-reshare-prefix-run-judged-2
-    slice-aggregate-run-judged-2
-    run-judged-requires
-    (λ c. search needs)
-    (λ c. search needs)
-    (λ c. search needs)
+    (λ c κs. search needs) add-end (λ c. search needs) total-of-requires add-fill-words-2 slice-relend-prefix-fill-words
+    slice-aggregate-fill-words fill-words-requires slice-reshare-prefix-judge-own slice-aggregate-judge-own
+    (λ c κs. search needs) (λ c κs. search needs) (λ c. search needs) (λ c. search needs) returns
+    slice-reshare-prefix-run-judged slice-aggregate-run-judged slice-reshare-prefix-run-judged-2
+    slice-aggregate-run-judged-2 run-judged-requires (λ c. search needs) (λ c. search needs) (λ c. search needs)
     returns-2)

@@ -38,13 +38,5 @@ word-at-spec =
     (tie.spec
     Inv-loop
     μ-loop
-    loop-holds
-    (λ c. search needs)
-    mul-word
-    (λ c κs. search needs)
-    (λ c κs. search needs)
-    add-word
-    (λ c. search needs)
-    (λ c. search needs)
-    loop-again
-    returns)
+    loop-holds (λ c. search needs) mul-word (λ c κs. search needs) (λ c κs. search needs) add-word (λ c. search needs)
+    (λ c. search needs) loop-again returns)

@@ -104,8 +104,7 @@ put-decimal-put-byte-requires-2 : (t : ℕ) → put-decimal-lts.Need-put-byte-re
   put-decimal.Post,
 ) (put-decimal-at t) put-decimal.Post
 put-decimal-put-byte-requires-2 t c κs =
-    let c4 = c .before .before .before .before in
-    let start = c4 .before .before .before .before in
+    let c4 = c .before .before .before .before in let start = c4 .before .before .before .before in
     omega (
       arith,
       length-decimal-more (start .args .n) (c .before .before .before .before .before .before .if1 .left) (omega arith),
@@ -150,12 +149,6 @@ pub +put-decimal-spec : {M : Type 1} → statement M
       put-decimal-below t,
       put-decimal.Post,
     ) (put-decimal-at t) put-decimal.Post
-    (put-decimal-last-digit-requires t)
-    (put-decimal-put-byte-requires t)
-    (put-decimal-same-length t)
-    (put-decimal-returns t)
-    (put-decimal-put-decimal-requires t)
-    (put-decimal-last-digit-requires-2 t)
-    (put-decimal-put-byte-requires-2 t)
-    (put-decimal-same-length-2 t)
-    (put-decimal-returns-2 t))
+    (put-decimal-last-digit-requires t) (put-decimal-put-byte-requires t) (put-decimal-same-length t)
+    (put-decimal-returns t) (put-decimal-put-decimal-requires t) (put-decimal-last-digit-requires-2 t)
+    (put-decimal-put-byte-requires-2 t) (put-decimal-same-length-2 t) (put-decimal-returns-2 t))

@@ -39,13 +39,5 @@ put-floats-spec =
     (tie.spec
     Inv-loop
     μ-loop
-    loop-holds
-    (λ c. search needs)
-    (λ c. search needs)
-    (λ c κs. search needs)
-    put-line-requires
-    (λ c. search needs)
-    (λ c. search needs)
-    loop-again
-    same-length
-    returns)
+    loop-holds (λ c. search needs) (λ c. search needs) (λ c κs. search needs) put-line-requires (λ c. search needs)
+    (λ c. search needs) loop-again same-length returns)

@@ -19,8 +19,7 @@ use Rattle.substitution.proofs.kernel.horner_put.Tie as tie
 small : (c : tie.After-count-of) → c .count-of .result ≤ length (c .before .before .before .before .before .before .before .first-turn .last .0)
 small c =
     let c12 = c .before .before .before .before .before .before .before .before .before .before .before .before in
-    let c14 = c12 .before .before in
-    let start = c14 .before .before .before .before .before .before in
+    let c14 = c12 .before .before in let start = c14 .before .before .before .before .before .before in
     omega (
       arith,
       c .count-of .ensures,
@@ -31,8 +30,7 @@ small c =
     )
 
 loaded : (c : tie.After-load) →
-    let c3 = c .before .before .before in
-    let c9 = c3 .before .before .before .before .before .before in
+    let c3 = c .before .before .before in let c9 = c3 .before .before .before .before .before .before in
     let c21 = c9 .before .before .before .before .before .before .before .before .before .before .before .before in
     let start = c21 .before in
     Kept 0 (count (c3 .cut-to .result)) (cutPlaces (start .args .lb) (c3 .cut-to .result) (start .args .b .now))
@@ -72,9 +70,7 @@ first-turn-requires c κs =
 returns : tie.Need-returns
 returns c =
     let c10 = c .before .before .before .before .before .before .before .before .before .before in
-    let c12 = c10 .before .before in
-    let c13 = c12 .before in
-    let start = c13 .before .before .before .before .before in
+    let c12 = c10 .before .before in let c13 = c12 .before in let start = c13 .before .before .before .before .before in
     start-one (start .pre .0) (start .args .a .now) (start .args .b .now) (start .pre .1) (c12 .highest .ensures)
     (c13 .row-lengths .ensures) (c10 .load-row .ensures)
     (c .before .before .before .before .before .first-turn .ensures) (c .if1 .taken)
@@ -99,13 +95,9 @@ load-requires c κs =
 
 horner-rows-requires : tie.Need-horner-rows-requires
 horner-rows-requires c κs =
-    let c4 = c .before .before .before .before in
-    let c7 = c4 .before .before .before in
-    let c8 = c7 .before in
-    let c13 = c8 .before .before .before .before .before in
-    let c18 = c13 .before .before .before .before .before in
-    let c20 = c18 .before .before in
-    let c21 = c20 .before in
+    let c4 = c .before .before .before .before in let c7 = c4 .before .before .before in let c8 = c7 .before in
+    let c13 = c8 .before .before .before .before .before in let c18 = c13 .before .before .before .before .before in
+    let c20 = c18 .before .before in let c21 = c20 .before in
     let start = c21 .before .before .before .before .before in (
       start-room (start .pre .0) (start .args .a .now) (start .args .b .now) (start .pre .1) (c20 .highest .ensures)
           (c21 .row-lengths .ensures) (c18 .load-row .ensures) (c13 .first-turn .ensures) (omega (arith, c8 .if1 .left))
@@ -119,13 +111,9 @@ horner-rows-requires c κs =
 returns-2 : tie.Need-returns-2
 returns-2 c =
     let c9 = c .before .before .before .before .before .before .before .before .before in
-    let c12 = c9 .before .before .before in
-    let c13 = c12 .before in
-    let c18 = c13 .before .before .before .before .before in
-    let c23 = c18 .before .before .before .before .before in
-    let c25 = c23 .before .before in
-    let c26 = c25 .before in
-    let start = c26 .before .before .before .before .before in
+    let c12 = c9 .before .before .before in let c13 = c12 .before in
+    let c18 = c13 .before .before .before .before .before in let c23 = c18 .before .before .before .before .before in
+    let c25 = c23 .before .before in let c26 = c25 .before in let start = c26 .before .before .before .before .before in
     start-stands (start .pre .0) (start .args .a .now) (start .args .b .now) (start .pre .1) (c25 .highest .ensures)
     (c26 .row-lengths .ensures) (c23 .load-row .ensures) (c18 .first-turn .ensures) (omega (arith, c13 .if1 .left))
     (c12 .cut-to .ensures) (loaded c9) (c .before .before .before .before .horner-rows .ensures)
@@ -134,20 +122,6 @@ pub horner-put-spec : {M : Type 1} → statement M
 horner-put-spec =
     tie.close
     (tie.spec
-    row-lengths-requires
-    highest-requires
-    mul-load-row
-    load-row-requires
-    first-turn-requires
-    (λ c. search needs)
-    (λ c. search needs)
-    returns
-    (λ c κs. search needs)
-    count-of-requires
-    slice-relend-prefix-load
-    slice-aggregate-load
-    load-requires
-    horner-rows-requires
-    (λ c. search needs)
-    (λ c. search needs)
-    returns-2)
+    row-lengths-requires highest-requires mul-load-row load-row-requires first-turn-requires (λ c. search needs)
+    (λ c. search needs) returns (λ c κs. search needs) count-of-requires slice-relend-prefix-load slice-aggregate-load
+    load-requires horner-rows-requires (λ c. search needs) (λ c. search needs) returns-2)

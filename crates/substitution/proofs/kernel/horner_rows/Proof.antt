@@ -40,10 +40,8 @@ turn-requires c κs =
 
 loop-again : tie.Need-loop-again Inv-loop μ-loop
 loop-again c =
-    let c4 = c .before .before .before .before in
-    let c9 = c4 .before .before .before .before .before in
-    let c11 = c9 .before .before in
-    let c12 = c11 .before in
+    let c4 = c .before .before .before .before in let c9 = c4 .before .before .before .before .before in
+    let c11 = c9 .before .before in let c12 = c11 .before in
     runs-next (runs-less (c12 .loop .inv) (c12 .loop .left - 1) (omega (arith, c11 .loop-test .taken)))
     (c9 .load-row .ensures) (c4 .turn .ensures) (c4 .turn .kept .1 .1 .1 .1 .1 .1 .0)
 
@@ -62,13 +60,5 @@ horner-rows-spec =
     (tie.spec
     Inv-loop
     μ-loop
-    loop-holds
-    (λ c. omega arith)
-    mul-load-row
-    load-row-requires
-    turn-requires
-    (λ c. omega arith)
-    loop-again
-    same-length
-    same-length-2
-    returns)
+    loop-holds (λ c. omega arith) mul-load-row load-row-requires turn-requires (λ c. omega arith) loop-again same-length
+    same-length-2 returns)

@@ -85,8 +85,7 @@ slice-aggregate-power-parts c = sym (length-take-le _ _ (again ((c .before .befo
 
 power-parts-requires : tie.Need-power-parts-requires
 power-parts-requires c κs =
-    let c4 = c .before .before .before .before in
-    let c6 = c4 .before .before in
+    let c4 = c .before .before .before .before in let c6 = c4 .before .before in
     let start = c6 .before .before .before .before in
     let t = cuts-own (start .pre) (c .before .before .before .before .before .before .before .cut-to .ensures) in (
       rows-whole t (c6 .count-of .ensures) (ap (λ (q : List ℕ). at q (start .args .v))
@@ -99,10 +98,8 @@ power-parts-requires c κs =
 
 returns : tie.Need-returns
 returns c =
-    let c7 = c .before .before .before .before .before .before .before in
-    let c9 = c7 .before .before in
-    let c10 = c9 .before in
-    let start = c10 .before .before .before in
+    let c7 = c .before .before .before .before .before .before .before in let c9 = c7 .before .before in
+    let c10 = c9 .before in let start = c10 .before .before .before in
     let x = front c7 in
     let l =
     length-take-le (c9 .count-of .result) (c7 .load .last .1 .1 .1 .0
@@ -121,19 +118,6 @@ pub line-put-spec : {M : Type 1} → statement M
 line-put-spec =
     tie.close
     (tie.spec
-    (λ c κs. search needs)
-    count-of-requires
-    slice-relend-prefix-load
-    slice-aggregate-load
-    load-requires
-    strides-of-requires
-    mul-s
-    array-read-s
-    mul-power-parts
-    array-read-power-parts
-    mul-power-parts-2
-    slice-relend-prefix-power-parts
-    slice-aggregate-power-parts
-    power-parts-requires
-    (λ c. search needs)
-    returns)
+    (λ c κs. search needs) count-of-requires slice-relend-prefix-load slice-aggregate-load load-requires
+    strides-of-requires mul-s array-read-s mul-power-parts array-read-power-parts mul-power-parts-2
+    slice-relend-prefix-power-parts slice-aggregate-power-parts power-parts-requires (λ c. search needs) returns)

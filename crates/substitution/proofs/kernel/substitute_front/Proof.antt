@@ -28,8 +28,7 @@ copy-requires c κs =
 
 returns : tie.Need-returns
 returns c =
-    let c4 = c .before .before .before .before in
-    let c5 = c4 .before in
+    let c4 = c .before .before .before .before in let c5 = c4 .before in
     let start = c5 .before .before .before .before .before .before .before .before in
     stands-same (value-0 (start .args .x .vars) (start .args .v) (start .args .h .limits)
     (block (start .args .x .lengths) (start .args .a .now)) (block (start .args .y .lengths) (start .args .b .now))
@@ -77,9 +76,7 @@ returns-3 c =
 
 horner-put-requires : tie.Need-horner-put-requires
 horner-put-requires c κs =
-    let c3 = c .before .before .before in
-    let c4 = c3 .before in
-    let c5 = c4 .before in
+    let c3 = c .before .before .before in let c4 = c3 .before in let c5 = c4 .before in
     let start = c5 .before .before .before .before .before .before .before .before in (
       given-puts (start .pre) (has-3 (start .args .x .vars) (start .args .v) (start .args .h .limits)
           (block (start .args .x .lengths) (start .args .a .now)) (block (start .args .y .lengths) (start .args .b .now))
@@ -92,10 +89,8 @@ horner-put-requires c κs =
 
 returns-4 : tie.Need-returns-4
 returns-4 c =
-    let c8 = c .before .before .before .before .before .before .before .before in
-    let c9 = c8 .before in
-    let c10 = c9 .before in
-    let start = c10 .before .before .before .before .before .before .before .before in
+    let c8 = c .before .before .before .before .before .before .before .before in let c9 = c8 .before in
+    let c10 = c9 .before in let start = c10 .before .before .before .before .before .before .before .before in
     stands-same (value-3 (start .args .x .vars) (start .args .v) (start .args .h .limits)
     (block (start .args .x .lengths) (start .args .a .now)) (block (start .args .y .lengths) (start .args .b .now))
     (c10 .choose .ensures) (c9 .if1 .left) (c8 .if2 .left)
@@ -106,17 +101,6 @@ pub substitute-front-spec : {M : Type 1} → statement M
 substitute-front-spec =
     tie.close
     (tie.spec
-    choose-requires
-    copy-requires
-    (λ c. search needs)
-    returns
-    zero-put-requires
-    (λ c. search needs)
-    returns-2
-    line-put-requires
-    (λ c. search needs)
-    returns-3
-    horner-put-requires
-    (λ c. search needs)
-    (λ c. search needs)
+    choose-requires copy-requires (λ c. search needs) returns zero-put-requires (λ c. search needs) returns-2
+    line-put-requires (λ c. search needs) returns-3 horner-put-requires (λ c. search needs) (λ c. search needs)
     returns-4)

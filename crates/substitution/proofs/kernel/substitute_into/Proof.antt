@@ -47,8 +47,7 @@ part-clear-end c =
 
 returns : tie.Need-returns
 returns c =
-    let c4 = c .before .before .before .before in
-    let c9 = c4 .before .before .before .before .before in
+    let c4 = c .before .before .before .before in let c9 = c4 .before .before .before .before .before in
     let start = c9 .before .before .before .before .before .before .before in
     let k = c9 .substitute-front .kept .1 .1 .1 .1 .1 .1 .1 .0 in
     let o = start .pre .out in
@@ -66,13 +65,5 @@ pub substitute-into-spec : {M : Type 1} → statement M
 substitute-into-spec =
     tie.close
     (tie.spec
-    (λ c κs. search needs)
-    count-of-requires
-    mul-clear
-    sub-clear
-    part-clear-start
-    part-clear-end
-    (λ c κs. search needs)
-    (λ c. search needs)
-    (λ c. search needs)
-    returns)
+    (λ c κs. search needs) count-of-requires mul-clear sub-clear part-clear-start part-clear-end (λ c κs. search needs)
+    (λ c. search needs) (λ c. search needs) returns)

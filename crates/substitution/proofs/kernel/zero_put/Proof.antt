@@ -27,9 +27,7 @@ pick-requires c κs =
 
 returns : tie.Need-returns
 returns c =
-    let c4 = c .before .before .before .before in
-    let c5 = c4 .before in
-    let start = c5 .before .before .before in
+    let c4 = c .before .before .before .before in let c5 = c4 .before in let start = c5 .before .before .before in
     let j =
     row-parts (start .args .limits) (start .args .v) (start .args .la) (start .args .a .now) 0
     (c5 .row-lengths .ensures) (c .before .before .pick .ensures) in
@@ -42,10 +40,5 @@ pub zero-put-spec : {M : Type 1} → statement M
 zero-put-spec =
     tie.close
     (tie.spec
-    (λ c κs. search needs)
-    count-of-requires
-    slice-relend-prefix-pick
-    slice-aggregate-pick
-    pick-requires
-    (λ c. search needs)
-    returns)
+    (λ c κs. search needs) count-of-requires slice-relend-prefix-pick slice-aggregate-pick pick-requires
+    (λ c. search needs) returns)
