@@ -12,8 +12,7 @@ first-joined-requires c κs =
 
 returns : tie.Need-returns
 returns c =
-    let start = c .before .before .before .before .before .before .before .before in
-    let a = start .args in
+    let start = c .before .before .before .before .before .before .before .before in let a = start .args in
     c .before .before .first-joined .ensures ∙ way-left _ (a .r) (block (a .n) (a .a .now)) (block (a .m) (a .b .now))
     (sym (start .pre .full-b) ∙ c .before .before .before .before .if1 .taken)
 
@@ -24,8 +23,7 @@ turned-joined-requires c κs =
 
 returns-2 : tie.Need-returns-2
 returns-2 c =
-    let start = c .before .before .before .before .before .before .before .before .before in
-    let a' = start .args in
+    let start = c .before .before .before .before .before .before .before .before .before in let a' = start .args in
     let p = start .pre in
     c .before .before .turned-joined .ensures
     ∙ way-right _ (a' .r) (block (a' .n) (a' .a .now)) (block (a' .m) (a' .b .now))
@@ -37,8 +35,7 @@ join-both-requires c κs = (c .before .before .before .before .before .before) .
 
 returns-3 : tie.Need-returns-3
 returns-3 c =
-    let start = c .before .before .before .before .before .before .before .before .before in
-    let a = start .args in
+    let start = c .before .before .before .before .before .before .before .before .before in let a = start .args in
     let p = start .pre in
     c .before .before .join-both .ensures ∙ way-both (a .minus) (a .r) (block (a .n) (a .a .now))
     (block (a .m) (a .b .now)) (λ e. c .before .before .before .before .before .if1 .left (p .full-b ∙ e))

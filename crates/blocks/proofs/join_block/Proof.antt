@@ -16,8 +16,7 @@ same-length c = search needs
 
 returns : tie.Need-returns
 returns c =
-    let start = c .before .before .before .before .before .before .before .before .before in
-    let a = start .args in
+    let start = c .before .before .before .before .before .before .before .before .before in let a = start .args in
     c .before .before .join-rows .ensures ∙ join-merged
     (c .before .before .before .before .before .before .longest-rows .ensures) (a .minus) (a .a .now) (a .to .now)
 

@@ -12,8 +12,7 @@ join-lines-requires c κs =
 
 returns : tie.Need-returns
 returns c =
-    let start = c .before .before .before .before .before .before .before .before .before in
-    let a = start .args in
+    let start = c .before .before .before .before .before .before .before .before .before in let a = start .args in
     one-pass (a .minus) (a .n) (a .m) (a .r) (a .a .now) (a .b .now) (start .pre)
     (sym (c .before .before .before .before .before .is-same .ensures)
     ∙ c .before .before .before .before .if1 .taken) (c .before .before .join-lines .ensures)
@@ -33,8 +32,7 @@ join-block-requires-2 c κs =
 returns-2 : tie.Need-returns-2
 returns-2 c =
     let c10 = c .before .before .before .before .before .before .before .before .before .before in
-    let start = c10 .before .before .before .before .before .before .before in
-    let a = start .args in
+    let start = c10 .before .before .before .before .before .before .before in let a = start .args in
     two-passes (a .minus) (a .r) (block (a .n) (a .a .now)) (block (a .m) (a .b .now)) (a .to .now) (start .pre .full)
     (c10 .clear .ensures) (c .before .before .before .before .before .before .join-block .ensures)
     (c .before .before .join-block2 .ensures)

@@ -54,8 +54,7 @@ join-line-requires c κs = let p = (c .before .before .before .before .before .b
 returns : tie.Need-returns
 returns c =
     let start = c .before .before .before .before .before .before .before .before .before .before in
-    let a = start .args in
-    let p = start .pre in
+    let a = start .args in let p = start .pre in
     row-joined (a .minus) (a .t3) (a .a .now) (a .to .now) (a .i) (p .1 .1) (p .0)
     (within (c .before .before .before .before .before .before)) (p .1 .0 .0)
     (c .before .before .join-line .ensures ∙ ap
@@ -64,9 +63,7 @@ returns c =
 
 returns-2 : tie.Need-returns-2
 returns-2 c =
-    let start = c .before .before .before .before in
-    let a = start .args in
-    let p = start .pre in
+    let start = c .before .before .before .before in let a = start .args in let p = start .pre in
     row-kept (a .minus) (a .t3) (a .a .now) (a .to .now) (a .i) (p .1 .1) (p .0) (sym (c .before .is-inside .ensures) ∙ c .if1 .left)
 
 pub join-row-spec : {M : Type 1} → statement M

@@ -52,9 +52,7 @@ rowed c =
     (rw k at (c .join-row .ensures)) ∙ (rw m)
 
 loop-holds : tie.Need-loop-holds Inv-loop μ-loop
-loop-holds c =
-    let p = (c .before .before) .pre in
-    (refl, by-none (p .to) (p .full))
+loop-holds c = let p = (c .before .before) .pre in (refl, by-none (p .to) (p .full))
 
 add-join-row : tie.Need-add-join-row Inv-loop μ-loop
 add-join-row c = omega (arith, to-fits (c))
@@ -67,8 +65,7 @@ part-join-row-end c = omega (arith, to-fits (c))
 
 join-row-requires : tie.Need-join-row-requires Inv-loop μ-loop
 join-row-requires c κs =
-    let start = c .before .before .before .before .before in
-    let a = start .args in
+    let start = c .before .before .before .before .before in let a = start .args in
     let p' = start .pre in (
       p' .from,
       (
@@ -85,8 +82,7 @@ add-at c = omega (arith, to-fits (c .before .before .before .before))
 
 next-row-requires : tie.Need-next-row-requires Inv-loop μ-loop
 next-row-requires c κs =
-    let start = c .before .before .before .before .before .before .before .before in
-    let a = start .args in
+    let start = c .before .before .before .before .before .before .before .before in let a = start .args in
     let p = start .pre in (
       p .to,
       join-begins (a .minus) (a .n) (a .t4) (a .a .now) (a .to .now) (p)
@@ -101,8 +97,7 @@ loop-less c =
 loop-again : tie.Need-loop-again Inv-loop μ-loop
 loop-again c =
     let c5 = c .before .before .before .before .before in let c6 = c5 .before in
-    let start = c6 .before .before .before in
-    let a = start .args in
+    let start = c6 .before .before .before in let a = start .args in
     let p = start .pre in (
       refl,
       by-put (p .to) (p .full) (c6 .loop .inv .1) (more c5)

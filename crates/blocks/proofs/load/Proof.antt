@@ -21,8 +21,7 @@ copy-requires c κs = let p = (c .before .before .before .before .before) .pre i
 returns : tie.Need-returns
 returns c =
     let c4 = c .before .before .before .before in let start = c4 .before .before .before .before in
-    let a = start .args in
-    let p = start .pre in
+    let a = start .args in let p = start .pre in
     let e : take (length (a .to .now)) (a .a .now) ≡ take (count (a .c)) (a .a .now) = ap (λ (k : ℕ). take k (a .a .now)) (p .full) in
     c .before .before .copy .ensures ∙ (e ∙ cut-front (a .n) (a .c) (a .a .now) (same c4) (omega (arith, p .room, same-count (same c4))))
 

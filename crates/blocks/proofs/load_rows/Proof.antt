@@ -36,8 +36,7 @@ from-fits : (c : tie.After-place-of Inv-loop μ-loop) →
     let start = c .before .before .before .before .before in
     c .place-of .result + at (start .args .t3) 3 ≤ length (start .args .a .now)
 from-fits c =
-    let start = c .before .before .before .before .before in
-    let a = start .args in
+    let start = c .before .before .before .before .before in let a = start .args in
     omega (arith, c .place-of .ensures, cut-from (a .n) (a .t3) (a .a .now) (a .to .now) (start .pre) (c .before .before .loop .inv .1) (more (c .before)))
 
 copied : (c : tie.After-copy Inv-loop μ-loop) →
@@ -54,9 +53,7 @@ copied c =
     c .copy .ensures ∙ (rw (m, e, c3 .place-of .ensures) (take-take w w _ (omega arith)))
 
 loop-holds : tie.Need-loop-holds Inv-loop μ-loop
-loop-holds c =
-    let p = (c .before .before) .pre in
-    (refl, by-none (p .to) (p .full))
+loop-holds c = let p = (c .before .before) .pre in (refl, by-none (p .to) (p .full))
 
 place-of-requires : tie.Need-place-of-requires Inv-loop μ-loop
 place-of-requires c κs =
@@ -108,8 +105,7 @@ loop-less c =
 loop-again : tie.Need-loop-again Inv-loop μ-loop
 loop-again c =
     let c7 = c .before .before .before .before .before .before .before in let c8 = c7 .before in
-    let start = c8 .before .before .before in
-    let a = start .args in
+    let start = c8 .before .before .before in let a = start .args in
     let p = start .pre in (
       refl,
       by-put (p .to) (p .full) (c8 .loop .inv .1) (more c7)

@@ -22,8 +22,7 @@ load-requires c κs = cutting-a ((c .before .before .before .before .before) .pr
 returns : tie.Need-returns
 returns c =
     let c9 = c .before .before .before .before .before .before .before .before .before in
-    let start = c9 .before .before .before .before in
-    let a = start .args in
+    let start = c9 .before .before .before .before in let a = start .args in
     two-held (a .la) (a .ca) (a .lb) (a .cb) (a .n + c .before .before .before .before .count-of2 .result - a .n)
     (a .a .now) (a .b .now) (a .work .now) (start .pre)
     (c .before .before .before .before .before .before .before .load .ensures)

@@ -25,5 +25,4 @@ unfolding merge
 returns c = refl
 
 pub merged-spec : {M : Type 1} → statement M
-merged-spec =
-    tie.close (tie.spec array-read-t5 array-read-t8 array-read-t11 array-read-t14 mul-t15 returns)
+merged-spec = tie.close (tie.spec array-read-t5 array-read-t8 array-read-t11 array-read-t14 mul-t15 returns)

@@ -29,6 +29,4 @@ returns-2 c =
     (c .before .before .before .before .if1 .left) (c .before .before .scale-row .ensures)
 
 pub put-row-spec : {M : Type 1} → statement M
-put-row-spec =
-    tie.close
-    (tie.spec copy-requires same-length returns scale-row-requires same-length-2 returns-2)
+put-row-spec = tie.close (tie.spec copy-requires same-length returns scale-row-requires same-length-2 returns-2)

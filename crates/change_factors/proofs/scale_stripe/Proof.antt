@@ -80,8 +80,7 @@ loop-less c =
 loop-again : tie.Need-loop-again Inv-loop μ-loop
 loop-again c =
     let c5 = c .before .before .before .before .before in let c6 = c5 .before in
-    let start = c6 .before .before .before in
-    let l = c6 .loop .inv .done .len in
+    let start = c6 .before .before .before in let l = c6 .loop .inv .done .len in
     let f = fits c5 in
     let p = start .pre in
     let ew : c6 .loop .from + start .args .s - c6 .loop .from ≡ start .args .s = omega arith in

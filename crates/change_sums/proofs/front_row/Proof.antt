@@ -10,8 +10,7 @@ use Rattle.change_sums.proofs.front_row.Tie as tie
 returns : tie.Need-returns
 returns c =
     let c7 = c .before .before .before .before .before .before .before in
-    let start = c7 .before .before .before .before in
-    let w = c7 .sum-rows .kept .1 .1 .0 in
+    let start = c7 .before .before .before .before in let w = c7 .sum-rows .kept .1 .1 .0 in
     let p = c7 .sum-rows .ensures .0 in (
       ap (λ (x : ℕ). x + length (c7 .sum-rows .last .1 .1 .0)) p
           ∙ ap (λ (x : ℕ). start .args .m * length (start .args .to .now) + x) w,

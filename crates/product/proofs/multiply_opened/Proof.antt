@@ -131,8 +131,7 @@ returns-2 c =
     let c9 = c .before .before .before .before .before .before .before .before .before in
     let c20 = c9 .before .before .before .before .before .before .before .before .before .before .before in
     let c23 = c20 .before .before .before in let start = c23 .before .before .before .before .before in
-    let e = c23 .open-product .ensures .refusal in
-    let z = c20 .if1 .left in
+    let e = c23 .open-product .ensures .refusal in let z = c20 .if1 .left in
     let n = (opened-count (c23 .open-product .ensures) (c20 .if1 .left)) in
     let t = c23 .open-product .ensures .tells (c20 .if1 .left) in (
       done-answer e (announcedPair Product (start .args .ah) (start .args .bh)) (value start) z

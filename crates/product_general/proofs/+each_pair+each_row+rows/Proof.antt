@@ -46,15 +46,13 @@ abbrev each-pair-at : ℕ → In 3 each-pair-kinds.ps
 each-pair-at t = and 3 each-pair-kinds.ps (is 3 each-pair-kinds.ps μ-each-pair t) each-pair.Pre
 
 abbrev each-pair-below : ℕ → In 3 each-pair-kinds.ps
-each-pair-below t =
-    and 3 each-pair-kinds.ps (falls 3 each-pair-kinds.ps _<_ μ-each-pair t) each-pair.Pre
+each-pair-below t = and 3 each-pair-kinds.ps (falls 3 each-pair-kinds.ps _<_ μ-each-pair t) each-pair.Pre
 
 abbrev each-row-at : ℕ → In 3 each-row-kinds.ps
 each-row-at t = and 3 each-row-kinds.ps (is 3 each-row-kinds.ps μ-each-row t) each-row.Pre
 
 abbrev each-row-below : ℕ → In 3 each-row-kinds.ps
-each-row-below t =
-    and 3 each-row-kinds.ps (falls 3 each-row-kinds.ps _<_ μ-each-row t) each-row.Pre
+each-row-below t = and 3 each-row-kinds.ps (falls 3 each-row-kinds.ps _<_ μ-each-row t) each-row.Pre
 
 abbrev rows-at : ℕ → In 3 rows-kinds.ps
 rows-at t = and 3 rows-kinds.ps (is 3 rows-kinds.ps μ-rows t) rows.Pre
@@ -180,8 +178,7 @@ each-pair-part-rows-end-2 t c = omega arith
 each-pair-rows-requires : (t : ℕ) → each-pair-lts.Need-rows-requires (each-pair-claims t) (each-pair-at t) each-pair.Post each-pair-Inv-loop each-pair-μ-loop
 each-pair-rows-requires t c κs =
     let start = c .before .before .before .before .before .before .before .before .before .before in
-    let a = start .args in
-    let g = start .pre in
+    let a = start .args in let g = start .pre in
     let h = g .1 .1 .some in (
       omega (arith, g .0),
       (
@@ -193,8 +190,7 @@ each-pair-rows-requires t c κs =
 each-pair-add-j : (t : ℕ) → each-pair-lts.Need-add-j (each-pair-claims t) (each-pair-at t) each-pair.Post each-pair-Inv-loop each-pair-μ-loop
 each-pair-add-j t c =
     let c12 = c .before .before .before .before .before .before .before .before .before .before .before .before in
-    let start = c12 .before in
-    let g = start .pre in
+    let start = c12 .before in let g = start .pre in
     omega (
       arith,
       turned t (c .before .before .before .before .before .before) .below,
@@ -207,8 +203,7 @@ each-pair-loop-less t c = omega (arith, c .before .before .before .before .befor
 each-pair-loop-again : (t : ℕ) → each-pair-lts.Need-loop-again (each-pair-claims t) (each-pair-at t) each-pair.Post each-pair-Inv-loop each-pair-μ-loop
 each-pair-loop-again t c =
     let c12 = c .before .before .before .before .before .before .before .before .before .before .before .before in
-    let start = c12 .before in
-    let a = start .args in
+    let start = c12 .before in let a = start .args in
     let l = c .before .before .before .before .before .before .before .loop in
     let f = l .inv .1 .from in (
       omega (arith, c .before .before .before .before .before .before .loop-test .taken),
@@ -223,8 +218,7 @@ each-pair-returns : (t : ℕ) → each-pair-lts.Need-returns (each-pair-claims t
 each-pair-returns t c =
     let c3 = c .before .before .before in
     let a = (c .before .before .before .before .before .before .before) .args in
-    let l = c .before .loop in
-    let f = l .inv .1 .from in
+    let l = c .before .loop in let f = l .inv .1 .from in
     let e : l .j ≡ c3 .from .result + steps (at (a .t2) (a .v)) (at (a .t5) (a .v)) (a .k) =
     omega (arith, c3 .from .ensures, c .before .before .upto .ensures, l .inv .0, c .loop-test .left) in
     pairs-end (a .t2) (a .t5) (a .r) (a .v) (a .k) (at (a .t3) (a .v)) (at (a .t6) (a .v)) (a .xs .now) (a .ys .now) (l .inv .1) (c3 .from .ensures) e
@@ -280,9 +274,7 @@ each-row-part-each-pair-end t c = omega (arith, row-fits t (c))
 
 each-row-each-pair-requires : (t : ℕ) → each-row-lts.Need-each-pair-requires (each-row-claims t) (each-row-at t) each-row.Post each-row-Inv-loop each-row-μ-loop
 each-row-each-pair-requires t c κs =
-    let start = c .before .before .before .before .before .before in
-    let g = start .pre in
-    let a = start .args in
+    let start = c .before .before .before .before .before .before in let g = start .pre in let a = start .args in
     let s : ℕ = at (a .t8) (a .v) in
     let e : c .before .before .loop .k * s + s - c .before .before .loop .k * s ≡ s = omega arith in (
       omega (arith, g .0),
@@ -303,9 +295,7 @@ each-row-loop-less t c = omega (arith, c .before .before .before .before .loop-t
 each-row-loop-again : (t : ℕ) → each-row-lts.Need-loop-again (each-row-claims t) (each-row-at t) each-row.Post each-row-Inv-loop each-row-μ-loop
 each-row-loop-again t c =
     let c4 = c .before .before .before .before in let start = c4 .before .before .before .before .before in
-    let g = start .pre in
-    let a = start .args in
-    let l = c .before .before .before .before .before .loop in
+    let g = start .pre in let a = start .args in let l = c .before .before .before .before .before .loop in
     let s : ℕ = at (a .t8) (a .v) in
     let h = g .1 .1 .1 .some in
     let e : l .k * s + s - l .k * s ≡ s = omega arith in (
@@ -321,11 +311,8 @@ each-row-same-length t c = c .before .loop .inv .1 .len
 
 each-row-returns : (t : ℕ) → each-row-lts.Need-returns (each-row-claims t) (each-row-at t) each-row.Post each-row-Inv-loop each-row-μ-loop
 each-row-returns t c =
-    let start = c .before .before .before .before .before in
-    let g = start .pre in
-    let a = start .args in
-    let l = c .before .loop in
-    let h = g .1 .1 .1 .some in
+    let start = c .before .before .before .before .before in let g = start .pre in let a = start .args in
+    let l = c .before .loop in let h = g .1 .1 .1 .some in
     rows-end (a .lx) (a .ly) (a .t7) (a .v) (a .xs .now) (a .ys .now) (l .inv .1) h
     (stride-at (a .t7) (g .1 .0 .by-r) h) (omega (arith, l .inv .0, c .loop-test .left)) (g .1 .1 .0 .full)
 
@@ -371,8 +358,7 @@ rows-same-length t c = simp length-set
 
 rows-returns : (t : ℕ) → rows-lts.Need-returns (rows-claims t) (rows-at t) rows.Post
 rows-returns t c =
-    let start = c .before .before .before .before .before .before .before in
-    let a = start .args in
+    let start = c .before .before .before .before .before .before .before in let a = start .args in
     rows-none (a .t2) (a .t5) (a .t7) (a .xs .now) (a .ys .now) (a .res .now)
     (c .before .before .before .if1 .taken) (start .pre .1 .1 .full)
 
@@ -418,8 +404,7 @@ rows-same-length-2 t c = ap length (c .before .before .each-line .ensures) ∙ l
 
 rows-returns-2 : (t : ℕ) → rows-lts.Need-returns-2 (rows-claims t) (rows-at t) rows.Post
 rows-returns-2 t c =
-    let start = c .before .before .before .before .before .before .before .before .before in
-    let g = start .pre in
+    let start = c .before .before .before .before .before .before .before .before .before in let g = start .pre in
     let a = start .args in
     let h = some t start (c .before .before .before .before .before .if1 .left) in
     rows-lined (a .t2) (a .t5) (a .t7) (a .v) (a .xs .now) (a .ys .now) (a .res .now) (g .1 .0 .result) h
@@ -442,8 +427,7 @@ rows-array-read-if4-2 t c = c .if3 .taken
 
 rows-two-long-requires : (t : ℕ) → rows-lts.Need-two-long-requires (rows-claims t) (rows-at t) rows.Post
 rows-two-long-requires t c κs =
-    let start = c .before .before .before .before .before .before .before .before in
-    let g = start .pre in
+    let start = c .before .before .before .before .before .before .before .before in let g = start .pre in
     let l = sym (alone-by (start .args .t7) (g .1 .0 .by-r) (c .before .before .if3 .taken)) ∙ c .before .if4 .taken in
     (g .1 .0, (g .1 .1, (several t (c .before .before .before), record { next = c .before .before .if3 .taken; last = l })))
 

@@ -30,8 +30,7 @@ rows-requires c κs =
 returns : tie.Need-returns
 returns c =
     let c9 = c .before .before .before .before .before .before .before .before .before in
-    let start = c9 .before .before .before .before .before in
-    let a = start .args in
+    let start = c9 .before .before .before .before .before in let a = start .args in
     general-is (a .lx) (a .ly) (a .r) (a .xs .now) (a .ys .now) (length (a .out .now)) (c9 .clear .ensures)
     (start .pre .full) (c .before .before .rows .ensures)
 

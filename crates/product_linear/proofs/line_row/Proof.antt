@@ -20,11 +20,7 @@ returns : tie.Need-returns
 returns c =
     let c7 = c .before .before .before .before .before .before .before in
     let c12 = c7 .before .before .before .before .before in let start = c12 .before .before .before .before in
-    let a = start .args in
-    let p = start .pre in
-    let small = p .small in
-    let reach = p .reach in
-    let most = p .most in
+    let a = start .args in let p = start .pre in let small = p .small in let reach = p .reach in let most = p .most in
     let q1 : start .args .s - 0 ≡ start .args .s = omega arith in
     let back : length (start .args .a .now) - (length (start .args .a .now) - start .args .s) ≡ start .args .s = omega arith in
     let l1 = part-length 0 (a .s) (a .to .now) (omega arith) (omega arith) in

@@ -47,8 +47,7 @@ line-row-requires c κs =
     let start = c .before .before .before .before .before .before in
     let l = c .before .before .before .loop .inv .1 .1 .len in
     let f = fits (c .before .before) in
-    let p = start .pre .0 in
-    let q = start .pre .1 in
+    let p = start .pre .0 in let q = start .pre .1 in
     record {
       small = simp (length-take, length-drop) (omega (arith, q));
       reach = simp (length-take, length-drop) (omega (arith, q));

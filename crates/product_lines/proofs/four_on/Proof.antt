@@ -102,8 +102,7 @@ four-more-requires c κs = let f = c .before .before .loop .inv .1 .w0 .from in 
 
 returns : tie.Need-returns Inv-loop μ-loop
 returns c =
-    let c3 = c .before .before .before in
-    let f = c3 .loop .inv .1 .w0 .from in
+    let c3 = c .before .before .before in let f = c3 .loop .inv .1 .w0 .from in
     walking-last (c .before .before .before .before .before .before .args .t6) (c3 .loop .inv .1)
     (c .four-more .ensures) (omega arith)
 

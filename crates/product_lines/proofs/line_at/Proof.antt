@@ -12,8 +12,7 @@ upto-requires c κs = (c .before .before .before) .pre .1
 
 sum-on-requires : tie.Need-sum-on-requires
 sum-on-requires c κs = let p = (c .before .before .before .before) .pre .0 in
-    let f = c .before .from .ensures in
-    let t = c .upto .ensures in
+    let f = c .before .from .ensures in let t = c .upto .ensures in
     record { below = omega arith; left = omega arith; right = omega arith }
 
 returns : tie.Need-returns

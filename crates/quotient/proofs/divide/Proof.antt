@@ -119,8 +119,7 @@ returns-2 c =
     let c9 = c .before .before .before .before .before .before .before .before .before in
     let c21 = c9 .before .before .before .before .before .before .before .before .before .before .before .before in
     let c24 = c21 .before .before .before in let start = c24 .before .before .before .before .before in
-    let e = c24 .open-pair .ensures .refusal in
-    let z = c21 .if1 .left in
+    let e = c24 .open-pair .ensures .refusal in let z = c21 .if1 .left in
     let n = (opened-count (c24 .open-pair .ensures) (c21 .if1 .left)) in
     let t = c24 .open-pair .ensures .tells (c21 .if1 .left) in (
       done-answer e (announcedPair Quotient (start .args .ah) (start .args .bh)) (value start) z

@@ -46,8 +46,7 @@ slice-write-work c = let l = c .before .before .before .loop .inv .1 .len in ome
 
 loop-again : tie.Need-loop-again Inv-loop μ-loop
 loop-again c =
-    let start = c .before .before .before .before in
-    let a = start .args in
+    let start = c .before .before .before .before in let a = start .args in
     let l = c .before .before .before .loop in (
       omega arith,
       laid-more (a .to) (l .i) (λ j. add binary64 (neg (getD (a .row .now) j nan))

@@ -33,8 +33,7 @@ abbrev each-row-at : ℕ → In 2 each-row-kinds.ps
 each-row-at t = and 2 each-row-kinds.ps (is 2 each-row-kinds.ps μ-each-row t) each-row.Pre
 
 abbrev each-row-below : ℕ → In 2 each-row-kinds.ps
-each-row-below t =
-    and 2 each-row-kinds.ps (falls 2 each-row-kinds.ps _<_ μ-each-row t) each-row.Pre
+each-row-below t = and 2 each-row-kinds.ps (falls 2 each-row-kinds.ps _<_ μ-each-row t) each-row.Pre
 
 abbrev level-at : ℕ → In 2 level-kinds.ps
 level-at t = and 2 level-kinds.ps (is 2 level-kinds.ps μ-level t) level.Pre

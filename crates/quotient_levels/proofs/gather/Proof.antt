@@ -12,11 +12,7 @@ array-read-at c = let t = (c .before .before) .pre .1 in let h = t .some in omeg
 
 mul-at-2 : tie.Need-mul-at-2
 mul-at-2 c = let t = (c .before .before) .pre .1 in
-    let a = t .apart in
-    let z = t .ends in
-    let m = t .room in
-    let d = t .divisor in
-    let o = t .before in
+    let a = t .apart in let z = t .ends in let m = t .room in let d = t .divisor in let o = t .before in
     omega (
       arith,
       row-fits ((c .before .before) .pre .0) (c .before .before .args .work .now) ((c .before .before) .pre .1),
@@ -24,11 +20,7 @@ mul-at-2 c = let t = (c .before .before) .pre .1 in
 
 add-end : tie.Need-add-end
 add-end c = let t = (c .before .before) .pre .1 in
-    let a = t .apart in
-    let z = t .ends in
-    let m = t .room in
-    let d = t .divisor in
-    let o = t .before in
+    let a = t .apart in let z = t .ends in let m = t .room in let d = t .divisor in let o = t .before in
     omega (
       arith,
       row-fits ((c .before .before) .pre .0) (c .before .before .args .work .now) ((c .before .before) .pre .1),
@@ -36,11 +28,7 @@ add-end c = let t = (c .before .before) .pre .1 in
 
 mul-taken-row : tie.Need-mul-taken-row
 mul-taken-row c = let t = (c .before .before) .pre .1 in
-    let a = t .apart in
-    let z = t .ends in
-    let m = t .room in
-    let d = t .divisor in
-    let o = t .before in
+    let a = t .apart in let z = t .ends in let m = t .room in let d = t .divisor in let o = t .before in
     omega (
       arith,
       row-fits ((c .before .before) .pre .0) (c .before .before .args .work .now) ((c .before .before) .pre .1),
@@ -48,68 +36,38 @@ mul-taken-row c = let t = (c .before .before) .pre .1 in
 
 part-taken-row-start : tie.Need-part-taken-row-start
 part-taken-row-start c =
-    let start = c .before .before .before in
-    let t = start .pre .1 in
-    let a = t .apart in
-    let z = t .ends in
-    let m = t .room in
-    let d = t .divisor in
-    let o = t .before in
+    let start = c .before .before .before in let t = start .pre .1 in let a = t .apart in let z = t .ends in
+    let m = t .room in let d = t .divisor in let o = t .before in
     omega (arith, row-fits (start .pre .0) (start .args .work .now) (start .pre .1))
 
 part-taken-row-end : tie.Need-part-taken-row-end
 part-taken-row-end c =
-    let start = c .before .before .before in
-    let t = start .pre .1 in
-    let a = t .apart in
-    let z = t .ends in
-    let m = t .room in
-    let d = t .divisor in
-    let o = t .before in
+    let start = c .before .before .before in let t = start .pre .1 in let a = t .apart in let z = t .ends in
+    let m = t .room in let d = t .divisor in let o = t .before in
     omega (arith, row-fits (start .pre .0) (start .args .work .now) (start .pre .1))
 
 mul-taken-row-2 : tie.Need-mul-taken-row-2
 mul-taken-row-2 c =
-    let start = c .before .before .before .before in
-    let t = start .pre .1 in
-    let a = t .apart in
-    let z = t .ends in
-    let m = t .room in
-    let d = t .divisor in
-    let o = t .before in
+    let start = c .before .before .before .before in let t = start .pre .1 in let a = t .apart in let z = t .ends in
+    let m = t .room in let d = t .divisor in let o = t .before in
     omega (arith, row-fits (start .pre .0) (start .args .work .now) (start .pre .1))
 
 sub-taken-row-2 : tie.Need-sub-taken-row-2
 sub-taken-row-2 c =
-    let start = c .before .before .before .before in
-    let t = start .pre .1 in
-    let a = t .apart in
-    let z = t .ends in
-    let m = t .room in
-    let d = t .divisor in
-    let o = t .before in
+    let start = c .before .before .before .before in let t = start .pre .1 in let a = t .apart in let z = t .ends in
+    let m = t .room in let d = t .divisor in let o = t .before in
     omega (arith, row-fits (start .pre .0) (start .args .work .now) (start .pre .1))
 
 part-taken-row-start-2 : tie.Need-part-taken-row-start-2
 part-taken-row-start-2 c =
-    let start = c .before .before .before .before in
-    let t = start .pre .1 in
-    let a = t .apart in
-    let z = t .ends in
-    let m = t .room in
-    let d = t .divisor in
-    let o = t .before in
+    let start = c .before .before .before .before in let t = start .pre .1 in let a = t .apart in let z = t .ends in
+    let m = t .room in let d = t .divisor in let o = t .before in
     omega (arith, row-fits (start .pre .0) (start .args .work .now) (start .pre .1))
 
 part-taken-row-end-2 : tie.Need-part-taken-row-end-2
 part-taken-row-end-2 c =
-    let start = c .before .before .before .before in
-    let t = start .pre .1 in
-    let a = t .apart in
-    let z = t .ends in
-    let m = t .room in
-    let d = t .divisor in
-    let o = t .before in
+    let start = c .before .before .before .before in let t = start .pre .1 in let a = t .apart in let z = t .ends in
+    let m = t .room in let d = t .divisor in let o = t .before in
     omega (arith, row-fits (start .pre .0) (start .args .work .now) (start .pre .1))
 
 taken-row-requires : tie.Need-taken-row-requires
@@ -120,22 +78,14 @@ taken-row-requires c κs =
 add-lessen : tie.Need-add-lessen
 add-lessen c =
     let start = c .before .before .before .before .before .before .before .before .before .before .before in
-    let t = start .pre .1 in
-    let a = t .apart in
-    let z = t .ends in
-    let m = t .room in
-    let d = t .divisor in
+    let t = start .pre .1 in let a = t .apart in let z = t .ends in let m = t .room in let d = t .divisor in
     let o = t .before in
     omega (arith, row-fits (start .pre .0) (start .args .work .now) (start .pre .1))
 
 lessen-requires : tie.Need-lessen-requires
 lessen-requires c κs =
     let start = c .before .before .before .before .before .before .before .before .before .before .before in
-    let t = start .pre .1 in
-    let a = t .apart in
-    let z = t .ends in
-    let m = t .room in
-    let d = t .divisor in
+    let t = start .pre .1 in let a = t .apart in let z = t .ends in let m = t .room in let d = t .divisor in
     let o = t .before in
     let n = c .before .before .before .before .taken-row .kept .1 .1 .1 .1 .1 .1 .1 .1 .0 ∙ t .row in (
       omega (arith, n, row-fits (start .pre .0) (start .args .work .now) (start .pre .1)),

@@ -112,8 +112,7 @@ rows-requires c κs =
 add-j : tie.Need-add-j Inv-loop μ-loop
 add-j c =
     let c12 = c .before .before .before .before .before .before .before .before .before .before .before .before in
-    let start = c12 .before .before .before .before in
-    let t = start .pre .1 in
+    let start = c12 .before .before .before .before in let t = start .pre .1 in
     omega (
       arith,
       c .before .before .before .before .before .before .loop-test .taken,
@@ -126,8 +125,7 @@ loop-less c = omega (arith, c .before .before .before .before .before .before .l
 loop-again : tie.Need-loop-again Inv-loop μ-loop
 loop-again c =
     let c12 = c .before .before .before .before .before .before .before .before .before .before .before .before in
-    let start = c12 .before .before .before .before in
-    let a = start .args in
+    let start = c12 .before .before .before .before in let a = start .args in
     let l = c .before .before .before .before .before .before .before .loop in
     let f = l .inv .1 .from in (
       omega (arith, c .before .before .before .before .before .before .loop-test .taken),
@@ -146,10 +144,7 @@ same-length c =
 returns : tie.Need-returns Inv-loop μ-loop
 returns c =
     let start = c .before .before .before .before .before .before .before .before .before .before in
-    let a = start .args in
-    let g = start .pre .0 in
-    let t = start .pre .1 in
-    let l = c .before .loop in
+    let a = start .args in let g = start .pre .0 in let t = start .pre .1 in let l = c .before .loop in
     let f = l .inv .1 .from in
     taken-end (a .t3) (a .r) (a .v) (a .k) (a .done .now) (a .ys .now) (l .inv .1)
     (c .before .before .before .before .before .clear .ensures) (t .full) (stride-at (a .r) (g .by-r) (t .some))

@@ -32,9 +32,7 @@ sum-on-requires c κs =
 
 slice-write-row : tie.Need-slice-write-row
 slice-write-row c =
-    let start = c .before .before .before .before .before .before in
-    let a = start .args in
-    let t = start .pre .1 in
+    let start = c .before .before .before .before .before .before in let a = start .args in let t = start .pre .1 in
     let h = t .some in
     omega (arith, t .full, span-pos {v = a .v + 1} (start .pre .0 .strided .result) (omega arith))
 

@@ -29,14 +29,10 @@ total-of-requires c κs = (
 )
 
 part-largest-of-end : tie.Need-part-largest-of-end
-part-largest-of-end c =
-    let c4 = c .before .before .before .before in
-    omega (arith, pass c4 .fit, noted-len c4)
+part-largest-of-end c = let c4 = c .before .before .before .before in omega (arith, pass c4 .fit, noted-len c4)
 
 largest-of-requires : tie.Need-largest-of-requires
-largest-of-requires c κs =
-    let c5 = c .before .before .before .before .before in
-    rw (pass c5 .part) (pass c5 .steps)
+largest-of-requires c κs = let c5 = c .before .before .before .before .before in rw (pass c5 .part) (pass c5 .steps)
 
 total-of-requires-2 : tie.Need-total-of-requires-2
 total-of-requires-2 c κs =

@@ -104,8 +104,7 @@ count-of-requires c κs =
 add-pad : tie.Need-add-pad
 add-pad c =
     let c11 = c .before .before .before .before .before .before .before .before .before .before .before in
-    let start = c11 .before .before .before .before .before .before .before in
-    let g = start .pre .1 .1 .1 in
+    let start = c11 .before .before .before .before .before .before .before in let g = start .pre .1 .1 .1 in
     omega (
       arith,
       g .room,
@@ -122,8 +121,7 @@ pad-requires : tie.Need-pad-requires
 pad-requires c κs =
     let c6 = c .before .before .before .before .before .before in
     let c11 = c6 .before .before .before .before .before in
-    let start = c11 .before .before .before .before .before .before .before in
-    let g = start .pre .1 .1 .1 in
+    let start = c11 .before .before .before .before .before .before .before in let g = start .pre .1 .1 .1 in
     let l = lasts c6 in (
       omega (
         arith,

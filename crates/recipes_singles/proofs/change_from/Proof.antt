@@ -56,5 +56,4 @@ returns c =
     )
 
 pub change-from-spec : {M : Type 1} → statement M
-change-from-spec =
-    tie.close (tie.spec stored-of-requires operand-requires changed-requires same-length returns)
+change-from-spec = tie.close (tie.spec stored-of-requires operand-requires changed-requires same-length returns)

@@ -41,5 +41,4 @@ returns : tie.Need-returns
 returns c = rw (part-is (c .before .before .before .before)) at (c .before .before .load-base .ensures)
 
 pub load-base-spec : {M : Type 1} → statement M
-load-base-spec =
-    tie.close (tie.spec stored-of-requires operand-requires load-base-requires same-length returns)
+load-base-spec = tie.close (tie.spec stored-of-requires operand-requires load-base-requires same-length returns)

@@ -27,5 +27,4 @@ unfolding headerOrNone
 returns-2 c = (simp (sym (c .before .before .is-good .ensures) ∙ c .before .if1 .left) (c .none .ensures), rw (c .none .ensures) none-regular)
 
 pub header-or-none-spec : {M : Type 1} → statement M
-header-or-none-spec =
-    tie.close (tie.spec is-good-requires header-of-requires none-requires returns returns-2)
+header-or-none-spec = tie.close (tie.spec is-good-requires header-of-requires none-requires returns returns-2)

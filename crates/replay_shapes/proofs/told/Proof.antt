@@ -23,6 +23,4 @@ returns c = (
 )
 
 pub told-spec : {M : Type 1} → statement M
-told-spec =
-    tie.close
-    (tie.spec header-or-none-requires header-or-none-requires-2 announced-of-requires returns)
+told-spec = tie.close (tie.spec header-or-none-requires header-or-none-requires-2 announced-of-requires returns)

@@ -21,8 +21,7 @@ abbrev exp-block-at : ℕ → In 3 exp-block-kinds.ps
 exp-block-at t = and 3 exp-block-kinds.ps (is 3 exp-block-kinds.ps μ-exp-block t) exp-block.Pre
 
 abbrev exp-block-below : ℕ → In 3 exp-block-kinds.ps
-exp-block-below t =
-    and 3 exp-block-kinds.ps (falls 3 exp-block-kinds.ps _<_ μ-exp-block t) exp-block.Pre
+exp-block-below t = and 3 exp-block-kinds.ps (falls 3 exp-block-kinds.ps _<_ μ-exp-block t) exp-block.Pre
 
 abbrev exp-block-claims : ℕ → exp-block-lts.Claims
 exp-block-claims t = (exp-block-below t, exp-block.Post, exp-rows-reads.Asked, exp-rows-reads.Learnt)

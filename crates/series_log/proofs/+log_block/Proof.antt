@@ -25,8 +25,7 @@ abbrev log-block-at : ℕ → In 3 log-block-kinds.ps
 log-block-at t = and 3 log-block-kinds.ps (is 3 log-block-kinds.ps μ-log-block t) log-block.Pre
 
 abbrev log-block-below : ℕ → In 3 log-block-kinds.ps
-log-block-below t =
-    and 3 log-block-kinds.ps (falls 3 log-block-kinds.ps _<_ μ-log-block t) log-block.Pre
+log-block-below t = and 3 log-block-kinds.ps (falls 3 log-block-kinds.ps _<_ μ-log-block t) log-block.Pre
 
 abbrev log-block-claims : ℕ → log-block-lts.Claims
 log-block-claims t = (log-line-reads.Asked, log-line-reads.Learnt, log-block-below t, log-block.Post, log-rows-reads.Asked, log-rows-reads.Learnt)

@@ -33,5 +33,4 @@ returns c =
     (index (start .args .ar) i))) (c .before .before .before .before .before .before .before .multiply .ensures)
 
 pub add-operand-spec : {M : Type 1} → statement M
-add-operand-spec =
-    tie.close (tie.spec multiply-requires join-block-requires same-length same-length-2 returns)
+add-operand-spec = tie.close (tie.spec multiply-requires join-block-requires same-length same-length-2 returns)

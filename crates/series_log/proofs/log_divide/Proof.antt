@@ -33,8 +33,7 @@ returns c =
     let t : ℕ = length (start .args .xs .now) in
     let w1 : List Float = c13 .copy .last .1 .0 ++ drop s (start .args .work .now) in
     let w2 : List Float = putMid s (s + t - s) w1 (c9 .copy2 .last .1 .0) in
-    let g = start .pre .less in
-    let h = start .pre .work in
+    let g = start .pre .less in let h = start .pre .work in
     let d : s + t - s ≡ t = omega arith in
     let l : length w1 ≡ length (start .args .work .now) =
     same-len s (start .args .work .now) (c13 .copy .last .1 .0) (c13 .copy .kept .1 .0) in

@@ -93,8 +93,7 @@ loop-again c =
 
 returns : tie.Need-returns Inv-loop μ-loop
 returns c =
-    let start = c .before .before .before .before .before in
-    let f = c .before .loop .inv .1 .from in
+    let start = c .before .before .before .before .before in let f = c .before .loop .inv .1 .from in
     line-end (start .args .m) (start .args .xs .now) (start .args .done .now)
     (c .before .before .first-turn .ensures) (c .before .loop .inv .1)
     (omega (arith, c .before .loop .inv .0, c .loop-test .left))

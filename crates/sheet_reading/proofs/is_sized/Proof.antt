@@ -25,6 +25,4 @@ unfolding rightSizes spare
 returns c = rw (c .before .before .input-count .ensures, c .before .step-count .ensures, c .word-at .ensures)
 
 pub is-sized-spec : {M : Type 1} → statement M
-is-sized-spec =
-    tie.close
-    (tie.spec input-count-requires step-count-requires add-result word-at-requires returns)
+is-sized-spec = tie.close (tie.spec input-count-requires step-count-requires add-result word-at-requires returns)

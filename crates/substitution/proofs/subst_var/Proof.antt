@@ -127,8 +127,7 @@ returns-2 c =
     let c9 = c .before .before .before .before .before .before .before .before .before in
     let c18 = c9 .before .before .before .before .before .before .before .before .before in
     let c21 = c18 .before .before .before in let start = c21 .before .before .before .before .before in
-    let e = c21 .open-pair .ensures .refusal in
-    let z = c18 .if1 .left in
+    let e = c21 .open-pair .ensures .refusal in let z = c18 .if1 .left in
     let n = (opened-count (c21 .open-pair .ensures) (c18 .if1 .left)) in
     let t = c21 .open-pair .ensures .tells (c18 .if1 .left) in (
       done-answer e (announcedPair (Substitution (start .args .v)) (start .args .ah) (start .args .bh))

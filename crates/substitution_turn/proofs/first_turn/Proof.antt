@@ -24,5 +24,4 @@ returns c =
     first-turned (start .pre) (c9 .zero-to .ensures) (c .before .before .before .before .plus-row .ensures)
 
 pub first-turn-spec : {M : Type 1} → statement M
-first-turn-spec =
-    tie.close (tie.spec zero-to-requires plus-row-requires same-length same-length-2 returns)
+first-turn-spec = tie.close (tie.spec zero-to-requires plus-row-requires same-length same-length-2 returns)

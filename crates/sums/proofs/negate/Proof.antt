@@ -13,8 +13,7 @@ ready : (c : tie.Else1) →
     let start = c .before .before .before .before .before in
     OneReady Same (start .args .head) (length (start .args .a .now)) (length (start .args .out .now))
 ready c =
-    let start = c .before .before .before .before .before in
-    let a = start .args in
+    let start = c .before .before .before .before .before in let a = start .args in
     negate-ready (a .head) (a .a .now) (a .out .now) (start .fits .head .fits) (c .before .before .one-gate .ensures) (c .if1 .left)
 
 counted : (c : tie.After-stored-of) → c .stored-of .result ≡ stored (headerOf ((c .before .before .before .before .before .before .before) .args .head))

@@ -17,8 +17,7 @@ ends : (c : tie.After-count-of2) →
     (c .before .count-of .result ≤ start .args .n) × (start .args .n + c .count-of2 .result ≤ length (start .args .work .now))
 ends c =
     let c6 = c .before .before .before .before .before .before in let c7 = c6 .before in
-    let start = c7 .before .before .before .before .before in
-    let p = start .pre in
+    let start = c7 .before .before .before .before .before in let p = start .pre in
     let w = p .work in (
       omega (arith, c .before .count-of .ensures, small-a (p) (c7 .cut-to .ensures) (c6 .cut-to2 .ensures)),
       omega (arith, c .count-of2 .ensures, small-b (p) (c7 .cut-to .ensures) (c6 .cut-to2 .ensures)),
@@ -83,8 +82,7 @@ returns : tie.Need-returns
 returns c =
     let c7 = c .before .before .before .before .before .before .before in let c8 = c7 .before in
     let c11 = c8 .before .before .before in let c13 = c11 .before .before in let c14 = c13 .before in
-    let start = c14 .before .before .before .before .before in
-    let a = start .args in
+    let start = c14 .before .before .before .before .before in let a = start .args in
     summing-is (start .pre) (c14 .cut-to .ensures) (c13 .cut-to2 .ensures) (a .minus) (a .a .now) (a .b .now)
     (c11 .load-two .last .1 .1 .1 .1 .1 .1 .1 .0) (c11 .load-two .ensures)
     (rw (← c8 .count-of .ensures) (first-part c7)) (rw (← c7 .count-of2 .ensures) (second-part c7))

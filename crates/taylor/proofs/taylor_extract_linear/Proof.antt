@@ -24,5 +24,4 @@ returns c =
     )
 
 pub taylor-extract-linear-spec : {M : Type 1} → statement M
-taylor-extract-linear-spec =
-    tie.close (tie.spec extract-linear-requires put-linear-requires returns)
+taylor-extract-linear-spec = tie.close (tie.spec extract-linear-requires put-linear-requires returns)

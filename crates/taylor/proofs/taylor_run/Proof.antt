@@ -23,6 +23,4 @@ returns : tie.Need-returns
 returns c = let e = c .before .before .before .before .before .before .before .run .ensures in (c .word-of-run .ensures ∙ ap wordOfRun (e .0), e .1)
 
 pub taylor-run-spec : {M : Type 1} → statement M
-taylor-run-spec =
-    tie.close
-    (tie.spec run-requires word-of-run-requires same-length same-length-2 same-length-3 returns)
+taylor-run-spec = tie.close (tie.spec run-requires word-of-run-requires same-length same-length-2 same-length-3 returns)

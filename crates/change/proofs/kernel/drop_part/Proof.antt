@@ -32,6 +32,4 @@ returns-2 c =
     (c .before .before .before .before .if1 .left) (c .before .before .kept-rows .ensures)
 
 pub drop-part-spec : {M : Type 1} → statement M
-drop-part-spec =
-    tie.close
-    (tie.spec sum-rows-requires same-length returns kept-rows-requires same-length-2 returns-2)
+drop-part-spec = tie.close (tie.spec sum-rows-requires same-length returns kept-rows-requires same-length-2 returns-2)

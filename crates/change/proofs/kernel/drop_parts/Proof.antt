@@ -68,8 +68,7 @@ loop-less c =
 loop-again : tie.Need-loop-again Inv-loop μ-loop
 loop-again c =
     let c5 = c .before .before .before .before .before in let c6 = c5 .before in
-    let start = c6 .before .before .before in
-    let l = c6 .loop .inv .1 .1 .len in
+    let start = c6 .before .before .before in let l = c6 .loop .inv .1 .1 .len in
     let f = fits c5 in
     let ew : c6 .loop .from + start .args .width - c6 .loop .from ≡ start .args .width = omega arith in
     let es : c6 .loop .at + start .args .step - c6 .loop .at ≡ start .args .step = omega arith in (

@@ -11,8 +11,7 @@ slice-write-out c = let p = c .before .before .before .pre in omega (arith, powe
 
 returns : tie.Need-returns
 returns c =
-    let start = c .before .before .before in
-    let p = start .pre in
+    let start = c .before .before .before in let p = start .pre in
     front-none (start .args .e) (start .args .limits) (lain 0 (start .args .la) (start .args .work .now))
     (start .args .out .now) (c .if1 .taken) (omega (arith, powers-some p, p .out))
 
@@ -26,8 +25,7 @@ keep-requires c κs = let p = c .before .before .before .before .before .before 
 returns-2 : tie.Need-returns-2
 returns-2 c =
     let c5 = c .before .before .before .before .before in let c6 = c5 .before in
-    let start = c6 .before .before .before .before in
-    let p = start .pre in
+    let start = c6 .before .before .before .before in let p = start .pre in
     let h = powers-base p (omega (arith, c6 .if2 .taken)) in
     front-same (start .args .e) (start .args .limits) (start .args .la) (start .args .work .now) (c6 .if2 .taken)
     (c5 .count-of .ensures) (omega (arith, c5 .count-of .ensures, p .work)) (c .before .before .keep .ensures)

@@ -28,5 +28,4 @@ returns c =
     (rw e at (c4 .power-loaded .ensures .0), rw e at (c4 .power-loaded .ensures .1))
 
 pub power-into-spec : {M : Type 1} → statement M
-power-into-spec =
-    tie.close (tie.spec load-base-requires power-loaded-requires same-length same-length-2 returns)
+power-into-spec = tie.close (tie.spec load-base-requires power-loaded-requires same-length same-length-2 returns)

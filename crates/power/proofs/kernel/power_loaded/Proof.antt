@@ -34,8 +34,7 @@ part-clear-start c =
 returns : tie.Need-returns
 returns c =
     let c4 = c .before .before .before .before in let c9 = c4 .before .before .before .before .before in
-    let start = c9 .before .before .before .before .before in
-    let k = c9 .power-front .kept .1 .1 .1 .1 .1 .0 in
+    let start = c9 .before .before .before .before .before in let k = c9 .power-front .kept .1 .1 .1 .1 .1 .0 in
     let o = start .pre .out in (
       c9 .power-front .ensures .lengths,
       ends-padded (start .pre) (start .args .work .now) refl (c9 .power-front .ensures) (k ∙ o) (c4 .count-of .ensures)

@@ -13,8 +13,7 @@ count-of-requires c κs =
 keep-requires : tie.Need-keep-requires
 keep-requires c κs =
     let start = c .before .before .before .before .before .before .before .before .before .before .before .before in
-    let s = start .pre .0 in
-    let h = start .pre .1 in
+    let s = start .pre .0 in let h = start .pre .1 in
     let z =
     made-small s (start .args .work .now) refl
     (c .before .before .before .before .before .before .before .times-front .ensures)

@@ -34,6 +34,4 @@ returns c =
     (start .args .out .now) (start .pre)) refl
 
 pub copied-spec : {M : Type 1} → statement M
-copied-spec =
-    tie.close
-    (tie.spec slice-relend-prefix-copy slice-aggregate-copy copy-requires same-length returns)
+copied-spec = tie.close (tie.spec slice-relend-prefix-copy slice-aggregate-copy copy-requires same-length returns)

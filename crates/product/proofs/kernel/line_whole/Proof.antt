@@ -27,8 +27,7 @@ tests c =
 
 big : (c : tie.Else2) → 1 < count (c .before .before .before .before .before .args .n)
 big c =
-    let start = c .before .before .before .before .before in
-    let t = start .pre .raises in
+    let start = c .before .before .before .before .before in let t = start .pre .raises in
     let one = eqb-false (length (start .args .a .now)) 1 (tests c .0) in
     let full : length (start .args .a .now) ≡ count (start .args .n) = t .full in
     omega (arith, count-pos (raises-lens t))

@@ -45,8 +45,7 @@ zero-to-requires c κs =
 returns : tie.Need-returns
 returns c =
     let c12 = c .before .before .before .before .before .before .before .before .before .before .before .before in
-    let start = c12 .before in
-    let a = start .args in
+    let start = c12 .before in let a = start .args in
     put-stands (zero-put (a .limits) (block (a .la) (a .a .now)) (block (a .lb) (a .b .now))
     (sym (zeros (c .before .before .before .before .before)) ∙ c .before .before .before .before .if1 .taken)
     (c .before .before .zero-to .ensures))
@@ -61,8 +60,7 @@ returns-2 : tie.Need-returns-2
 returns-2 c =
     let c7 = c .before .before .before .before .before .before .before in let c10 = c7 .before .before .before in
     let c11 = c10 .before in let c13 = c11 .before .before in let c14 = c13 .before in
-    let start = c14 .before .before .before .before .before in
-    let a = start .args in
+    let start = c14 .before .before .before .before .before in let a = start .args in
     whole-stands (start .pre) (c14 .cut-to .ensures) (c13 .cut-to2 .ensures) (same-a c7) (same-b c7) (a .a .now)
     (a .b .now) refl refl (sym (zeros c11) ∙ c10 .if1 .left)
     (c .before .before .before .before .product-whole .ensures)
@@ -88,8 +86,7 @@ count-of-requires-2 c κs =
 add-end : tie.Need-add-end
 add-end c =
     let c12 = c .before .before .before .before .before .before .before .before .before .before .before .before in
-    let c13 = c12 .before in let start = c13 .before .before .before .before .before in
-    let p = start .pre in
+    let c13 = c12 .before in let start = c13 .before .before .before .before .before in let p = start .pre in
     omega (arith, c .count-of2 .ensures, times-two p (c13 .cut-to .ensures) (c12 .cut-to2 .ensures) .small-b, p .work, times-small p)
 
 mul-product : tie.Need-mul-product
@@ -111,8 +108,7 @@ returns-3 c =
     let c8 = c .before .before .before .before .before .before .before .before in
     let c11 = c8 .before .before .before in let c16 = c11 .before .before .before .before .before in
     let c17 = c16 .before in let c19 = c17 .before .before in let c20 = c19 .before in
-    let start = c20 .before .before .before .before .before in
-    let a = start .args in
+    let start = c20 .before .before .before .before .before in let a = start .args in
     times-stands (start .pre) (c20 .cut-to .ensures) (c19 .cut-to2 .ensures)
     (c11 .load-two .kept .1 .1 .1 .1 .1 .1 .1 .0) (c8 .count-of .ensures)
     (c .before .before .before .before .before .before .before .count-of2 .ensures) (a .a .now) (a .b .now)

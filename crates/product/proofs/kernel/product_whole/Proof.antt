@@ -16,8 +16,7 @@ line-whole-requires c κs =
 returns : tie.Need-returns
 returns c =
     let c9 = c .before .before .before .before .before .before .before .before .before in
-    let start = c9 .before .before .before .before .before in
-    let a = start .args in
+    let start = c9 .before .before .before .before .before in let a = start .args in
     stands-four (a .limits) (block (a .la) (a .a .now)) (block (a .lb) (a .b .now)) (c9 .choose .result)
     (c9 .choose .ensures) (c .before .before .before .before .before .before .before .if1 .taken)
     (c .before .before .before .before .line-whole .ensures)
@@ -30,8 +29,7 @@ line-whole-requires-2 c κs =
 returns-2 : tie.Need-returns-2
 returns-2 c =
     let c10 = c .before .before .before .before .before .before .before .before .before .before in
-    let start = c10 .before .before .before .before .before in
-    let a = start .args in
+    let start = c10 .before .before .before .before .before in let a = start .args in
     stands-five (a .limits) (block (a .la) (a .a .now)) (block (a .lb) (a .b .now)) (c10 .choose .result)
     (c10 .choose .ensures) (c .before .before .before .before .before .before .before .if2 .taken)
     (c .before .before .before .before .line-whole2 .ensures)
@@ -39,8 +37,7 @@ returns-2 c =
 returns-3 : tie.Need-returns-3
 returns-3 c =
     let c7 = c .before .before .before .before .before .before .before in
-    let start = c7 .before .before .before .before .before in
-    let a = start .args in
+    let start = c7 .before .before .before .before .before in let a = start .args in
     stands-plain (a .limits) (block (a .la) (a .a .now)) (block (a .lb) (a .b .now)) (c7 .choose .result)
     (c7 .choose .ensures) (c .before .before .before .before .before .if1 .left)
     (c .before .before .before .before .if2 .left) (c .before .before .plain .ensures)

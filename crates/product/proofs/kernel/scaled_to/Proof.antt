@@ -32,6 +32,4 @@ returns c =
     ∙ length-take-le _ (start .args .out .now) (start .pre .1)) refl
 
 pub scaled-to-spec : {M : Type 1} → statement M
-scaled-to-spec =
-    tie.close
-    (tie.spec slice-relend-prefix-scale slice-aggregate-scale scale-requires same-length returns)
+scaled-to-spec = tie.close (tie.spec slice-relend-prefix-scale slice-aggregate-scale scale-requires same-length returns)

@@ -77,8 +77,7 @@ loop-less c = omega (arith, c .before .before .before .before .before .before .l
 loop-again : tie.Need-loop-again Inv-loop μ-loop
 loop-again c =
     let start = c .before .before .before .before .before .before .before .before .before .before .before in
-    let a = start .args in
-    let l = c .before .before .before .before .before .before .before .loop in
+    let a = start .args in let l = c .before .before .before .before .before .before .before .loop in
     let f = l .inv .1 .from in (
       omega (arith, c .before .before .before .before .before .before .loop-test .taken),
       paired-more (l .inv .1) (lines-step (a .xs .now) (a .ys .now) (l .row) (a .tx) (a .nx) (a .ty) (a .ny) (a .k)
@@ -91,8 +90,7 @@ same-length c = c .before .loop .inv .1 .len
 returns : tie.Need-returns Inv-loop μ-loop
 unfolding linesOf
 returns c =
-    let start = c .before .before .before .before .before in
-    let f = c .before .loop .inv .1 .from in
+    let start = c .before .before .before .before .before in let f = c .before .loop .inv .1 .from in
     paired-end (start .args .b - start .args .a) (c .before .loop .inv .1)
     (omega (arith, c .before .loop .inv .0, c .loop-test .left))
 

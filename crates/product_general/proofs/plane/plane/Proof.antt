@@ -65,9 +65,7 @@ loop-less c = omega (arith, c .before .before .before .before .before .before .l
 loop-again : tie.Need-loop-again Inv-loop μ-loop
 loop-again c =
     let c6 = c .before .before .before .before .before .before in let c7 = c6 .before in
-    let start = c7 .before .before .before .before in
-    let a = start .args in
-    let l = c7 .loop in
+    let start = c7 .before .before .before .before in let a = start .args in let l = c7 .loop in
     let e : c7 .loop .k * start .args .s + start .args .s - c7 .loop .k * start .args .s ≡ start .args .s = omega arith in (
       omega (arith, c6 .loop-test .taken),
       plane-next (a .xs .now) (a .mx) (a .tx) (a .nx) (a .ys .now) (a .my) (a .ty) (a .ny) (a .s) (l .k) (l .inv .1)
@@ -81,9 +79,7 @@ same-length c = c .before .loop .inv .1 .len
 
 returns : tie.Need-returns Inv-loop μ-loop
 returns c =
-    let start = c .before .before .before .before .before in
-    let a = start .args in
-    let l = c .before .loop in
+    let start = c .before .before .before .before .before in let a = start .args in let l = c .before .loop in
     let e : l .k ≡ a .n = omega (arith, l .inv .0, c .loop-test .left) in
     plane-end (a .xs .now) (a .mx) (a .tx) (a .nx) (a .ys .now) (a .my) (a .ty) (a .ny) (a .s) (l .k) (l .inv .1) (rw e (start .pre .full))
 

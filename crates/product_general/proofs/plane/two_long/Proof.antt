@@ -68,10 +68,8 @@ same-length c = ap length (c .before .before .plane .ensures) ∙ length-table _
 
 returns : tie.Need-returns
 returns c =
-    let start = c .before .before .before .before .before .before .before in
-    let a = start .args in
-    let p = start .pre in
-    let h = p .1 .1 .0 .some in
+    let start = c .before .before .before .before .before .before .before in let a = start .args in
+    let p = start .pre in let h = p .1 .1 .0 .some in
     rows-plane (a .t2) (a .t5) (a .t7) (p .0 .result) (p .1 .1 .0) (p .1 .1 .1) (a .xs .now) (a .ys .now) (a .res .now)
     (stride-at (a .t2) (p .0 .by-x) h) (stride-at (a .t5) (p .0 .by-y) h) (stride-at (a .t7) (p .0 .by-r) h)
     (p .1 .0 .full) (c .before .before .plane .ensures)

@@ -24,6 +24,4 @@ returns-2 : tie.Need-returns-2
 returns-2 c = rw (c .before .before .before .before .if1 .left) (c .before .before .divide-by .ensures)
 
 pub divide-constant-spec : {M : Type 1} → statement M
-divide-constant-spec =
-    tie.close
-    (tie.spec copy-requires same-length returns divide-by-requires same-length-2 returns-2)
+divide-constant-spec = tie.close (tie.spec copy-requires same-length returns divide-by-requires same-length-2 returns-2)

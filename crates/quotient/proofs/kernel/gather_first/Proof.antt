@@ -10,10 +10,7 @@ use Rattle.quotient.proofs.kernel.gather_first.Tie as tie
 
 mul-end : tie.Need-mul-end
 mul-end c = let t = (c .before .before) .pre .1 .1 in
-    let a = t .apart in
-    let m = t .room in
-    let d = t .divisor in
-    let o = t .before in
+    let a = t .apart in let m = t .room in let d = t .divisor in let o = t .before in
     omega (
       arith,
       row-fits ((c .before .before) .pre .0) (c .before .before .args .work .now) ((c .before .before) .pre .1 .1),
@@ -21,10 +18,7 @@ mul-end c = let t = (c .before .before) .pre .1 .1 in
 
 add-end : tie.Need-add-end
 add-end c = let t = (c .before .before) .pre .1 .1 in
-    let a = t .apart in
-    let m = t .room in
-    let d = t .divisor in
-    let o = t .before in
+    let a = t .apart in let m = t .room in let d = t .divisor in let o = t .before in
     omega (
       arith,
       row-fits ((c .before .before) .pre .0) (c .before .before .args .work .now) ((c .before .before) .pre .1 .1),
@@ -32,10 +26,7 @@ add-end c = let t = (c .before .before) .pre .1 .1 in
 
 mul-taken-row : tie.Need-mul-taken-row
 mul-taken-row c = let t = (c .before .before) .pre .1 .1 in
-    let a = t .apart in
-    let m = t .room in
-    let d = t .divisor in
-    let o = t .before in
+    let a = t .apart in let m = t .room in let d = t .divisor in let o = t .before in
     omega (
       arith,
       row-fits ((c .before .before) .pre .0) (c .before .before .args .work .now) ((c .before .before) .pre .1 .1),
@@ -43,62 +34,38 @@ mul-taken-row c = let t = (c .before .before) .pre .1 .1 in
 
 part-taken-row-start : tie.Need-part-taken-row-start
 part-taken-row-start c =
-    let start = c .before .before .before in
-    let t = start .pre .1 .1 in
-    let a = t .apart in
-    let m = t .room in
-    let d = t .divisor in
-    let o = t .before in
+    let start = c .before .before .before in let t = start .pre .1 .1 in let a = t .apart in let m = t .room in
+    let d = t .divisor in let o = t .before in
     omega (arith, row-fits (start .pre .0) (start .args .work .now) (start .pre .1 .1))
 
 part-taken-row-end : tie.Need-part-taken-row-end
 part-taken-row-end c =
-    let start = c .before .before .before in
-    let t = start .pre .1 .1 in
-    let a = t .apart in
-    let m = t .room in
-    let d = t .divisor in
-    let o = t .before in
+    let start = c .before .before .before in let t = start .pre .1 .1 in let a = t .apart in let m = t .room in
+    let d = t .divisor in let o = t .before in
     omega (arith, row-fits (start .pre .0) (start .args .work .now) (start .pre .1 .1))
 
 mul-taken-row-2 : tie.Need-mul-taken-row-2
 mul-taken-row-2 c =
-    let start = c .before .before .before .before in
-    let t = start .pre .1 .1 in
-    let a = t .apart in
-    let m = t .room in
-    let d = t .divisor in
-    let o = t .before in
+    let start = c .before .before .before .before in let t = start .pre .1 .1 in let a = t .apart in let m = t .room in
+    let d = t .divisor in let o = t .before in
     omega (arith, row-fits (start .pre .0) (start .args .work .now) (start .pre .1 .1))
 
 sub-taken-row-2 : tie.Need-sub-taken-row-2
 sub-taken-row-2 c =
-    let start = c .before .before .before .before in
-    let t = start .pre .1 .1 in
-    let a = t .apart in
-    let m = t .room in
-    let d = t .divisor in
-    let o = t .before in
+    let start = c .before .before .before .before in let t = start .pre .1 .1 in let a = t .apart in let m = t .room in
+    let d = t .divisor in let o = t .before in
     omega (arith, row-fits (start .pre .0) (start .args .work .now) (start .pre .1 .1))
 
 part-taken-row-start-2 : tie.Need-part-taken-row-start-2
 part-taken-row-start-2 c =
-    let start = c .before .before .before .before in
-    let t = start .pre .1 .1 in
-    let a = t .apart in
-    let m = t .room in
-    let d = t .divisor in
-    let o = t .before in
+    let start = c .before .before .before .before in let t = start .pre .1 .1 in let a = t .apart in let m = t .room in
+    let d = t .divisor in let o = t .before in
     omega (arith, row-fits (start .pre .0) (start .args .work .now) (start .pre .1 .1))
 
 part-taken-row-end-2 : tie.Need-part-taken-row-end-2
 part-taken-row-end-2 c =
-    let start = c .before .before .before .before in
-    let t = start .pre .1 .1 in
-    let a = t .apart in
-    let m = t .room in
-    let d = t .divisor in
-    let o = t .before in
+    let start = c .before .before .before .before in let t = start .pre .1 .1 in let a = t .apart in let m = t .room in
+    let d = t .divisor in let o = t .before in
     omega (arith, row-fits (start .pre .0) (start .args .work .now) (start .pre .1 .1))
 
 taken-row-requires : tie.Need-taken-row-requires
@@ -160,8 +127,7 @@ copy-requires : tie.Need-copy-requires
 copy-requires c κs =
     let c9 = c .before .before .before .before .before .before .before .before .before in
     let c13 = c9 .before .before .before .before in
-    let start = c13 .before .before .before .before .before .before .before in
-    let m = start .pre .1 .1 .room in
+    let start = c13 .before .before .before .before .before .before .before in let m = start .pre .1 .1 .room in
     let e = first-stride (start .pre .0) (start .pre .1 .0) (start .args .work .now) (start .pre .1 .1) in
     let n =
     c .before .before .before .before .add-dividend .kept .1 .1 .1 .1 .0
@@ -179,8 +145,7 @@ returns : tie.Need-returns
 returns c =
     let c12 = c .before .before .before .before .before .before .before .before .before .before .before .before in
     let c16 = c12 .before .before .before .before in
-    let start = c16 .before .before .before .before .before .before .before in
-    let m = start .pre .1 .1 .room in
+    let start = c16 .before .before .before .before .before .before .before in let m = start .pre .1 .1 .room in
     let e = first-stride (start .pre .0) (start .pre .1 .0) (start .args .work .now) (start .pre .1 .1) in
     first-gathered (start .pre .0) (start .pre .1 .0) (start .args .work .now) (start .pre .1 .1)
     (c16 .taken-row .ensures) (c12 .turn .ensures)

@@ -12,14 +12,10 @@ strides-of-requires-2 : tie.Need-strides-of-requires-2
 strides-of-requires-2 c κs = (c .before .before .before) .pre .result
 
 mul-q : tie.Need-mul-q
-mul-q c =
-    let start = c .before .before .before .before in
-    omega (arith, (start .pre) .work, (start .pre) .out)
+mul-q c = let start = c .before .before .before .before in omega (arith, (start .pre) .work, (start .pre) .out)
 
 mul-p : tie.Need-mul-p
-mul-p c =
-    let start = c .before .before .before .before in
-    omega (arith, (start .pre) .work, (start .pre) .out)
+mul-p c = let start = c .before .before .before .before in omega (arith, (start .pre) .work, (start .pre) .out)
 
 add-each-first : tie.Need-add-each-first
 add-each-first c =
@@ -52,8 +48,7 @@ part-copy-end c =
 copy-requires : tie.Need-copy-requires
 copy-requires c κs =
     let c7 = c .before .before .before .before .before .before .before in
-    let start = c7 .before .before .before .before .before .before .before in
-    let n = c7 .each-first .ensures .len in
+    let start = c7 .before .before .before .before .before .before .before in let n = c7 .each-first .ensures .len in
     let m = c7 .each-first .kept .1 .1 .1 .1 .1 .1 .1 .1 .1 .1 .1 .0 in
     simp (length-take, length-drop) (omega (arith, (start .pre) .work, (start .pre) .out))
 

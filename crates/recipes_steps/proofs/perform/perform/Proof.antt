@@ -90,8 +90,7 @@ add-pad-2 c =
 pad-requires : tie.Need-pad-requires
 pad-requires c κs =
     let c8 = c .before .before .before .before .before .before .before .before in
-    let start = c8 .before .before .before .before .before .before .before .before in
-    let g = start .pre .1 .1 in
+    let start = c8 .before .before .before .before .before .before .before .before in let g = start .pre .1 .1 in
     let l = c .before .before .before .before .before .value-to .kept .1 .1 .1 .1 .1 .1 .1 .1 .1 .1 .0 in
     (omega (arith, fewer c8), omega (arith, g .room, l))
 

@@ -48,5 +48,4 @@ returns : tie.Need-returns
 returns c = rw (part-is (c .before .before .before .before .before)) at (c .before .before .load-row .ensures)
 
 pub row-from-spec : {M : Type 1} → statement M
-row-from-spec =
-    tie.close (tie.spec stored-of-requires operand-requires load-row-requires same-length returns)
+row-from-spec = tie.close (tie.spec stored-of-requires operand-requires load-row-requires same-length returns)

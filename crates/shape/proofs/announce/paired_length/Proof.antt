@@ -15,5 +15,4 @@ returns : tie.Need-returns
 returns c = cc
 
 pub paired-length-spec : {M : Type 1} → statement M
-paired-length-spec =
-    tie.close (tie.spec least-requires least-requires-2 length-after-requires returns)
+paired-length-spec = tie.close (tie.spec least-requires least-requires-2 length-after-requires returns)

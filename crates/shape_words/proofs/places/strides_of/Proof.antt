@@ -30,6 +30,4 @@ unfolding strides span
 returns c = simp mul-one
 
 pub strides-of-spec : {M : Type 1} → statement M
-strides-of-spec =
-    tie.close
-    (tie.spec array-read-s array-read-s-2 mul-s array-read-t6 mul-t9 array-read-t14 returns)
+strides-of-spec = tie.close (tie.spec array-read-s array-read-s-2 mul-s array-read-t6 mul-t9 array-read-t14 returns)

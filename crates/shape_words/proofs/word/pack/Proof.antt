@@ -10,8 +10,7 @@ use Rattle.shape_words.proofs.word.pack.Tie as tie
 
 push-requires-8 : tie.Need-push-requires-8
 push-requires-8 c κs =
-    let start = c .before .before .before .before .before .before .before .before .before in
-    let g = start .pre in
+    let start = c .before .before .before .before .before .before .before .before .before in let g = start .pre in
     let s0 : start .args .h .vars < 8 = omega (arith, g .few) in
     let s1 = step 8 (c .before .before .before .before .before .before .push .ensures) s0 (omega (arith, g .v0)) (g .v0 .most) in
     let s2 = step (2 ^ 9) (c .before .before .before .before .before .push2 .ensures) s1 (g .v0 .pos) (omega (arith, g .v0)) in

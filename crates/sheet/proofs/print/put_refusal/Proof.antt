@@ -21,8 +21,7 @@ put-decimal-requires c κs =
 put-byte-requires : tie.Need-put-byte-requires
 put-byte-requires c κs =
     let c8 = c .before .before .before .before .before .before .before .before in
-    let start = c8 .before .before .before .before in
-    let a = c8 .put-bytes .ensures in
+    let start = c8 .before .before .before .before in let a = c8 .put-bytes .ensures in
     let b = c .before .before .before .put-decimal .ensures in
     omega (
       arith,
@@ -37,8 +36,7 @@ put-decimal-requires-2 : tie.Need-put-decimal-requires-2
 put-decimal-requires-2 c κs =
     let c8 = c .before .before .before .before .before .before .before .before in
     let c13 = c8 .before .before .before .before .before in let start = c13 .before .before .before .before in
-    let a = c13 .put-bytes .ensures in
-    let b = c8 .put-decimal .ensures in
+    let a = c13 .put-bytes .ensures in let b = c8 .put-decimal .ensures in
     let d = c .before .before .before .before .put-byte .ensures in
     omega (
       arith,
@@ -56,10 +54,8 @@ put-byte-requires-2 : tie.Need-put-byte-requires-2
 put-byte-requires-2 c κs =
     let c8 = c .before .before .before .before .before .before .before .before in
     let c12 = c8 .before .before .before .before in let c17 = c12 .before .before .before .before .before in
-    let start = c17 .before .before .before .before in
-    let a = c17 .put-bytes .ensures in
-    let b = c12 .put-decimal .ensures in
-    let d = c8 .put-byte .ensures in
+    let start = c17 .before .before .before .before in let a = c17 .put-bytes .ensures in
+    let b = c12 .put-decimal .ensures in let d = c8 .put-byte .ensures in
     let e = c .before .before .before .put-decimal2 .ensures in
     omega (
       arith,
@@ -80,9 +76,7 @@ unfolding refusedText
 returns c =
     let c11 = c .before .before .before .before .before .before .before .before .before .before .before in
     let c15 = c11 .before .before .before .before in let c20 = c15 .before .before .before .before .before in
-    let a = c20 .put-bytes .ensures in
-    let b = c15 .put-decimal .ensures in
-    let d = c11 .put-byte .ensures in
+    let a = c20 .put-bytes .ensures in let b = c15 .put-decimal .ensures in let d = c11 .put-byte .ensures in
     let e = c .before .before .before .before .before .before .put-decimal2 .ensures in
     simp append-assoc at (put-then (put-then (put-then (put-then a b) d) e) (c .before .before .put-byte2 .ensures))
 

@@ -49,8 +49,7 @@ returns : tie.Need-returns
 returns c =
     let c4 = c .before .before .before .before in let c9 = c4 .before .before .before .before .before in
     let start = c9 .before .before .before .before .before .before .before in
-    let k = c9 .substitute-front .kept .1 .1 .1 .1 .1 .1 .1 .0 in
-    let o = start .pre .out in
+    let k = c9 .substitute-front .kept .1 .1 .1 .1 .1 .1 .1 .0 in let o = start .pre .out in
     let s =
     into-small (start .pre) (start .args .a .now) (start .args .b .now) refl (c9 .substitute-front .ensures)
     (c4 .count-of .ensures) in (

@@ -19,5 +19,4 @@ returns-2 : tie.Need-returns-2
 returns-2 c = rw (c .before .before .r2 .given .1) (c .refusal-word .ensures, (refl, (refl, refl)))
 
 pub put-totals-spec : {M : Type 1} → statement M
-put-totals-spec =
-    tie.close (tie.spec enum-known-r enum-known-r-2 refusal-word-requires returns returns-2)
+put-totals-spec = tie.close (tie.spec enum-known-r enum-known-r-2 refusal-word-requires returns returns-2)

@@ -18,5 +18,4 @@ returns-2 : tie.Need-returns-2
 returns-2 c = rw (c .before .before .r .given .1) (c .refusal-word .ensures)
 
 pub word-of-run-spec : {M : Type 1} → statement M
-word-of-run-spec =
-    tie.close (tie.spec enum-told enum-known-r refusal-word-requires returns returns-2)
+word-of-run-spec = tie.close (tie.spec enum-told enum-known-r refusal-word-requires returns returns-2)
