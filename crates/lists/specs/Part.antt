@@ -116,7 +116,9 @@ module _ {A : Type 0} where
       record {
         below = record { len = simp (length-append, length-take, length-drop) (omega (arith, l)); head = take-at (take p w) (xs ++ rest) p lp };
         holds = ap (λ (j : ℕ). take j (drop p (take p w ++ (xs ++ rest)))) m ∙ (ap (take n) d ∙ (take-at xs rest n l ∙ (e ∙ ap (λ (j : ℕ). take j ys) f)));
-        above = sym (drop-drop n p (take p w ++ (xs ++ rest))) ∙ (ap (drop n) d ∙ (drop-at xs rest n l ∙ (drop-drop q p w ∙ ap (λ (j : ℕ). drop (p + j) w) e')));
+        above =
+            sym (drop-drop n p (take p w ++ (xs ++ rest)))
+            ∙ (ap (drop n) d ∙ (drop-at xs rest n l ∙ (drop-drop q p w ∙ ap (λ (j : ℕ). drop (p + j) w) e')));
       }
 
   -- the one place of a list, stored
