@@ -39,8 +39,8 @@ fn load_pair<'a>(
         ∗ ⌜ xf + stored x ≤ length (source xi (now coefficients) (now pool)) ⌝
         ∗ ⌜ yf + stored y ≤ length (source yi (now coefficients) (now pool)) ⌝ }
     ensures zero { λ r.
-        ⌜ r ≡ (isZero (blockOf (lying xi (now (coefficients .entry)) (now (pool .entry)) xf x)) || isZero
-        (blockOf (lying yi (now (coefficients .entry)) (now (pool .entry)) yf y))) ⌝ }
+        ⌜ r ≡ (isZero (blockOf (lying xi (now (coefficients .entry)) (now (pool .entry)) xf x))
+        || isZero (blockOf (lying yi (now (coefficients .entry)) (now (pool .entry)) yf y))) ⌝ }
     ensures holds { λ r.
         ⌜ Holds n (cutPlaces (x .lengths) (cutTo limits (x .lengths))
         (lying xi (now (coefficients .entry)) (now (pool .entry)) xf x .coeffs))

@@ -15,8 +15,8 @@ use Rattle.product.proofs.kernel.multiply_front.Tie as tie
 zeros : (c : tie.After-is-zero2) →
     let start = c .before .before .before .before .before .before .before .before in
     (c .before .is-zero .result || c .is-zero2 .result)
-    ≡ (isZero (block (start .args .la) (start .args .a .now)) || isZero
-    (block (start .args .lb) (start .args .b .now)))
+    ≡ (isZero (block (start .args .la) (start .args .a .now))
+    || isZero (block (start .args .lb) (start .args .b .now)))
 zeros c =
     let a = (c .before .before .before .before .before .before .before .before) .args in
     zero-is (block (a .la) (a .a .now)) (block (a .lb) (a .b .now)) (c .before .is-zero .ensures) (c .is-zero2 .ensures)

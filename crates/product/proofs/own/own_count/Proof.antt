@@ -11,8 +11,8 @@ use Rattle.product.proofs.own.own_count.Statement.{statement}
 use Rattle.product.proofs.own.own_count.Tie as tie
 
 tested : (c : tie.Else1)
-    → ((c .before .before .is-good .result && c .before .keeps-header .result) && eqb
-    (c .before .before .before .before .before .args .bh % 2 ^ 13) 0) ≡ true
+    → ((c .before .before .is-good .result && c .before .keeps-header .result)
+    && eqb (c .before .before .before .before .before .args .bh % 2 ^ 13) 0) ≡ true
 tested c = not-false _ (rw (and-mask (c .before .before .before .before .before .args .bh) 13) at (c .if1 .left))
 
 returns : tie.Need-returns
