@@ -14,7 +14,7 @@ ghost use mathlib.Core.List.{map, _++_};
 ghost use Prim.Native.Nat.{_+_, _≤_};
 ghost use lib.ListN.{length, take, drop};
 ghost use Rattle.lists.specs.Part.{Kept};
-ghost use Rattle.model.specs.Word.{headerOf, wordOf};
+ghost use Rattle.model.specs.Word.{wordOf};
 ghost use Rattle.model.specs.Refusals.{padded};
 ghost use Rattle.model_recipes.specs.Recipe.{inputHeads, announcedSteps, total};
 ghost use Rattle.model_recipes.specs.Run.{stepValues, laid};
