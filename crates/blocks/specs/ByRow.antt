@@ -1,8 +1,8 @@
 -- A loop that fills a block with f row by row; and the rows that `load_rows` and `join_rows` make.
 use Prim.Native.Nat.{ℕ, _+_, _-_, _≤_, _<_}
 use mathlib.Core.List.{List, _++_}
-use mathlib.Core.Bool.{Bool, true, false, cond}
-use mathlib.Core.Path.{_≡_, refl, sym, ap, _∙_}
+use mathlib.Core.Bool.{Bool, true, false}
+use mathlib.Core.Path.{_≡_, sym, ap, _∙_}
 use native.Mathlib.Omega.{arith}
 use native.Mathlib.Nat.{le-refl}
 use lib.Dec.{ltb}
@@ -10,17 +10,18 @@ use lib.ListN.{length, getD, take, drop, length-take, length-drop}
 use lib.Seq.{getD-drop, getD-take, drop-drop}
 use borrow.Rule.Slice.PartMut.{putMid}
 use lib.Ieee.{Float, nan}
-use borrow.Author.Tests.{lt-ltb, le-ltb, ltb-true, ltb-false}
+use borrow.Author.Tests.{ltb-true, ltb-false}
 use Rattle.lists.specs.Test.{decide}
 use Rattle.lists.specs.Four.{at, four}
 use Rattle.lists.specs.Table.{table, table-same, table-all, Filled, filled-none}
 use Rattle.model.specs.Header.{count}
 use Rattle.model.specs.Places.{place, index, inside}
 use Rattle.model.specs.Poly.{block, readAt}
-use Rattle.model.specs.Add.{join, joinAt}
+use Rattle.model.specs.Add.{joinAt}
 use Rattle.shape_words.specs.Lengths.{Sizes, Inside, RowAt, inside-is, is-inside}
-use Rattle.blocks.specs.Fill.{filled-row, filled-rest, filled-all, part-table}
-use Rattle.blocks.specs.Rows.{AtRow, at-first, at-next, at-row, row-fits, alongRow, index-row, place-row, along-fits, CuttingRows, JoiningRows, inner-inside, lineJoined}
+use Rattle.lists.specs.Fill.{filled-row, filled-rest, filled-all, part-table}
+use Rattle.blocks.specs.Rows.{AtRow, at-first, at-next, at-row, row-fits, alongRow, index-row, place-row}
+use Rattle.blocks.specs.Rows.{along-fits, CuttingRows, JoiningRows, inner-inside, lineJoined}
 
 -- the rows before the place p are done, and i is the index of p
 pub record ByRow (c : List ℕ) (f : ℕ → Float) (d out : List Float) (p : ℕ) (i : List ℕ) : Type 0 where
@@ -42,7 +43,8 @@ module _ {c : List ℕ} {f : ℕ → Float} {d : List Float} (g : Sizes c) (full
   pub by-put : {out row : List Float} {p m : ℕ} {i j : List ℕ} → ByRow c f d out p i → p < count c → m ≡ at c 3 → row ≡ table (at c 3) (λ k. f (p + k))
       → j ≡ index c (place c i + at c 3) → ByRow c f d (putMid p m out row) (p + at c 3) j
   by-put {out} {row} {p} {m} {i} {j} b h e r k =
-      let q : putMid p m out row ≡ take p out ++ (row ++ drop (p + at c 3) out) = rw e (ap (λ (l : List Float). take p out ++ (row ++ l)) (drop-drop (at c 3) p out)) in
+      let q : putMid p m out row ≡ take p out ++ (row ++ drop (p + at c 3) out) =
+      rw e (ap (λ (l : List Float). take p out ++ (row ++ l)) (drop-drop (at c 3) p out)) in
       rw q (by-more b h r k)
 
   pub by-end : {out : List Float} {p : ℕ} {i : List ℕ} → ByRow c f d out p i → count c ≤ p → out ≡ table (count c) f
@@ -55,7 +57,8 @@ module _ {c : List ℕ} {f : ℕ → Float} {d : List Float} (g : Sizes c) (full
   by-len b = b .done .len ∙ full
 
 -- a row that is cut out of a block with greater lengths
-module _ (n c : List ℕ) (a d : List Float) (q : CuttingRows n c (length a) (length d)) {out : List Float} {p : ℕ} {i : List ℕ} (b : ByRow c (λ k. readAt (block n a) (index c k)) d out p i) (h : p < count c) where
+module _ (n c : List ℕ) (a d : List Float) (q : CuttingRows n c (length a) (length d)) {out : List Float} {p : ℕ}
+    {i : List ℕ} (b : ByRow c (λ k. readAt (block n a) (index c k)) d out p i) (h : p < count c) where
   pub cut-begins : RowAt c i
   cut-begins = at-row (q .to) (b .row) h
 
@@ -68,7 +71,8 @@ module _ (n c : List ℕ) (a d : List Float) (q : CuttingRows n c (length a) (le
   pub cut-row : {row : List Float} → row ≡ take (at c 3) (drop (place n i) a) → row ≡ table (at c 3) (λ k. readAt (block n a) (index c (p + k)))
   cut-row e =
       e ∙ (part-table nan a (place n i) (at c 3) cut-from
-      ∙ table-same _ _ (at c 3) (λ k l. ap (λ (x : ℕ). getD a x nan) (sym (place-row n i k (cut-begins .begins)) ∙ ap (place n) (sym (index-row k (b .row) l)))))
+      ∙ table-same _ _ (at c 3) (λ k l. ap (λ (x : ℕ). getD a x nan)
+      (sym (place-row n i k (cut-begins .begins)) ∙ ap (place n) (sym (index-row k (b .row) l)))))
 
 -- a row that was joined
 module _ (minus : Bool) (n r : List ℕ) (a d : List Float) (q : JoiningRows n r (length a) (length d)) {out : List Float} {p : ℕ} {i : List ℕ}

@@ -1,17 +1,17 @@
 -- The sum of two blocks by its three ways.
-use Prim.Native.Nat.{ℕ, zero, suc, _+_, _*_, _≤_, _<_, max}
+use Prim.Native.Nat.{ℕ, _+_, _<_, max}
 use mathlib.Core.List.{List}
-use mathlib.Core.Bool.{Bool, true, false, cond}
-use mathlib.Core.Path.{_≡_, refl, sym, ap, _∙_}
+use mathlib.Core.Bool.{Bool, true, false}
+use mathlib.Core.Path.{_≡_, sym, ap, _∙_}
 use native.Mathlib.Omega.{arith}
-use lib.Dec.{eqb, lit<}
-use lib.ListN.{length, getD, set, take, length-set}
-use lib.Seq.{take-all, take-length}
+use lib.Dec.{lit<}
+use lib.ListN.{length, getD, set, take}
+use lib.Seq.{take-length}
 use lib.Ieee.{Float, nan}
 use borrow.Author.Tests.{eq-eqb, ne-eqb}
-use Rattle.lists.specs.Four.{at, four, at-four}
-use Rattle.lists.specs.Table.{table, table-same, table-at, length-table}
-use Rattle.model.specs.Header.{count, span}
+use Rattle.lists.specs.Four.{at}
+use Rattle.lists.specs.Table.{table, table-same, table-at}
+use Rattle.model.specs.Header.{count}
 use Rattle.model.specs.Limits.{maxShape}
 use Rattle.model.specs.Places.{index, inside}
 use Rattle.model.specs.Poly.{Block, block}
@@ -89,10 +89,12 @@ module _ (minus : Bool) (r : List ℕ) (a b : Block) where
   way-both e f = simp (ne-eqb _ _ e, ne-eqb _ _ f)
 
   -- the third by two passes over zeros
-  pub two-passes : (t : List Float) {u v w : List Float} → length t ≡ count r → u ≡ zeros (length t) → v ≡ table (count r) (λ k. joinAt false (getD u k nan) a (index r k))
+  pub two-passes : (t : List Float) {u v w : List Float} → length t ≡ count r → u ≡ zeros (length t)
+      → v ≡ table (count r) (λ k. joinAt false (getD u k nan) a (index r k))
       → w ≡ table (count r) (λ k. joinAt minus (getD v k nan) b (index r k)) → w ≡ table (count r) (placeJoined minus a b r)
   two-passes t {u} {v} l z x y =
-      let o : (k : ℕ) → k < count r → getD u k nan ≡ zeroF = λ k h. ap (λ (s : List Float). getD s k nan) z ∙ table-at nan (λ j. zeroF) (length t) k (omega arith) in
+      let o : (k : ℕ) → k < count r → getD u k nan ≡ zeroF =
+      λ k h. ap (λ (s : List Float). getD s k nan) z ∙ table-at nan (λ j. zeroF) (length t) k (omega arith) in
       let p : (k : ℕ) → k < count r → getD v k nan ≡ joinAt false zeroF a (index r k) =
       λ k h. ap (λ (s : List Float). getD s k nan) x ∙ (table-at nan _ (count r) k h ∙ ap (λ (s : Float). joinAt false s a (index r k)) (o k h)) in
       y ∙ table-same _ _ (count r) (λ k h. ap (λ (s : Float). joinAt minus s b (index r k)) (p k h))
@@ -108,12 +110,19 @@ unfolding maxShape
 same-right e = record { s0 = omega (arith, e .s0); s1 = omega (arith, e .s1); s2 = omega (arith, e .s2); s3 = omega (arith, e .s3) }
 
 -- each place is then stored at its own place
-same-join : (minus : Bool) (x : Float) (n r : List ℕ) (a : List Float) (k : ℕ) → Same n r → Lengths r → k < count r → join minus x (getD a k nan) ≡ joinAt minus x (block n a) (index r k)
+same-join : (minus : Bool) (x : Float) (n r : List ℕ) (a : List Float) (k : ℕ) → Same n r → Lengths r → k < count r
+    → join minus x (getD a k nan) ≡ joinAt minus x (block n a) (index r k)
 unfolding joinAt
 same-join minus x n r a k e g h =
     let i : List ℕ = index r k in
     let t = index-inside r k g h in
-    let u : inside n i ≡ true = is-inside (record { i0 = omega (arith, e .s0, t .i0); i1 = omega (arith, e .s1, t .i1); i2 = omega (arith, e .s2, t .i2); i3 = omega (arith, e .s3, t .i3) }) in
+    let u : inside n i ≡ true =
+    is-inside (record {
+      i0 = omega (arith, e .s0, t .i0);
+      i1 = omega (arith, e .s1, t .i1);
+      i2 = omega (arith, e .s2, t .i2);
+      i3 = omega (arith, e .s3, t .i3);
+    }) in
     rw (u, same-place e k)
 
 -- (0 + x) + y, or (0 + x) - y, place by place
@@ -127,7 +136,8 @@ one-pass minus n m r a b q s e =
     let y : Same m r = rw (q .shape) (same-right (same-is n m s)) in
     e
     ∙ (ap (λ (l : ℕ). table l (lineSum minus a b)) (q .full)
-    ∙ table-same _ _ (count r) (λ k h. same-join minus _ m r b k y (q .result) h ∙ ap (λ (z : Float). joinAt minus z (block m b) (index r k)) (same-join false zeroF n r a k x (q .result) h)))
+    ∙ table-same _ _ (count r) (λ k h. same-join minus _ m r b k y (q .result) h
+    ∙ ap (λ (z : Float). joinAt minus z (block m b) (index r k)) (same-join false zeroF n r a k x (q .result) h)))
 
 pub one-fits : {n m r : List ℕ} {la lb lt : ℕ} → Combining n m r la lb lt → sameLengths n m ≡ true → (la ≡ lt) × (lb ≡ lt)
 one-fits {n} {m} {r} q s =
@@ -136,7 +146,8 @@ one-fits {n} {m} {r} q s =
     (q .full-a ∙ (same-count x ∙ sym (q .full)), q .full-b ∙ (same-count y ∙ sym (q .full)))
 
 -- a copy with its first place set
-pub first-set : (minus : Bool) (a b t : List Float) {o : List Float} {x : Float} → o ≡ take (length t) a → length t ≡ length a → x ≡ join minus (getD a 0 nan) (getD b 0 nan)
+pub first-set : (minus : Bool) (a b t : List Float) {o : List Float} {x : Float} → o ≡ take (length t) a
+    → length t ≡ length a → x ≡ join minus (getD a 0 nan) (getD b 0 nan)
     → set o 0 x ≡ firstJoined minus a b
 first-set minus a b t e l f = rw (e, l, take-length a, f)
 

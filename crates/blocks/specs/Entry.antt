@@ -1,9 +1,10 @@
--- What an entry shows at its two returns, whatever the operation: refused, and done with the front of each buffer written.
-use Prim.Native.Nat.{ℕ, _+_, _-_, _*_, _≤_}
-use mathlib.Core.List.{List, [], _∷_, _++_, append-nil}
-use mathlib.Core.Path.{_≡_, refl, sym, ap, _∙_}
+-- What an entry shows at its two returns, whatever the operation: refused, and done with the front of each buffer
+-- written.
+use Prim.Native.Nat.{ℕ, _+_, _-_, _*_}
+use mathlib.Core.List.{List, _++_, append-nil}
+use mathlib.Core.Path.{_≡_, sym, ap, _∙_}
 use native.Mathlib.Omega.{arith}
-use lib.ListN.{length, take, drop}
+use lib.ListN.{length, drop}
 use lib.Seq.{drop-at}
 use lib.Ieee.{Float}
 use borrow.Author.Tests.{eq-eqb, ne-eqb}
@@ -41,12 +42,14 @@ module _ {r g : Refusal} (e : r ≡ g) (h : Header) (p : Poly) where
     done-answer k = simp (eq-eqb _ _ passes) (ap Done k)
 
     -- the announced places were written
-    pub done-out : (old : List Float) {n : ℕ} {front : List Float} → n ≡ stored h → front ≡ p .coeffs ++ zeros (n - length (p .coeffs)) → front ++ drop n old ≡ outAfter g h p old
+    pub done-out : (old : List Float) {n : ℕ} {front : List Float} → n ≡ stored h
+        → front ≡ p .coeffs ++ zeros (n - length (p .coeffs)) → front ++ drop n old ≡ outAfter g h p old
     unfolding leaves written
     done-out old k f = simp (eq-eqb _ _ passes) (rw (f, k))
 
     -- and the answer fills them all
-    pub done-full : (old : List Float) {n : ℕ} {front : List Float} → n ≡ stored h → front ≡ p .coeffs → length front ≡ n → front ++ drop n old ≡ outAfter g h p old
+    pub done-full : (old : List Float) {n : ℕ} {front : List Float} → n ≡ stored h → front ≡ p .coeffs
+        → length front ≡ n → front ++ drop n old ≡ outAfter g h p old
     unfolding table
     done-full old {n} {front} k f l =
         let q : n - length (p .coeffs) ≡ 0 = rw (← f) (omega arith) in

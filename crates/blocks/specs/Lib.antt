@@ -1,4 +1,3 @@
-pub mod Fill
 pub mod Rows
 pub mod ByRow
 pub mod Merge

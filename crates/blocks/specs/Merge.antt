@@ -1,4 +1,5 @@
--- Two blocks whose last variable is as long in both, with their last two variables taken as one: the same places, in longer rows.
+-- Two blocks whose last variable is as long in both, with their last two variables taken as one: the same places, in
+-- longer rows.
 use Prim.Native.Nat.{ℕ, _+_, _*_, _≤_, _<_}
 use mathlib.Core.List.{List, [], _∷_}
 use mathlib.Core.Bool.{Bool, true, false, true≢false}
@@ -122,7 +123,8 @@ module _ {n c m d : List ℕ} (x : Merged n c m d) where
       ∙ table-same _ _ (count c) (λ k l. ap (λ (p : ℕ). getD a p nan) (x .reads k l))
 
   pub join-merged : (minus : Bool) (a old : List Float)
-      → table (count d) (λ k. joinAt minus (getD old k nan) (block m a) (index d k)) ≡ table (count c) (λ k. joinAt minus (getD old k nan) (block n a) (index c k))
+      → table (count d) (λ k. joinAt minus (getD old k nan) (block m a) (index d k))
+      ≡ table (count c) (λ k. joinAt minus (getD old k nan) (block n a) (index c k))
   unfolding joinAt
   join-merged minus a old =
       ap (λ (z : ℕ). table z (λ k. joinAt minus (getD old k nan) (block m a) (index d k))) (x .as-long)

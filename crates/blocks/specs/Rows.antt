@@ -1,21 +1,20 @@
 -- Going through a block row by row: a row is the places that differ in the last variable alone.
 use Prim.Native.Nat.{ℕ, suc, _+_, _-_, _*_, _/_, _%_, _≤_, _<_}
 use mathlib.Core.List.{List, [], _∷_}
-use mathlib.Core.Bool.{Bool, true, false, _&&_, cond}
-use mathlib.Core.Path.{_≡_, refl, sym, ap, _∙_}
+use mathlib.Core.Bool.{Bool, cond}
+use mathlib.Core.Path.{_≡_, sym, ap, _∙_}
 use native.Mathlib.Omega.{arith}
-use native.Mathlib.Nat.{mul-one, mul-assoc, div-add-mod', add-mul, mul-le-mul-right, div-lt-iff-lt-mul, add-zero, add-assoc}
+use native.Mathlib.Nat.{mul-assoc, div-add-mod', mul-le-mul-right, div-lt-iff-lt-mul, add-zero, mul-le-mul}
 use lib.Arith.{digits-mod, digits-div}
 use lib.Dec.{ltb, lit<}
 use lib.ListN.{length, getD}
 use lib.Ieee.{Float, nan}
 use Rattle.lists.specs.Four.{at, four}
-use Rattle.lists.specs.Table.{table, table-same}
-use Rattle.model.specs.Header.{count, span}
+use Rattle.model.specs.Header.{count}
 use Rattle.model.specs.Places.{place, index, inside}
-use Rattle.model.specs.Poly.{Block, block, readAt}
-use Rattle.model.specs.Add.{join, joinAt}
-use Rattle.shape_words.specs.Lengths.{Lengths, Sizes, Inside, RowAt, count-is, inside-four, inside-at}
+use Rattle.model.specs.Poly.{block}
+use Rattle.model.specs.Add.{join}
+use Rattle.shape_words.specs.Lengths.{Lengths, Sizes, Inside, RowAt, count-is}
 use Rattle.shape_words.specs.Places.{place-lt, index-within, place-index, horner}
 
 -- a block with the lengths n holds one with the lengths c
@@ -25,10 +24,18 @@ pub record Inner (n c : List ℕ) : Type 0 where
   pub c2 : at c 2 ≤ at n 2
   pub c3 : at c 3 ≤ at n 3
 
+pub inner-of : {n c : List ℕ} → ((k : ℕ) → k < 4 → at c k ≤ at n k) → Inner n c
+inner-of h = record { c0 = h 0 (lit< tt); c1 = h 1 (lit< tt); c2 = h 2 (lit< tt); c3 = h 3 (lit< tt) }
+
+-- lengths that are no greater have no greater count
+pub count-inner : {n c : List ℕ} → Inner n c → count c ≤ count n
+count-inner {n} {c} i = rw (count-is n, count-is c) (mul-le-mul (i .c0) (mul-le-mul (i .c1) (mul-le-mul (i .c2) (i .c3))))
+
 pub inner-inside : {n c i : List ℕ} → Inner n c → Inside c i → Inside n i
 inner-inside h t = record { i0 = omega arith; i1 = omega arith; i2 = omega arith; i3 = omega arith }
 
--- what a loop over the rows of a block with the lengths c has come to: the row that begins at the place p, with the index i
+-- what a loop over the rows of a block with the lengths c has come to: the row that begins at the place p, with the
+-- index i
 pub record AtRow (c : List ℕ) (p : ℕ) (i : List ℕ) : Type 0 where
   pub is : i ≡ index c p
   pub begins : p % at c 3 ≡ 0
@@ -56,7 +63,8 @@ module _ {c : List ℕ} (g : Sizes c) where
   unfolding index
   at-first =
       let e : (m : ℕ) → 0 ≡ 0 * m + 0 = λ m. omega arith in
-      let z : (m : ℕ) → 0 < m → (0 / m ≡ 0) × (0 % m ≡ 0) = λ m h. (ap (λ (x : ℕ). x / m) (e m) ∙ digits-div 0 h, ap (λ (x : ℕ). x % m) (e m) ∙ digits-mod 0 h) in
+      let z : (m : ℕ) → 0 < m → (0 / m ≡ 0) × (0 % m ≡ 0) =
+      λ m h. (ap (λ (x : ℕ). x / m) (e m) ∙ digits-div 0 h, ap (λ (x : ℕ). x % m) (e m) ∙ digits-mod 0 h) in
       let a = z (at c 3) (g .p3) in
       let b = z (at c 2) (g .p2) in
       let d = z (at c 1) (g .p1) in

@@ -147,10 +147,12 @@ pub fn load(a: &[f64], n: [usize; 4], c: [usize; 4], to: &mut [f64])
     load_rows(a, m, d, to);
 }
 
-// One row of a block with greater lengths, from the index i on, joined with what a block with the lengths n stores there.
+// One row of a block with greater lengths, from the index i on, joined with what a block with the lengths n stores
+// there.
 fn join_row(minus: bool, a: &[f64], n: [usize; 4], i: [usize; 4], to: &mut [f64])
     requires { ⌜ Sizes n ⌝ ∗ ⌜ (count n ≤ length (now a)) × (at n 3 ≤ length (now to)) ⌝ ∗ ⌜ at i 3 ≡ 0 ⌝ }
-    ensures { λ _. ⌜ now (to .exit) ≡ table (length (now (to .entry))) (λ k. joinAt minus (getD (now (to .entry)) k nan) (block n (now (a .entry))) (alongRow i k)) ⌝ }
+    ensures { λ _. ⌜ now (to .exit) ≡ table (length (now (to .entry)))
+        (λ k. joinAt minus (getD (now (to .entry)) k nan) (block n (now (a .entry))) (alongRow i k)) ⌝ }
 {
     if shape_words::places::is_inside(n, i) {
         let from = shape_words::places::place_of(n, i);
@@ -242,7 +244,8 @@ fn join_both(
     join_block(minus, b, m, r, to);
 }
 
-// The sum or the difference of two blocks that are cut already, with the lengths n and m; r are the lengths of the result.
+// The sum or the difference of two blocks that are cut already, with the lengths n and m; r are the lengths of the
+// result.
 pub fn combine(
     minus: bool,
     a: &[f64],
@@ -266,7 +269,8 @@ pub fn combine(
     join_both(minus, a, n, b, m, r, to);
 }
 
-// Two operands with the lengths la and lb, cut to the lengths ca and cb: one at the front of `work`, the other from n on.
+// Two operands with the lengths la and lb, cut to the lengths ca and cb: one at the front of `work`, the other from n
+// on.
 pub fn load_two(
     a: &[f64],
     la: [usize; 4],

@@ -15,7 +15,7 @@ use Rattle.lists.specs.Test.{decide}
 use Rattle.lists.specs.Table.{table, Filled, length-front, table-same}
 use Rattle.lists.specs.Walk.{walk-same}
 use Rattle.model.specs.Refusals.{zeroF}
-use Rattle.blocks.specs.Fill.{part-table}
+use Rattle.lists.specs.Fill.{part-table}
 use Rattle.product_linear.specs.Raised.{Along}
 use Rattle.change.specs.Room.{PartRoom}
 use Rattle.change_sums.specs.Sums.{sumAt, frontAt}
@@ -34,13 +34,17 @@ droppedFlat all s m width step xs p = droppedAt all s m (drop (p / step * width)
 -- ---- one part
 
 module _ (s m : ℕ) (a : List Float) where
-  pub kept-start : (to : List Float) {k : ℕ} {f : List Float} → f ≡ table k (frontAt k m a) → k ≡ s → s ≤ length to → Filled s (keptAt s m a) to (f ++ drop s to)
+  pub kept-start : (to : List Float) {k : ℕ} {f : List Float} → f ≡ table k (frontAt k m a) → k ≡ s → s ≤ length to
+      → Filled s (keptAt s m a) to (f ++ drop s to)
   kept-start to {k} {f} e ek h =
-      let t : f ≡ table s (keptAt s m a) = e ∙ (ap (λ (x : ℕ). table x (frontAt x m a)) ek ∙ table-same (frontAt s m a) (keptAt s m a) s (λ i l. simp (lt-ltb _ _ l))) in
+      let t : f ≡ table s (keptAt s m a) =
+      e ∙ (ap (λ (x : ℕ). table x (frontAt x m a)) ek
+      ∙ table-same (frontAt s m a) (keptAt s m a) s (λ i l. simp (lt-ltb _ _ l))) in
       let q = ap (λ (y : List Float). y ++ drop s to) t in
       record { len = ap length q ∙ length-front (keptAt s m a) s to h; is = q }
 
-  pub kept-rest : (l q w : ℕ) {next : ℕ} {o : List Float} → o ≡ take l (take q (drop next a)) → l ≡ w → q ≡ w → next ≡ m * s + s → next + w ≤ length a → o ≡ table w (λ k. keptAt s m a (s + k))
+  pub kept-rest : (l q w : ℕ) {next : ℕ} {o : List Float} → o ≡ take l (take q (drop next a)) → l ≡ w → q ≡ w
+      → next ≡ m * s + s → next + w ≤ length a → o ≡ table w (λ k. keptAt s m a (s + k))
   kept-rest l q w {next} e el eq en h =
       e ∙ (rw (el, eq) (take-take w w (drop next a) (le-refl w) ∙ (part-table nan a next w h ∙ table-same _ _ w (λ k g.
       let b : s ≤ s + k = omega arith in
@@ -69,12 +73,17 @@ dropped-part false s m w t k ys g h =
     (λ b. let y = sum-part s m k w ys (ltb-true k s b) (omega arith) in rw (b, x, y))
     (λ b. rw (b, x))
 
-pub part-is : {all : Bool} {s m width step from at' : ℕ} → PartRoom all s m width step → Along width step from at' → (xs : List Float) {row o : List Float} {z k : ℕ}
-    → row ≡ take z (drop from xs) → z ≡ width → o ≡ table k (droppedAt all s m row) → k ≡ step → o ≡ table step (λ j. droppedFlat all s m width step xs (at' + j))
+pub part-is : {all : Bool} {s m width step from at' : ℕ} → PartRoom all s m width step → Along width step from at'
+    → (xs : List Float) {row o : List Float} {z k : ℕ}
+    → row ≡ take z (drop from xs) → z ≡ width → o ≡ table k (droppedAt all s m row) → k ≡ step
+    → o ≡ table step (λ j. droppedFlat all s m width step xs (at' + j))
 part-is {all} {s} {m} {width} {step} {from} {at'} g a xs {row} {o} {z} er ez eo ek =
-    eo ∙ (ap (λ (x : ℕ). table x (droppedAt all s m row)) ek ∙ table-same (droppedAt all s m row) (λ j. droppedFlat all s m width step xs (at' + j)) step (λ j h.
+    eo ∙ (ap (λ (x : ℕ). table x (droppedAt all s m row)) ek
+    ∙ table-same (droppedAt all s m row) (λ j. droppedFlat all s m width step xs (at' + j)) step (λ j h.
     let d : (at' + j) / step ≡ a .turns = ap (λ (x : ℕ). (x + j) / step) (a .is-at) ∙ digits-div (a .turns) h in
     let r : (at' + j) % step ≡ j = ap (λ (x : ℕ). (x + j) % step) (a .is-at) ∙ digits-mod (a .turns) h in
     let f : from ≡ (at' + j) / step * width = a .is-from ∙ ap (λ (x : ℕ). x * width) (sym d) in
     ap (λ (l : List Float). droppedAt all s m l j) (er ∙ ap (λ (x : ℕ). take x (drop from xs)) ez)
-    ∙ (dropped-part all s m width step j (drop from xs) g h ∙ (ap (λ (x : ℕ). droppedAt all s m (drop x xs) j) f ∙ ap (droppedAt all s m (drop ((at' + j) / step * width) xs)) (sym r)))))
+    ∙ (dropped-part all s m width step j (drop from xs) g h
+    ∙ (ap (λ (x : ℕ). droppedAt all s m (drop x xs) j) f
+    ∙ ap (droppedAt all s m (drop ((at' + j) / step * width) xs)) (sym r)))))

@@ -1,4 +1,5 @@
--- A place in three parts: the variables before v, the number of v, the variables after it. Rows of v that become more or fewer, by place.
+-- A place in three parts: the variables before v, the number of v, the variables after it. Rows of v that become more
+-- or fewer, by place.
 use Prim.Native.Nat.{ℕ, zero, suc, _+_, _*_, _/_, _%_, _<_}
 use mathlib.Core.List.{List, [], _∷_}
 use mathlib.Core.Path.{_≡_, ap, _∙_}
@@ -112,7 +113,8 @@ pub record Sits (n r : List ℕ) (v s width step p : ℕ) : Type 0 where
 regroup : (o k x s l : ℕ) → (o * k + x) * s + l ≡ o * (k * s) + (x * s + l)
 regroup o k x s l = simp (add-mul, mul-assoc) (omega arith)
 
-pub sits : {n r : List ℕ} {v p : ℕ} (s width step : ℕ) → v < 4 → Others v r n → Lengths r → p < count r → s ≡ at (strides n) v → width ≡ at n v * s → step ≡ at r v * s → Sits n r v s width step p
+pub sits : {n r : List ℕ} {v p : ℕ} (s width step : ℕ) → v < 4 → Others v r n → Lengths r → p < count r
+    → s ≡ at (strides n) v → width ≡ at n v * s → step ≡ at r v * s → Sits n r v s width step p
 sits {n} {r} {v} {p} s width step h o g l es ew ep =
     let t : Parted n r v s p (index r p) = rw es (parted n r v p h o g l) in
     let x : ℕ = at (index r p) v in

@@ -25,13 +25,10 @@ use Rattle.model.specs.Shifts.{inRow, rowSum, shiftDownPoly}
 use Rattle.shape_words.specs.Rules.{Ruled, Regular, ruled-at}
 use Rattle.shape_words.specs.Lengths.{lengths-of}
 use Rattle.shape.specs.Announced.{single-regular}
-use Rattle.shape.specs.Keeps.{Keeps}
-use Rattle.readings.specs.Kept.{full-keeps}
+use Rattle.shape.specs.Keeps.{Keeps, full-keeps}
 use Rattle.product_linear.specs.Rows.{Rows}
-use Rattle.product.specs.Room.{Raising}
-use Rattle.product.specs.Raise.{raise-rows, raise-small}
-use Rattle.change.specs.Room.{Shifted}
-use Rattle.change.specs.Room.{PartRoom}
+use Rattle.product_linear.specs.Raise.{raise-rows, raise-small, Raising}
+use Rattle.change.specs.Room.{Shifted, PartRoom}
 use Rattle.change.specs.Parts.{Others, Sits, sits}
 use Rattle.change_sums.specs.Sums.{sumAt}
 use Rattle.change.specs.Drop.{keptAt, droppedFlat}
@@ -142,13 +139,19 @@ module _ {h r : Header} {v n ma mt : ℕ} (t : Shifted h r v n ma mt) where
           let k : n * s + p % step ≡ (at i v + n) * s + shift-sits .inner = omega (arith, g) in
           rw (le-ltb (p % step) s (omega (arith, b, g)), lt-leb _ _ q, e) (ap (λ (x : ℕ). getD xs x nan) k ∙ shift-read (at i v + n)))
 
-    by-place : (a : List Float) (f : ℕ → Float) {o : List Float} → o ≡ table mt f → ((p : ℕ) → p < stored r → f p ≡ downAt v n h a (index (r .lengths) p)) → o ≡ shiftDownPoly v n (poly h a) .coeffs
+    by-place : (a : List Float) (f : ℕ → Float) {o : List Float} → o ≡ table mt f
+        → ((p : ℕ) → p < stored r → f p ≡ downAt v n h a (index (r .lengths) p))
+        → o ≡ shiftDownPoly v n (poly h a) .coeffs
     unfolding shiftDownPoly
     by-place a f e g =
-        e ∙ (ap (λ (x : ℕ). table x f) (t .room) ∙ (table-same _ _ (stored r) g ∙ ap (λ (q : Header). table (stored q) (λ p. downAt v n h a (index (q .lengths) p))) (t .is)))
+        e ∙ (ap (λ (x : ℕ). table x f) (t .room)
+        ∙ (table-same _ _ (stored r) g ∙ ap (λ (q : Header).
+        table (stored q) (λ p. downAt v n h a (index (q .lengths) p))) (t .is)))
 
-    pub shift-one : (a : List Float) {o : List Float} → len h v ≤ n + 1 → o ≡ table mt (droppedFlat true s (len h v) width step a) → o ≡ shiftDownPoly v n (poly h a) .coeffs
+    pub shift-one : (a : List Float) {o : List Float} → len h v ≤ n + 1
+        → o ≡ table mt (droppedFlat true s (len h v) width step a) → o ≡ shiftDownPoly v n (poly h a) .coeffs
     shift-one a q e = by-place a (droppedFlat true s (len h v) width step a) e (λ p l. place-one a p l q)
 
-    pub shift-many : (a : List Float) {o : List Float} → n + 1 < len h v → o ≡ table mt (droppedFlat false s n width step a) → o ≡ shiftDownPoly v n (poly h a) .coeffs
+    pub shift-many : (a : List Float) {o : List Float} → n + 1 < len h v
+        → o ≡ table mt (droppedFlat false s n width step a) → o ≡ shiftDownPoly v n (poly h a) .coeffs
     shift-many a q e = by-place a (droppedFlat false s n width step a) e (λ p l. place-many a p l q)

@@ -1,4 +1,5 @@
--- `derivative` and `taylor_expansion_of_coeff`: what they write, and that it keeps what an operation owes of its result.
+-- `derivative` and `taylor_expansion_of_coeff`: what they write, and that it keeps what an operation owes of its
+-- result.
 use Prim.Native.Nat.{ℕ, zero, suc, _+_, _-_, _*_, _/_, _%_, _≤_, _<_}
 use mathlib.Core.List.{List, [], _∷_}
 use mathlib.Core.Bool.{Bool, true, false, cond}
@@ -26,8 +27,7 @@ use Rattle.model.specs.Constructed.{wholeF}
 use Rattle.model.specs.Poly.{Poly, poly, blockOf}
 use Rattle.model.specs.Shifts.{inRow, rowsFrom, derivativeFactor, derivativePoly, coefficientFactor, expansionPoly}
 use Rattle.shape_words.specs.Rules.{Ruled, ruled-at}
-use Rattle.shape.specs.Keeps.{Keeps}
-use Rattle.readings.specs.Kept.{ones-keeps, full-keeps}
+use Rattle.shape.specs.Keeps.{Keeps, full-keeps, ones-keeps}
 use Rattle.change.specs.Room.{Shifted}
 use Rattle.change_factors.specs.Stripes.{Scaling}
 use Rattle.change.specs.Shift.{shift-regular, shifted-row, shift-rows, shift-small, shift-sits, shift-read}
@@ -53,7 +53,8 @@ factor-is : (v n : ℕ) (p : Poly) (k : ℕ) → factorF (factorialF n) n k ≡ 
 unfolding derivativeFactor
 factor-is v n p k =
     sym (walk-shift (nextF n) k 0 (factorialF n))
-    ∙ walk-same _ _ k 0 (factorialF n) (λ j _ _ y. let e : n + (j + 1) ≡ n + j + 1 = omega arith in ap (λ (q : ℕ). mul binary64 y (div binary64 (wholeF q) (wholeF (j + 1)))) e)
+    ∙ walk-same _ _ k 0 (factorialF n) (λ j _ _ y. let e : n + (j + 1) ≡ n + j + 1 = omega arith in
+    ap (λ (q : ℕ). mul binary64 y (div binary64 (wholeF q) (wholeF (j + 1)))) e)
 
 row-by : (plain : Bool) (v n : ℕ) (p : Poly) (k : ℕ) (x : Float) → rowBy plain (startF plain n) n k x ≡ stepBy plain v n p k x
 unfolding coefficientFactor walk
@@ -63,13 +64,16 @@ row-by false v n p (suc k) x = rw (ne-eqb (suc k) 0 (λ e. omega arith)) (ap (mu
 
 module _ (plain : Bool) (v n : ℕ) (p : Poly) where
   -- past the stored length
-  pub scaled-past : {r : Header} → r ≡ announced (Shift v n) (p .head) noHeader → len (p .head) v ≤ n → scaledPoly plain v n p ≡ poly (header (r .vars) (r .limits) ones) (zeroF ∷ [])
+  pub scaled-past : {r : Header} → r ≡ announced (Shift v n) (p .head) noHeader → len (p .head) v ≤ n
+      → scaledPoly plain v n p ≡ poly (header (r .vars) (r .limits) ones) (zeroF ∷ [])
   unfolding rowsFrom
   scaled-past e l = scaled-is plain v n p ∙ (rw (e, le-leb _ _ l))
 
   -- the rows from n on
   pub scaled-rows : {r : Header} → r ≡ announced (Shift v n) (p .head) noHeader → n < len (p .head) v
-      → scaledPoly plain v n p ≡ poly r (table (stored r) (λ q. stepBy plain v n p (at (index (r .lengths) q) v) (inRow (blockOf p) (index (r .lengths) q) v (at (index (r .lengths) q) v + n))))
+      → scaledPoly plain v n p ≡ poly r (table (stored r)
+      (λ q. stepBy plain v n p (at (index (r .lengths) q) v)
+      (inRow (blockOf p) (index (r .lengths) q) v (at (index (r .lengths) q) v + n))))
   unfolding rowsFrom
   scaled-rows e l = scaled-is plain v n p ∙ (rw (e, lt-leb _ _ l))
 
@@ -81,7 +85,9 @@ module _ (plain : Bool) (v n : ℕ) (p : Poly) where
       (λ t. rw (scaled-rows refl (leb-false _ _ t)) (full-keeps r (length-table _ (stored (announced (Shift v n) (p .head) noHeader)))))
 
 -- the code's place is the model's, where a row is left
-module _ {h r : Header} {v n ma mt : ℕ} (t : Shifted h r v n ma mt) {s width step : ℕ} (es : s ≡ at (strides (h .lengths)) v) (ew : width ≡ len h v * s) (ep : step ≡ len r v * s) (some : n < len h v) where
+module _ {h r : Header} {v n ma mt : ℕ} (t : Shifted h r v n ma mt) {s width step : ℕ}
+    (es : s ≡ at (strides (h .lengths)) v) (ew : width ≡ len h v * s) (ep : step ≡ len r v * s)
+    (some : n < len h v) where
   sum-is : len h v ≡ n + len r v
   sum-is = omega (arith, shifted-row t)
 
@@ -104,9 +110,15 @@ module _ {h r : Header} {v n ma mt : ℕ} (t : Shifted h r v n ma mt) {s width s
       }
     where
       pos-of : 0 < s
-      pos-of = decide (eqb s 0) (λ e. let z : s ≡ 0 = eqb-true s 0 e in let y : step ≡ len r v * 0 = ep ∙ ap (λ (x : ℕ). len r v * x) z in absurd (omega (arith, y, shift-rows t es ew ep .pos))) (λ e. omega (arith, eqb-false s 0 e))
+      pos-of =
+          decide (eqb s 0) (λ e. let z : s ≡ 0 = eqb-true s 0 e in
+          let y : step ≡ len r v * 0 = ep ∙ ap (λ (x : ℕ). len r v * x) z in
+          absurd (omega (arith, y, shift-rows t es ew ep .pos))) (λ e. omega (arith, eqb-false s 0 e))
 
-  scaled-place : (plain : Bool) (a : List Float) (p : ℕ) → p < stored r → scaledFlat plain (startF plain n) n s width step a p ≡ stepBy plain v n (poly h a) (at (index (r .lengths) p) v) (inRow (blockOf (poly h a)) (index (r .lengths) p) v (at (index (r .lengths) p) v + n))
+  scaled-place : (plain : Bool) (a : List Float) (p : ℕ) → p < stored r
+      → scaledFlat plain (startF plain n) n s width step a p
+      ≡ stepBy plain v n (poly h a) (at (index (r .lengths) p) v)
+      (inRow (blockOf (poly h a)) (index (r .lengths) p) v (at (index (r .lengths) p) v + n))
   scaled-place plain a p l =
       let g = shift-sits t es ew ep a p l in
       let e : p % step / s ≡ at (index (r .lengths) p) v = ap (λ (q : ℕ). q / s) (g .rest) ∙ digits-div (at (index (r .lengths) p) v) (g .low) in
@@ -115,7 +127,8 @@ module _ {h r : Header} {v n ma mt : ℕ} (t : Shifted h r v n ma mt) {s width s
       sym (getD-drop (p / step * width) a (n * s + p % step) nan) ∙ (rw k (shift-read t es ew ep a p l (at (index (r .lengths) p) v + n))) in
       rw (e, x) (row-by plain v n (poly h a) (at (index (r .lengths) p) v) _)
 
-  pub scaled-done : (plain : Bool) (a : List Float) {o : List Float} → o ≡ table mt (scaledFlat plain (startF plain n) n s width step a) → o ≡ scaledPoly plain v n (poly h a) .coeffs
+  pub scaled-done : (plain : Bool) (a : List Float) {o : List Float}
+      → o ≡ table mt (scaledFlat plain (startF plain n) n s width step a) → o ≡ scaledPoly plain v n (poly h a) .coeffs
   scaled-done plain a e =
       e ∙ (ap (λ (x : ℕ). table x (scaledFlat plain (startF plain n) n s width step a)) (t .room)
       ∙ (table-same _ _ (stored r) (scaled-place plain a) ∙ ap (λ (q : Poly). q .coeffs) (sym (scaled-rows plain v n (poly h a) (t .is) some))))

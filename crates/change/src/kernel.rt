@@ -1,4 +1,5 @@
-// The rows of one variable. All places that share the numbers of the variables before v are a part: rows of `s` places, one after the other.
+// The rows of one variable. All places that share the numbers of the variables before v are a part: rows of `s` places,
+// one after the other.
 use gates::stored_of;
 use model::Answer;
 use model::Family;
@@ -85,7 +86,8 @@ fn shortest(h: Header) -> Header
     }
 }
 
-// The derivative, or the expansion of the coefficient n where `plain`, with +0.0 past it: h is the header of `a`, r the announced one; answers the true one.
+// The derivative, or the expansion of the coefficient n where `plain`, with +0.0 past it: h is the header of `a`, r the
+// announced one; answers the true one.
 pub fn take_rows(
     plain: bool,
     a: &[f64],
@@ -123,7 +125,8 @@ pub fn take_rows(
 // The derivative, or the expansion of the coefficient n where `plain`: refusals 1, 2, 3, 4, 5.
 pub fn scaled(plain: bool, head: u64, a: &[f64], v: usize, n: usize, out: &mut [f64]) -> Answer
     ensures answer { λ r. ⌜ r ≡ answered (shiftGate head (now (a .entry)) v n (now (out .entry))) (scaledPoly plain v n (held head (now (a .entry)))) ⌝ }
-    ensures written { λ r. ⌜ now (out .exit) ≡ outAfter (shiftGate head (now (a .entry)) v n (now (out .entry))) (announcedOne (Shift v n) head) (scaledPoly plain v n (held head (now (a .entry)))) (now (out .entry)) ⌝ }
+    ensures written { λ r. ⌜ now (out .exit) ≡ outAfter (shiftGate head (now (a .entry)) v n (now (out .entry)))
+        (announcedOne (Shift v n) head) (scaledPoly plain v n (held head (now (a .entry)))) (now (out .entry)) ⌝ }
 {
     let refusal = gates::in_gate(Family::Shift(v, n), v, n, head, a.len(), out.len());
     if refusal.number != 0 {

@@ -58,10 +58,12 @@ whole-fits n h = le→leb n 9007199254740992 (omega arith)
 
 -- ---- one row
 
-pub put-plain : {plain : Bool} (factor : Float) (k : ℕ) (a : List Float) {o : List Float} → plain ≡ true → k ≤ length a → o ≡ take k a → o ≡ table k (λ i. scaledBy plain factor (getD a i nan))
+pub put-plain : {plain : Bool} (factor : Float) (k : ℕ) (a : List Float) {o : List Float} → plain ≡ true → k ≤ length a
+    → o ≡ take k a → o ≡ table k (λ i. scaledBy plain factor (getD a i nan))
 put-plain factor k a e h eo = eo ∙ (sym (table-take nan a k h) ∙ table-same _ _ k (λ i l. rw e))
 
-pub put-scaled : {plain : Bool} (factor : Float) (k : ℕ) (a : List Float) {o : List Float} → plain ≡ false → o ≡ table k (λ i. mul binary64 (getD a i nan) factor)
+pub put-scaled : {plain : Bool} (factor : Float) (k : ℕ) (a : List Float) {o : List Float} → plain ≡ false
+    → o ≡ table k (λ i. mul binary64 (getD a i nan) factor)
     → o ≡ table k (λ i. scaledBy plain factor (getD a i nan))
 put-scaled factor k a e eo = eo ∙ table-same _ _ k (λ i l. rw e)
 
@@ -126,7 +128,9 @@ module _ (at' s : ℕ) (out row : List Float) (fit : at' + s ≤ length out) (lo
       ∙ (getD-append-add row (drop s (drop at' out)) (p - at' - s) nan
       ∙ (getD-drop s (drop at' out) (p - at' - s) nan ∙ (getD-drop at' out (s + (p - at' - s)) nan ∙ ap (λ (x : ℕ). getD out x nan) f))))
 
-module _ {first s step turns at' : ℕ} {g : ℕ → Float} {d out row : List Float} (w : Striping first s step turns g d out) (ea : at' ≡ turns * step + first) (fit : first + s ≤ step) (er : row ≡ table s (λ j. g (at' + j))) (low : at' + s ≤ length d) where
+module _ {first s step turns at' : ℕ} {g : ℕ → Float} {d out row : List Float} (w : Striping first s step turns g d out)
+    (ea : at' ≡ turns * step + first) (fit : first + s ≤ step) (er : row ≡ table s (λ j. g (at' + j)))
+    (low : at' + s ≤ length d) where
   room : at' + s ≤ length out
   room = omega (arith, w .len)
 
@@ -171,8 +175,10 @@ module _ {first s step turns at' : ℕ} {g : ℕ → Float} {d out row : List Fl
   stripe-more q e = rw e stripe-row
 
 -- what was written to the row of one part
-pub stripe-is : {width step skip first from at' : ℕ} (s : ℕ) (a' : RowAlong width step skip first from at') → first + s ≤ step → (plain : Bool) (factor : Float) (a : List Float) {row o : List Float} (z k : ℕ)
-    → row ≡ take z (drop from a) → z ≡ s → o ≡ table k (λ j. scaledBy plain factor (getD row j nan)) → k ≡ s → o ≡ table s (λ j. stripeAt plain factor width step skip a (at' + j))
+pub stripe-is : {width step skip first from at' : ℕ} (s : ℕ) (a' : RowAlong width step skip first from at')
+    → first + s ≤ step → (plain : Bool) (factor : Float) (a : List Float) {row o : List Float} (z k : ℕ)
+    → row ≡ take z (drop from a) → z ≡ s → o ≡ table k (λ j. scaledBy plain factor (getD row j nan)) → k ≡ s
+    → o ≡ table s (λ j. stripeAt plain factor width step skip a (at' + j))
 stripe-is {width} {step} {skip} {first} {from} {at'} s a' fit plain factor a {row} z k er ez eo ek =
     eo ∙ (ap (λ (x : ℕ). table x (λ j. scaledBy plain factor (getD row j nan))) ek ∙ table-same _ _ s (λ j h.
     let t = a' .turns in
@@ -182,10 +188,13 @@ stripe-is {width} {step} {skip} {first} {from} {at'} s a' fit plain factor a {ro
     let md : (at' + j) % step ≡ first + j = ap (λ (x : ℕ). x % step) e ∙ digits-mod t low in
     let f : from + j ≡ t * width + (skip + (first + j)) = omega (arith, a' .is-from) in
     let q : from + j ≡ (at' + j) / step * width + (skip + (at' + j) % step) = rw (dv, md) f in
-    let y : getD row j nan ≡ getD a (from + j) nan = ap (λ (l : List Float). getD l j nan) er ∙ (getD-take z (drop from a) j nan (omega arith) ∙ getD-drop from a j nan) in
+    let y : getD row j nan ≡ getD a (from + j) nan =
+    ap (λ (l : List Float). getD l j nan) er
+    ∙ (getD-take z (drop from a) j nan (omega arith) ∙ getD-drop from a j nan) in
     ap (scaledBy plain factor) (y ∙ ap (λ (x : ℕ). getD a x nan) q)))
 
-pub stripe-end : {first s step turns m : ℕ} {g : ℕ → Float} {d out : List Float} → Striping first s step turns g d out → length d ≡ m * step → m ≤ turns → 0 < step → Striped first s step g d out
+pub stripe-end : {first s step turns m : ℕ} {g : ℕ → Float} {d out : List Float} → Striping first s step turns g d out
+    → length d ≡ m * step → m ≤ turns → 0 < step → Striped first s step g d out
 stripe-end {step = step} {turns = turns} {m = m} w e h z =
     record {
       len = w .len;
@@ -201,7 +210,9 @@ pub record Rowed (step at' : ℕ) (f : ℕ → Float) (mt : ℕ) (out : List Flo
   pub is : (p : ℕ) → p < mt → p % step < at' → getD out p nan ≡ f p
 
 module _ (plain : Bool) (start : Float) (n s width step : ℕ) (a : List Float) where
-  pub rowed-first : {skip : ℕ} {d out : List Float} → skip ≡ n * s → Striped 0 s step (stripeAt plain start width step skip a) d out → Rowed step s (scaledFlat plain start n s width step a) (length d) out
+  pub rowed-first : {skip : ℕ} {d out : List Float} → skip ≡ n * s
+      → Striped 0 s step (stripeAt plain start width step skip a) d out
+      → Rowed step s (scaledFlat plain start n s width step a) (length d) out
   rowed-first {skip} e w =
       record {
         len = w .len;
@@ -211,7 +222,8 @@ module _ (plain : Bool) (start : Float) (n s width step : ℕ) (a : List Float) 
             w .new p l (omega arith) (omega arith) ∙ (rw (z, e));
       }
 
-  pub rowed-more : {skip at' k mt : ℕ} {factor : Float} {to out : List Float} → skip ≡ n * s → at' ≡ k * s → 0 < k → Walked (nextF n) 1 (k + 1) start factor → Rowed step at' (scaledFlat plain start n s width step a) mt to
+  pub rowed-more : {skip at' k mt : ℕ} {factor : Float} {to out : List Float} → skip ≡ n * s → at' ≡ k * s → 0 < k
+      → Walked (nextF n) 1 (k + 1) start factor → Rowed step at' (scaledFlat plain start n s width step a) mt to
       → Striped at' s step (stripeAt false factor width step skip a) to out → Rowed step (at' + s) (scaledFlat plain start n s width step a) mt out
   rowed-more {skip} {at'} {k} {mt} {factor} e ea pk wk r w =
       record {
@@ -230,7 +242,8 @@ module _ (plain : Bool) (start : Float) (n s width step : ℕ) (a : List Float) 
 
 pub rowed-end : {step at' mt : ℕ} {f : ℕ → Float} {out : List Float} → Rowed step at' f mt out → step ≤ at' → 0 < step → out ≡ table mt f
 rowed-end {step} {at'} {mt} {f} {out} r h z =
-    sym (table-all nan out) ∙ (ap (λ (x : ℕ). table x (λ k. getD out k nan)) (r .len) ∙ table-same _ f mt (λ p l. r .is p l (let q = mod-lt p z in omega arith)))
+    sym (table-all nan out) ∙ (ap (λ (x : ℕ). table x (λ k. getD out k nan)) (r .len)
+    ∙ table-same _ f mt (λ p l. r .is p l (let q = mod-lt p z in omega arith)))
 
 -- ---- what the loops ask
 
@@ -242,7 +255,9 @@ pub loop-first : {first s step width skip : ℕ} {g : ℕ → Float} {d : List F
 unfolding row-first
 loop-first = record { along = row-first; done = stripe-none }
 
-pub loop-next : {first s step width skip from at' : ℕ} {g : ℕ → Float} {d out row : List Float} (q : ℕ) → StripeLoop first s step width skip g d out from at' → first + s ≤ step → row ≡ table s (λ j. g (at' + j)) → at' + s ≤ length d → q ≡ s
+pub loop-next : {first s step width skip from at' : ℕ} {g : ℕ → Float} {d out row : List Float} (q : ℕ)
+    → StripeLoop first s step width skip g d out from at' → first + s ≤ step → row ≡ table s (λ j. g (at' + j))
+    → at' + s ≤ length d → q ≡ s
     → StripeLoop first s step width skip g d (putMid at' q out row) (from + width) (at' + step)
 unfolding row-next
 loop-next q w f r l e = record { along = row-next (w .along); done = stripe-more (w .done) (w .along .is-at) f r l q e }
@@ -252,8 +267,10 @@ module _ {s width step skip first ma mt from at' : ℕ} (q : Stripes s width ste
   stripe-fits h =
       let l = less-of (a .turns) (q .turns) step (omega (arith, a .is-at, q .full, h)) in
       let x : (a .turns + 1) * width ≤ q .turns * width = mul-le-mul-right width (omega arith) in
-      let y : (a .turns + 1) * step ≤ q .turns * step = mul-le-mul-right step (omega arith) in
-      ((omega (arith, x, a .is-from, q .room, q .past), omega (arith, y, a .is-at, q .full, q .row)), (omega (arith, x, a .is-from, q .room, q .past), omega (arith, y, a .is-at, q .full, q .row)))
+      let y : (a .turns + 1) * step ≤ q .turns * step = mul-le-mul-right step (omega arith) in (
+        (omega (arith, x, a .is-from, q .room, q .past), omega (arith, y, a .is-at, q .full, q .row)),
+        (omega (arith, x, a .is-from, q .room, q .past), omega (arith, y, a .is-at, q .full, q .row)),
+      )
 
   pub stripe-turns : mt ≤ at' → q .turns ≤ a .turns
   stripe-turns h =

@@ -81,7 +81,8 @@ fn scale_stripe(
     }
 }
 
-// The rows from n on, each times its factor, which is worked out once: that of the first is `start`, or none where `plain`.
+// The rows from n on, each times its factor, which is worked out once: that of the first is `start`, or none where
+// `plain`.
 pub fn scale_rows(
     plain: bool,
     a: &[f64],

@@ -36,7 +36,8 @@ sum-more {s} {j} {at} {a} {to} z k {row} g ea er ez ek eo =
     let e = eo ∙ (ap (λ (x : ℕ). table x f) ek ∙ table-same f (sumAt s (j + 1) a) s (λ i h.
     let x : getD to i nan ≡ sumAt s j a i = ap (λ (l : List Float). getD l i nan) (g .is) ∙ table-at nan (sumAt s j a) s i h in
     let y : getD row i nan ≡ getD a (j * s + i) nan =
-    ap (λ (l : List Float). getD l i nan) er ∙ (getD-take z (drop at a) i nan (omega (arith, ez)) ∙ (getD-drop at a i nan ∙ ap (λ (x : ℕ). getD a (x + i) nan) ea)) in
+    ap (λ (l : List Float). getD l i nan) er ∙ (getD-take z (drop at a) i nan (omega (arith, ez))
+    ∙ (getD-drop at a i nan ∙ ap (λ (x : ℕ). getD a (x + i) nan) ea)) in
     let w = walk-more (λ j acc. add binary64 acc (getD a (j * s + i) nan)) j 0 zeroF in
     rw (x, y, add-one j) (rw (zero-add j) at (sym w)))) in
     record { len = ap length e ∙ length-table (sumAt s (j + 1) a) s; is = e }
@@ -46,12 +47,14 @@ pub row-below : (s j m : ℕ) {at l : ℕ} → at ≡ j * s → j < m → m * s 
 row-below s j m e h k = let x : (j + 1) * s ≤ m * s = mul-le-mul-right s (omega arith) in omega (arith, x, e, k)
 
 -- the row m with that sum
-pub front-is : (s m : ℕ) (a : List Float) (z k : ℕ) {e : ℕ} {sum row o : List Float} → sum ≡ table s (sumAt s m a) → e ≡ m * s → row ≡ take z (drop e a) → z ≡ s → k ≡ s
+pub front-is : (s m : ℕ) (a : List Float) (z k : ℕ) {e : ℕ} {sum row o : List Float} → sum ≡ table s (sumAt s m a)
+    → e ≡ m * s → row ≡ take z (drop e a) → z ≡ s → k ≡ s
     → o ≡ table k (λ i. add binary64 (getD row i nan) (getD sum i nan)) → o ≡ table s (frontAt s m a)
 front-is s m a z k {e} {sum} {row} es ee er ez ek eo =
     let f : ℕ → Float = λ i. add binary64 (getD row i nan) (getD sum i nan) in
     eo ∙ (ap (λ (x : ℕ). table x f) ek ∙ table-same f (frontAt s m a) s (λ i h.
     let x : getD sum i nan ≡ sumAt s m a i = ap (λ (l : List Float). getD l i nan) es ∙ table-at nan (sumAt s m a) s i h in
     let y : getD row i nan ≡ getD a (m * s + i) nan =
-    ap (λ (l : List Float). getD l i nan) er ∙ (getD-take z (drop e a) i nan (omega (arith, ez)) ∙ (getD-drop e a i nan ∙ ap (λ (x : ℕ). getD a (x + i) nan) ee)) in
+    ap (λ (l : List Float). getD l i nan) er ∙ (getD-take z (drop e a) i nan (omega (arith, ez))
+    ∙ (getD-drop e a i nan ∙ ap (λ (x : ℕ). getD a (x + i) nan) ee)) in
     rw (x, y)))

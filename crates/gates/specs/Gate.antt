@@ -24,7 +24,9 @@ use Rattle.model.specs.Word.{headerOf, goodWord, wordOf}
 use Rattle.model.specs.Refusals.{ask, noRefusal, fits, roomy, answerBy, readBy, linearBy, leaves, written}
 use Rattle.model.specs.Poly.{Poly}
 use Rattle.model.specs.Answers.{answered, outAfter}
-use Rattle.model.specs.Gates.{full, readGate, noMissing, indexGate, tailGate, oneGate, workGate, inGate, pairGate, goodLimit, goodLimits, withGate, varWithGate, varHeader, varGate, announcedOne, announcedPair}
+use Rattle.model.specs.Gates.{full, readGate, noMissing, indexGate, tailGate, oneGate, workGate, inGate, pairGate}
+use Rattle.model.specs.Gates.{goodLimit, goodLimits, withGate, varWithGate, varHeader, varGate, announcedOne}
+use Rattle.model.specs.Gates.{announcedPair}
 use Rattle.shape_words.specs.Rules.{Good, Regular, none-regular}
 use Rattle.shape_words.specs.Words.{good-word}
 use Rattle.shape_words.specs.Lengths.{Inside, inside-is}
@@ -89,7 +91,8 @@ module _ (w m : ℕ) (next : Refusal) {r : Refusal} (e : r ≡ readGate w m) whe
   read-on z = begin-on (goodWord w) (full w m) next e z
 
 -- tests 1, 2 and 5 of one operand
-room-stop : (a b c : Bool) (next : Refusal) {r : Refusal} → r ≡ ask a 1 (ask b 2 (ask c 5 noRefusal)) → (r .number ≡ 0 → ⊥) → r ≡ ask a 1 (ask b 2 (ask c 5 next))
+room-stop : (a b c : Bool) (next : Refusal) {r : Refusal} → r ≡ ask a 1 (ask b 2 (ask c 5 noRefusal))
+    → (r .number ≡ 0 → ⊥) → r ≡ ask a 1 (ask b 2 (ask c 5 next))
 room-stop true true true next e n = absurd (n (ap (λ (x : Refusal). x .number) e))
 room-stop true true false next e n = e
 room-stop true false c next e n = e
@@ -140,7 +143,8 @@ module _ {r g : Refusal} (e : r ≡ g) where
     line-refused x = rw (← e) (simp (ne-eqb _ _ n))
 
   module _ (z : r .number ≡ 0) where
-    pub entry-done : (h : Header) (p : Poly) (old : List Float) {a : Answer} {new : List Float} → a ≡ Done (wordOf (p .head)) → new ≡ written (stored h) (p .coeffs) old
+    pub entry-done : (h : Header) (p : Poly) (old : List Float) {a : Answer} {new : List Float}
+        → a ≡ Done (wordOf (p .head)) → new ≡ written (stored h) (p .coeffs) old
         → (a ≡ answered g p) × (new ≡ outAfter g h p old)
     entry-done h p old k l = (rw (← e) (k ∙ answer-yes r _ z), rw (← e) (l ∙ leaves-yes r _ old z))
 

@@ -1,4 +1,5 @@
--- How an entry of two operands opens: the gate's refusal and, where there is none, what the words and the family tell, each worked out once.
+-- How an entry of two operands opens: the gate's refusal and, where there is none, what the words and the family tell,
+-- each worked out once.
 use Prim.Native.Nat.{ℕ, suc, _*_, _≤_}
 use mathlib.Core.Bool.{true, false, _&&_}
 use mathlib.Core.Path.{_≡_, sym, ap, _∙_}
@@ -53,8 +54,12 @@ module _ {f : Family} {w m u l n s : ℕ} {r : Opened} (o : Opens f w m u l n s 
   opened-fits =
       let t = o .tells z in
       let g = opened-ready in
-      let c = opened-count in
-      (omega (arith, t .count-a, ap stored (t .left), g .full-a), omega (arith, t .count-b, ap stored (t .right), g .full-b), omega (arith, g .room), omega (arith, g .spare))
+      let c = opened-count in (
+        omega (arith, t .count-a, ap stored (t .left), g .full-a),
+        omega (arith, t .count-b, ap stored (t .right), g .full-b),
+        omega (arith, g .room),
+        omega (arith, g .spare),
+      )
 
 -- a refusal tells nothing
 silent : {k : ℕ} {q : Refusal} {r : Opened} → q ≡ refusedBy (suc k) → r ≡ shut q → (P : Type 0) → r .refusal .number ≡ 0 → P
@@ -72,11 +77,19 @@ module _ (a b h : Header) (n s : ℕ) {q : Refusal} {r : Opened} where
 module _ (f : Family) (w m u l n s : ℕ) {q : Refusal} {r : Opened} where
   pub bad-word : (goodWord w && goodWord u) ≡ false → q ≡ refusedBy 1 → r ≡ shut q → Opens f w m u l n s r
   unfolding pairGate
-  bad-word t e g = record { refusal = simp (t) (ap (λ (x : Opened). x .refusal) g ∙ e); tells = silent e g (Tells (headerOf w) (headerOf u) (announcedPair f w u) r) }
+  bad-word t e g =
+      record {
+        refusal = simp (t) (ap (λ (x : Opened). x .refusal) g ∙ e);
+        tells = silent e g (Tells (headerOf w) (headerOf u) (announcedPair f w u) r);
+      }
 
   pub not-full : (goodWord w && goodWord u) ≡ true → (full w m && full u l) ≡ false → q ≡ refusedBy 2 → r ≡ shut q → Opens f w m u l n s r
   unfolding pairGate
-  not-full t v e g = record { refusal = simp (t, v) (ap (λ (x : Opened). x .refusal) g ∙ e); tells = silent e g (Tells (headerOf w) (headerOf u) (announcedPair f w u) r) }
+  not-full t v e g =
+      record {
+        refusal = simp (t, v) (ap (λ (x : Opened). x .refusal) g ∙ e);
+        tells = silent e g (Tells (headerOf w) (headerOf u) (announcedPair f w u) r);
+      }
 
 pub passed-on : (f : Family) (w m u l n s : ℕ) {a b h : Header} {r : Opened} → (goodWord w && goodWord u) ≡ true → (full w m && full u l) ≡ true
     → a ≡ headerOf w → b ≡ headerOf u → h ≡ announcedPair f w u → Roomed a b h n s r → Opens f w m u l n s r

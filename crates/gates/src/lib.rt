@@ -170,7 +170,8 @@ pub fn in_gate(f: Family, v: usize, d: usize, word: u64, given: usize, lent: usi
     fits_gate(announced_of(f, h, Header::none()), lent)
 }
 
-// Two operands as an entry opens them: why the call is refused; where it is not, their headers, the announced header and the stored counts.
+// Two operands as an entry opens them: why the call is refused; where it is not, their headers, the announced header
+// and the stored counts.
 pub struct Opened {
     pub refusal: Refusal,
     pub a: Header,
@@ -243,7 +244,8 @@ pub fn open_pair(
     open_room(a, b, announced_of(f, a, b), lent, scratch)
 }
 
-// The same for a product, whose header is made directly. It has one caller: the compiler takes it in there, and what is told stays in registers.
+// The same for a product, whose header is made directly. It has one caller: the compiler takes it in there, and what is
+// told stays in registers.
 pub fn open_product(ah: u64, am: usize, bh: u64, bm: usize, lent: usize, scratch: usize) -> Opened
     ensures { λ r. ⌜ Opens Product ah am bh bm lent scratch r ⌝ }
 {

@@ -1,5 +1,6 @@
--- Sums over a box by the rows of one variable v (they belong beside crate whole's BoxLaws): an index with each number of v in turn. And the rows of `shift_down` (document 01,
--- port order 7): the first n + 1 in one, then the rows after them, sum to what they summed to.
+-- Sums over a box by the rows of one variable v (they belong beside crate whole's BoxLaws): an index with each number
+-- of v in turn. And the rows of `shift_down` (document 01, port order 7): the first n + 1 in one, then the rows after
+-- them, sum to what they summed to.
 use mathlib.Core.Path.{_≡_, sym, ap, ap₂, _∙_}
 use mathlib.Core.List.{List, [], _∷_}
 use Prim.Native.Nat.{ℕ, zero, suc, _+_, _-_, _≤_, _<_, max}
@@ -24,7 +25,8 @@ module _ {A : Type 0} (M : Adding A) where
   box-rows f (n ∷ ns) (suc v) h = sum-same M _ _ n 0 (λ i p q. box-rows (λ j. f (i ∷ j)) ns v (le-of-suc-le-suc h))
 
   -- s the rows after the shift by n, r the rows before it, of which the first p may be other than zero
-  pub gathered : (r s : ℕ → A) (n p : ℕ) → s 0 ≡ sum M r (suc n) 0 → ((j : ℕ) → 1 ≤ j → s j ≡ r (n + j)) → ((j : ℕ) → p ≤ j → r j ≡ M .nil) → sum M s (max 1 (p - n)) 0 ≡ sum M r p 0
+  pub gathered : (r s : ℕ → A) (n p : ℕ) → s 0 ≡ sum M r (suc n) 0 → ((j : ℕ) → 1 ≤ j → s j ≡ r (n + j))
+      → ((j : ℕ) → p ≤ j → r j ≡ M .nil) → sum M s (max 1 (p - n)) 0 ≡ sum M r p 0
   gathered r s n p first after past =
       let m : ℕ = max 1 (p - n) - 1 in
       let e : max 1 (p - n) ≡ suc m = omega arith in

@@ -27,7 +27,8 @@ use Rattle.laws_exact.specs.Wholes.{Is, whole-at, stored-at, past-at, ta
 use Rattle.laws_exact.specs.Firsts.{inside-ones, at-origin, only-first}
 
 -- c times each place
-pub scaled-is : {l : List ℕ} {b : Block} {B : Series} {c : Float} {C : ℤ} → Whole c C → Is l b B → ((k : List ℕ) → length k ≡ 4 → Inside l k → natAbs (C *ℤ B k) ≤ 2 ^ 53) → Is l (scaled c b) (λ k. C *ℤ B k)
+pub scaled-is : {l : List ℕ} {b : Block} {B : Series} {c : Float} {C : ℤ} → Whole c C → Is l b B
+    → ((k : List ℕ) → length k ≡ 4 → Inside l k → natAbs (C *ℤ B k) ≤ 2 ^ 53) → Is l (scaled c b) (λ k. C *ℤ B k)
 scaled-is {b = b} {c = c} {C = C} w q h = record {
   at = λ k f i.
       whole-at (scaled c b) k
@@ -41,7 +42,10 @@ unfolding degree offset
 constant-is A {c = c} w = record {
   at = λ k f i.
       at-origin k f
-      (λ e. rw e (whole-at (constantBlock c) origin (λ j. rw (place-origin ones) w) (λ t. absurd (true≢false (sym (is-inside {n = ones} (inside-four (each (λ v. at origin v < at ones v) (lit< tt) (lit< tt) (lit< tt) (lit< tt)))) ∙ t)))))
+      (λ e. rw e (whole-at (constantBlock c) origin (λ j. rw (place-origin ones) w)
+      (λ t. absurd (true≢false
+      (sym (is-inside {n =
+      ones} (inside-four (each (λ v. at origin v < at ones v) (lit< tt) (lit< tt) (lit< tt) (lit< tt)))) ∙ t)))))
       (λ o. rw (ne-eqb (degree k) 0 (λ e. o (degree-origin k f e)))
       (whole-at (constantBlock c) k
       (λ j. absurd (o (inside-ones ones k f (at-four (λ v. 1)) j)))
@@ -49,5 +53,6 @@ constant-is A {c = c} w = record {
 }
 
 -- a factor of stored count 1
-pub constant-times : {l : List ℕ} {a : Block} {A : Series} → Sits l a → Is l a A → count (a .lengths) ≡ 1 → (B : Series) (k : List ℕ) → length k ≡ 4 → Inside l k → times A B k ≡ A origin *ℤ B k
+pub constant-times : {l : List ℕ} {a : Block} {A : Series} → Sits l a → Is l a A → count (a .lengths) ≡ 1
+    → (B : Series) (k : List ℕ) → length k ≡ 4 → Inside l k → times A B k ≡ A origin *ℤ B k
 constant-times s p h B k f i = times-first _ B k f (λ j w o. only-first s p h j (within-length w ∙ f) (before w i) o)

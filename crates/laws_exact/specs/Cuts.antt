@@ -1,5 +1,5 @@
--- What is a series under the limits is a block of whole numbers again (document 01, 'Where the result is exact'), and its own series agrees with it there. So is what
--- cutting leaves; its |A| is no more than before.
+-- What is a series under the limits is a block of whole numbers again (document 01, 'Where the result is exact'), and
+-- its own series agrees with it there. So is what cutting leaves; its |A| is no more than before.
 use mathlib.Core.Path.{_≡_, refl, sym, ap, _∙_}
 use mathlib.Core.List.{List}
 use Prim.Native.Nat.{ℕ, _*_, _≤_, _<_}
@@ -21,7 +21,8 @@ use Rattle.laws_whole.specs.IndexLaws.{in-box-length}
 use Rattle.laws_whole.specs.StoredLaws.{in-box-inside}
 use Rattle.shape_words.specs.Lengths.{Inside, inside-is, count-is}
 use Rattle.shape_words.specs.Places.{place-index}
-use Rattle.laws_exact.specs.Sits.{Sits, cut-at, cut-sits}
+use Rattle.shape.specs.Cut.{cut-at}
+use Rattle.laws_exact.specs.Sits.{Sits, cut-sits}
 use Rattle.laws_exact.specs.Wholes.{Wholes, Is, stored-at, wholes-at, wholes-is, cut-is}
 use Rattle.laws_exact.specs.Firsts.{stored-under}
 use Rattle.laws_exact.specs.Windows.{at-within}
@@ -30,7 +31,9 @@ use Rattle.laws_exact.specs.Windows.{at-within}
 pub index-stored : (n : List ℕ) (p : ℕ) → ((k : ℕ) → k < 4 → 1 ≤ at n k) → p < count n → Inside n (index n p)
 unfolding index
 index-stored n p g h =
-    let k : p < at n 0 * at n 1 * at n 2 * at n 3 = rw (mul-assoc (at n 0 * at n 1) (at n 2) (at n 3), mul-assoc (at n 0) (at n 1) (at n 2 * at n 3), ← count-is n) h in
+    let k : p < at n 0 * at n 1 * at n 2 * at n 3 =
+    rw (mul-assoc (at n 0 * at n 1) (at n 2) (at n 3), mul-assoc (at n 0) (at n 1) (at n 2 * at n 3), ← count-is n)
+    h in
     record {
       i0 = div-lt-iff-lt-mul (g 1 (lit< tt)) .1 (div-lt-iff-lt-mul (g 2 (lit< tt)) .1 (div-lt-iff-lt-mul (g 3 (lit< tt)) .1 k));
       i1 = mod-lt _ (g 1 (lit< tt));
@@ -63,7 +66,9 @@ module _ {l : List ℕ} {b : Block} {A : Series} (s : Sits l b) (w : Is l b A) w
   wholes-weight =
       let n = b .lengths in
       let four = ap length (s .ns) in
-      boxN-le _ (λ k. natAbs (A k)) n (λ k u. le-of-eq (ap natAbs (wholes-agree k (in-box-length u ∙ four) (stored-under s (inside-is n k (in-box-inside n four u))))))
+      boxN-le _ (λ k. natAbs (A k)) n (λ k u. le-of-eq
+      (ap natAbs (wholes-agree k (in-box-length u ∙ four)
+      (stored-under s (inside-is n k (in-box-inside n four u))))))
 
 -- ---- cutting
 

@@ -1,5 +1,6 @@
--- The exact product by a factor of which little is not zero (document 01, port order 4): by a constant it is the other times c; by a line c + m v it is m times the
--- other shifted up by one in v, and the other times c. Of a factor only what lies up to the index counts.
+-- The exact product by a factor of which little is not zero (document 01, port order 4): by a constant it is the other
+-- times c; by a line c + m v it is m times the other shifted up by one in v, and the other times c. Of a factor only
+-- what lies up to the index counts.
 use mathlib.Core.Path.{_≡_, refl, sym, ap, ap₂, _∙_}
 use mathlib.Core.Bool.{cond}
 use mathlib.Core.List.{List}
@@ -32,7 +33,8 @@ pub sizes-comm : (A B : Series) (k : List ℕ) → sizes A B k ≡ sizes B A k
 unfolding sizes
 sizes-comm A B k =
     box-reverse addN (λ j. natAbs (A j) * natAbs (B (indexMinus k j))) k
-    ∙ box-same addN _ _ (upTo k) (λ j u. ap (λ (i : List ℕ). natAbs (A (indexMinus k j)) * natAbs (B i)) (minus-minus (within-upTo j k u)) ∙ mul-comm (natAbs (A (indexMinus k j))) (natAbs (B j)))
+    ∙ box-same addN _ _ (upTo k) (λ j u. ap (λ (i : List ℕ). natAbs (A (indexMinus k j)) * natAbs (B i))
+    (minus-minus (within-upTo j k u)) ∙ mul-comm (natAbs (A (indexMinus k j))) (natAbs (B j)))
 
 -- one term
 pub sizes-term : (A B : Series) {j k : List ℕ} → Within j k → natAbs (A j) * natAbs (B (indexMinus k j)) ≤ sizes A B k
@@ -91,7 +93,10 @@ unit-degree = each (λ v. degree (unit v) ≡ 1) refl refl refl refl
 
 pub unit-within : (k : List ℕ) → length k ≡ 4 → (v : ℕ) → v < 4 → 1 ≤ at k v → Within (unit v) k
 unit-within k f v h l =
-    at-within (unit v) k (unit-length v ∙ sym f) (λ w g. one-changed (λ w x. x ≤ at k w) origin v 1 h l (λ w g o. each (λ w. at origin w ≤ at k w) (omega arith) (omega arith) (omega arith) (omega arith) w g) w (rw f at g))
+    at-within (unit v) k (unit-length v ∙ sym f)
+    (λ w g. one-changed (λ w x. x ≤ at k w) origin v 1 h l
+    (λ w g o. each (λ w. at origin w ≤ at k w) (omega arith) (omega arith) (omega arith) (omega arith) w g) w
+    (rw f at g))
 
 pub minus-unit : (k : List ℕ) → length k ≡ 4 → (v : ℕ) → v < 4 → indexMinus k (unit v) ≡ set k v (at k v - 1)
 unfolding indexMinus
@@ -120,7 +125,9 @@ module _ (A B : Series) (k : List ℕ) (f : length k ≡ 4) where
     times-unit =
         decide (eqb (at k v) 0)
         (λ t. rw t (times-none (rest A) B k (λ j w.
-        ap (λ (x : ℤ). x *ℤ B (indexMinus k j)) (rest-zero j w (λ e. let z : at k v ≡ 0 = eqb-true _ _ t in let y : at j v ≡ 1 = ap (λ (i : List ℕ). at i v) e ∙ unit-same v h in omega (arith, within-at w v)))
+        ap (λ (x : ℤ). x *ℤ B (indexMinus k j)) (rest-zero j w
+        (λ e. let z : at k v ≡ 0 = eqb-true _ _ t in
+        let y : at j v ≡ 1 = ap (λ (i : List ℕ). at i v) e ∙ unit-same v h in omega (arith, within-at w v)))
         ∙ zero-*ℤ (B (indexMinus k j)))))
         (λ t.
         let l : 1 ≤ at k v = positive (at k v) (eqb-false _ _ t) in

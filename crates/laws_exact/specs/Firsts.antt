@@ -1,5 +1,6 @@
--- The constant's place (document 01, port order 3 and 4: stored count 1 is what the shortcuts ask for): its index is the origin, a block of stored count 1 is zero
--- everywhere else, and a block with its first coefficient changed is changed at the origin only.
+-- The constant's place (document 01, port order 3 and 4: stored count 1 is what the shortcuts ask for): its index is
+-- the origin, a block of stored count 1 is zero everywhere else, and a block with its first coefficient changed is
+-- changed at the origin only.
 use mathlib.Core.Path.{_≡_, refl, sym, ap, _∙_}
 use mathlib.Core.Bool.{false, true≢false}
 use mathlib.Core.List.{List}
@@ -58,7 +59,8 @@ pub inside-ones : (n k : List ℕ) → length k ≡ 4 → ((v : ℕ) → v < 4 �
 inside-ones n k f h i = four-at k f ∙ four-same (at k) (λ v. 0) (λ v l. omega (arith, inside-at i v l, h v l))
 
 -- of a block of stored count 1 everything else is zero
-pub only-first : {l r : List ℕ} {b : Block} {B : Series} → Sits r b → Is l b B → count (b .lengths) ≡ 1 → (k : List ℕ) → length k ≡ 4 → Inside l k → (k ≡ origin → ⊥) → B k ≡ pos 0
+pub only-first : {l r : List ℕ} {b : Block} {B : Series} → Sits r b → Is l b B → count (b .lengths) ≡ 1 → (k : List ℕ)
+    → length k ≡ 4 → Inside l k → (k ≡ origin → ⊥) → B k ≡ pos 0
 only-first {b = b} s w h k f i other =
     decide (inside (b .lengths) k)
     (λ t. absurd (other (inside-ones (b .lengths) k f (count-one (b .lengths) (s .lo) h) (inside-is (b .lengths) k t))))
@@ -75,6 +77,11 @@ first-changed {l} {a} {A} {Z} {y} s w v same = record {
       (λ j. rw (place-origin n, getD-set-same (a .places) 0 y nan (omega (arith, s .full, place-lt n origin j))) v)
       (λ t. absurd (true≢false (sym (is-inside (origin-stored s)) ∙ t)))))
       (λ other. whole-at (block n (set (a .places) 0 y)) k
-      (λ j. rw (getD-set-other (a .places) 0 (place n k) y nan (λ e. other (place-one n k origin f refl j (origin-stored s) (e ∙ sym (place-origin n)))), same k f i other) (stored-at a k (w .at k f i) j))
+      (λ j. rw (
+        getD-set-other (a .places) 0 (place n k) y nan
+            (λ e. other (place-one n k origin f refl j (origin-stored s) (e ∙ sym (place-origin n)))),
+        same k f i other,
+      )
+      (stored-at a k (w .at k f i) j))
       (λ t. same k f i other ∙ past-at a k (w .at k f i) t));
 }

@@ -1,5 +1,6 @@
--- The general product of two blocks under the limits l (document 01, port order 4, 'General') is the product of their series there: at the places that it stores,
--- and past them, where the product of two polynomials of those lengths is zero.
+-- The general product of two blocks under the limits l (document 01, port order 4, 'General') is the product of their
+-- series there: at the places that it stores, and past them, where the product of two polynomials of those lengths is
+-- zero.
 use mathlib.Core.Path.{_≡_, refl, sym, ap, _∙_}
 use mathlib.Core.Bool.{false, true≢false}
 use mathlib.Core.List.{List}
@@ -92,6 +93,7 @@ module _ {l : List ℕ} {a b : Block} {A B : Series} (s : Sits l a) (t : Sits l 
         let same : from k 4 0 ≡ k = from-four k ∙ sym (four-at k f) in
         whole-at (block shape (table (count shape) (λ x. g (index shape x)))) k
         (λ j. rw (index-read shape g k f j, ← +ℤ-idl (times A B k))
-        (rw same at (place-whole (left-fits s t) (right-fits s t) j 4 0 refl (stores s p k f i) (stores t q k f i) whole-zero (rw same (omega (arith, room .at k f i))))))
+        (rw same at (place-whole (left-fits s t) (right-fits s t) j 4 0 refl (stores s p k f i)
+        (stores t q k f i) whole-zero (rw same (omega (arith, room .at k f i))))))
         (past-product k f i);
   }

@@ -1,5 +1,5 @@
--- The sum and the difference of two blocks that sit under the limits l are those of their series there (document 01, port order 3), whichever shortcut is taken:
--- a right operand of stored count 1, a left one, or neither.
+-- The sum and the difference of two blocks that sit under the limits l are those of their series there (document 01,
+-- port order 3), whichever shortcut is taken: a right operand of stored count 1, a left one, or neither.
 use mathlib.Core.Path.{_≡_, refl, sym, ap, ap₂, _∙_}
 use mathlib.Core.Bool.{Bool, true, false}
 use mathlib.Core.List.{List}
@@ -63,7 +63,8 @@ join-whole false p q h = whole-add p q h
 join-whole true p q h = whole-sub p q h
 
 -- joined with a coefficient, stored or not
-pub join-at : (minus : Bool) {x : Float} {c z : ℤ} (b : Block) (k : List ℕ) → Whole x c → Whole (coefficientAt b k) z → natAbs (joinZ minus c z) ≤ 2 ^ 53 → Whole (joinAt minus x b k) (joinZ minus c z)
+pub join-at : (minus : Bool) {x : Float} {c z : ℤ} (b : Block) (k : List ℕ) → Whole x c → Whole (coefficientAt b k) z
+    → natAbs (joinZ minus c z) ≤ 2 ^ 53 → Whole (joinAt minus x b k) (joinZ minus c z)
 unfolding joinAt
 join-at minus {x} {c} b k p q h =
     decide (inside (b .lengths) k)
@@ -73,7 +74,8 @@ join-at minus {x} {c} b k p q h =
 -- ---- signs
 
 -- all negated
-pub negated-is : {l : List ℕ} {b : Block} {B : Series} (m : ℕ) → m ≡ count (b .lengths) → Is l b B → Is l (block (b .lengths) (table m (negatedAt (b .places)))) (λ k. negℤ (B k))
+pub negated-is : {l : List ℕ} {b : Block} {B : Series} (m : ℕ) → m ≡ count (b .lengths) → Is l b B
+    → Is l (block (b .lengths) (table m (negatedAt (b .places)))) (λ k. negℤ (B k))
 negated-is {l} {b} {B} m e w = record {
   at = λ k f i.
       whole-at (block (b .lengths) (table m (negatedAt (b .places)))) k
@@ -81,7 +83,8 @@ negated-is {l} {b} {B} m e w = record {
       (λ t. ap negℤ (past-at b k (w .at k f i) t));
 }
 
-turned-is : (minus : Bool) {l : List ℕ} {b : Block} {B : Series} → length (b .places) ≡ count (b .lengths) → Is l b B → Is l (block (b .lengths) (turned minus (b .places))) (λ k. turnedZ minus (B k))
+turned-is : (minus : Bool) {l : List ℕ} {b : Block} {B : Series} → length (b .places) ≡ count (b .lengths) → Is l b B
+    → Is l (block (b .lengths) (turned minus (b .places))) (λ k. turnedZ minus (B k))
 unfolding turnedZ
 turned-is false e w = w
 turned-is true {b = b} e w = negated-is (length (b .places)) e w
@@ -106,7 +109,9 @@ module _ (minus : Bool) {l : List ℕ} {a b : Block} {A B : Series} (s : Sits l 
   left-one h =
       is-same (λ k f i. turned-join minus (A k) (B k))
       (turned-is minus (length-set (b .places) 0 _ ∙ t .full)
-      (first-changed t q (join-whole minus (first-whole t q) (first-whole s p) (le-trans (le-of-eq (sym (abs-turned minus (joinZ minus (B origin) (A origin))) ∙ ap natAbs (turned-join minus (A origin) (B origin)))) (room .both origin refl start)))
+      (first-changed t q (join-whole minus (first-whole t q) (first-whole s p)
+      (le-trans (le-of-eq (sym (abs-turned minus (joinZ minus (B origin) (A origin)))
+      ∙ ap natAbs (turned-join minus (A origin) (B origin)))) (room .both origin refl start)))
       (λ k f i other. ap (joinZ minus (B k)) (only-first s p h k f i other) ∙ join-none minus (B k))))
 
   -- past the longer length is past both
@@ -116,14 +121,18 @@ module _ (minus : Bool) {l : List ℕ} {a b : Block} {A B : Series} (s : Sits l 
     outside-shorter _ (b .lengths) k (λ v h. rw (max-at (a .lengths) (b .lengths) v h) (omega arith)) e,
   )
 
-  neither : Is l (block (maxShape (a .lengths) (b .lengths)) (table (count (maxShape (a .lengths) (b .lengths))) (placeJoined minus a b (maxShape (a .lengths) (b .lengths))))) (λ k. joinZ minus (A k) (B k))
+  neither : Is l (block (maxShape (a .lengths) (b .lengths))
+      (table (count (maxShape (a .lengths) (b .lengths))) (placeJoined minus a b (maxShape (a .lengths) (b .lengths)))))
+      (λ k. joinZ minus (A k) (B k))
   neither = record {
     at = λ k f i.
         let n = maxShape (a .lengths) (b .lengths) in
         let place-at : List ℕ → Float = λ j. joinAt minus (joinAt false zeroF a j) b j in
         whole-at (block n (table (count n) (λ x. place-at (index n x)))) k
         (λ j. rw (index-read n place-at k f j)
-        (join-at minus b k (rw (+ℤ-idl (A k)) at (join-at false a k whole-zero (p .at k f i) (rw (+ℤ-idl (A k)) (room .left k f i)))) (q .at k f i) (room .both k f i)))
+        (join-at minus b k (rw (+ℤ-idl (A k)) at
+        (join-at false a k whole-zero (p .at k f i) (rw (+ℤ-idl (A k)) (room .left k f i))))
+        (q .at k f i) (room .both k f i)))
         (λ e. let o = past-both k e in ap₂ (joinZ minus) (past-at a k (p .at k f i) (o .0)) (past-at b k (q .at k f i) (o .1)) ∙ join-none minus (pos 0));
   }
 

@@ -1,4 +1,5 @@
--- What sums and negation owe of their headers (document 01, 'Announced limits and lengths'): the true header is the announced one, and the coefficients are as many as it says.
+-- What sums and negation owe of their headers (document 01, 'Announced limits and lengths'): the true header is the
+-- announced one, and the coefficients are as many as it says.
 use mathlib.Core.Path.{_≡_, refl, sym, ap, _∙_}
 use mathlib.Core.Bool.{Bool, true, false}
 use mathlib.Core.List.{List}

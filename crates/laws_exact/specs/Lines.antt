@@ -1,5 +1,5 @@
--- A linear factor (document 01, port order 4): c + m v. m times the other is raised by one in v and, unless c is zero, the other times c is added: that is the exact
--- product, and every number in between is a term of it at most in size.
+-- A linear factor (document 01, port order 4): c + m v. m times the other is raised by one in v and, unless c is zero,
+-- the other times c is added: that is the exact product, and every number in between is a term of it at most in size.
 use mathlib.Core.Path.{_≡_, refl, sym, ap, _∙_}
 use mathlib.Core.Bool.{true, false, _||_}
 use mathlib.Core.List.{List}
@@ -68,7 +68,8 @@ unfolding lineOf
 line-constant i s p = rw (ap (λ (x : Linear). x .c) (i .is)) (first-whole s p)
 
 -- a line times x, given the product of x by the line's constant
-module _ {l : List ℕ} {a x : Block} {A X : Series} (byC : Block → Block) (line : Linear) (i : Line a line) (s : Sits l a) (t : Sits l x) (p : Is l a A) (q : Is l x X) (room : Fits l A X) where
+module _ {l : List ℕ} {a x : Block} {A X : Series} (byC : Block → Block) (line : Linear) (i : Line a line)
+    (s : Sits l a) (t : Sits l x) (p : Is l a A) (q : Is l x X) (room : Fits l A X) where
   abbrev v : ℕ
   v = line .variable
 
@@ -102,6 +103,9 @@ module _ {l : List ℕ} {a x : Block} {A X : Series} (byC : Block → Block) (li
       decide (eq (line .c) zeroF)
       (λ e.
       let z : A origin ≡ pos 0 = eq-zero (line-constant i s p) .0 e in
-      rw e (is-same (λ k f j. sym (exact k f j ∙ ap (λ (y : ℤ). raisedZ v (A (unit v)) X k +ℤ y) (times-comm X (constantOf A) k ∙ times-constantOf A X k f ∙ ap (λ (y : ℤ). y *ℤ X k) z ∙ zero-*ℤ (X k)) ∙ +ℤ-idr _)) up))
+      rw e (is-same (λ k f j. sym (exact k f j
+      ∙ ap (λ (y : ℤ). raisedZ v (A (unit v)) X k +ℤ y)
+      (times-comm X (constantOf A) k ∙ times-constantOf A X k f ∙ ap (λ (y : ℤ). y *ℤ X k) z ∙ zero-*ℤ (X k))
+      ∙ +ℤ-idr _)) up))
       (λ e. rw e (is-same (λ k f j. sym (exact k f j))
       (joined-is false up-sits u up c (record { left = small; both = λ k f j. rw (← exact k f j) (le-trans (abs-times A X k) (room .at k f j)) }))))

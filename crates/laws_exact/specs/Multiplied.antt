@@ -1,5 +1,5 @@
--- The whole product of two blocks under the limits l (document 01, port order 4): zero is tested before the cut, the rest after it. A zero that only the cut makes is a
--- constant like any other.
+-- The whole product of two blocks under the limits l (document 01, port order 4): zero is tested before the cut, the
+-- rest after it. A zero that only the cut makes is a constant like any other.
 use mathlib.Core.Path.{_≡_, refl, sym, ap, _∙_}
 use mathlib.Core.Bool.{true, _||_}
 use mathlib.Core.List.{List}
@@ -51,7 +51,8 @@ zero-is {Z = Z} h = is-same (λ k f i. of-both (λ x. x ≡ Z k) (eqb (degree k)
 
 -- ---- the product
 
-module _ {l : List ℕ} {a b : Block} {A B : Series} (pos-l : (k : ℕ) → k < 4 → 1 ≤ at l k) (s : Sits (a .lengths) a) (t : Sits (b .lengths) b) (p : Is l a A) (q : Is l b B) where
+module _ {l : List ℕ} {a b : Block} {A B : Series} (pos-l : (k : ℕ) → k < 4 → 1 ≤ at l k) (s : Sits (a .lengths) a)
+    (t : Sits (b .lengths) b) (p : Is l a A) (q : Is l b B) where
   -- either is zero
   zero-way : (isZero a || isZero b) ≡ true → (k : List ℕ) → length k ≡ 4 → Inside l k → times A B k ≡ pos 0
   zero-way e k f i =
@@ -59,7 +60,8 @@ module _ {l : List ℕ} {a b : Block} {A B : Series} (pos-l : (k : ℕ) → k < 
       (λ u. times-none A B k (λ j w.
       ap (λ (z : ℤ). z *ℤ B (indexMinus k j)) (zero-series pos-l s p u j (within-length w ∙ f) (before w i)) ∙ zero-*ℤ (B (indexMinus k j))))
       (λ u. times-none A B k (λ j w.
-      ap (λ (z : ℤ). A j *ℤ z) (zero-series pos-l t q (or-right (isZero a) (isZero b) e u) (indexMinus k j) (minus-length k j ∙ f) (before (minus-within k j) i)) ∙ *ℤ-zero (A j)))
+      ap (λ (z : ℤ). A j *ℤ z) (zero-series pos-l t q (or-right (isZero a) (isZero b) e u) (indexMinus k j)
+      (minus-length k j ∙ f) (before (minus-within k j) i)) ∙ *ℤ-zero (A j)))
 
   pub multiplied-is : Fits l A B → Is l (multiplied l a b) (times A B)
   unfolding multiplied

@@ -1,5 +1,5 @@
--- What a product owes of its header (document 01, 'Announced limits and lengths', product): exactly the announced limits, no length above the announced one,
--- and as many coefficients as the true header says; on every shortcut.
+-- What a product owes of its header (document 01, 'Announced limits and lengths', product): exactly the announced
+-- limits, no length above the announced one, and as many coefficients as the true header says; on every shortcut.
 use mathlib.Core.Path.{_≡_, refl, sym, ap, _∙_}
 use mathlib.Core.Bool.{false, _||_, cond}
 use mathlib.Core.List.{List}
@@ -86,7 +86,8 @@ one-more : {l : List ℕ} {x : Block} → Sits l x → (k : ℕ) → k < 4 → a
 one-more {l} {x} s k h = rw (sum-at l (x .lengths) ones k h) (omega (arith, at-four (λ k. 1) k h))
 
 -- one row more in v
-pub raised-sits : {l r : List ℕ} {x : Block} (v : ℕ) (m : Float) → v < 4 → Sits l x → Sits r x → min (at l v) (at (x .lengths) v + 1) ≤ at r v → Sits r (raised l v m x)
+pub raised-sits : {l r : List ℕ} {x : Block} (v : ℕ) (m : Float) → v < 4 → Sits l x → Sits r x
+    → min (at l v) (at (x .lengths) v + 1) ≤ at r v → Sits r (raised l v m x)
 unfolding raised grown
 raised-sits {l} {r} {x} v m h s t e =
     let n = x .lengths in
@@ -113,7 +114,8 @@ plain-fits l k c {a} {b} s t =
 
 -- a line in v times x, r the lengths that the result may have
 linear-fits : (byC : Block → Block) (l : List ℕ) (line : Linear) {r : List ℕ} {x : Block} → line .variable < 4 → Sits l x → Sits r x
-    → min (at l (line .variable)) (at (x .lengths) (line .variable) + 1) ≤ at r (line .variable) → Sits (sumShape l (x .lengths) ones) (byC x) → Sits r (linearProduct byC l line x)
+    → min (at l (line .variable)) (at (x .lengths) (line .variable) + 1) ≤ at r (line .variable)
+    → Sits (sumShape l (x .lengths) ones) (byC x) → Sits r (linearProduct byC l line x)
 unfolding linearProduct
 linear-fits byC l line {r} h s t e q =
     let up = raised-sits (line .variable) (line .m) h s t e in

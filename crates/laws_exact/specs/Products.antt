@@ -1,5 +1,6 @@
--- Document 01, 'Where the result is exact': the product of polynomials with whole coefficients is the exact truncated one where |A| |B| is at most 2 ^ 53, at every
--- index under the announced limits and on every shortcut, in 0 to 4 variables. (Document 01 also bounds |A| and |B|; nothing here asks for it.)
+-- Document 01, 'Where the result is exact': the product of polynomials with whole coefficients is the exact truncated
+-- one where |A| |B| is at most 2 ^ 53, at every index under the announced limits and on every shortcut, in 0 to 4
+-- variables. (Document 01 also bounds |A| and |B|; nothing here asks for it.)
 use mathlib.Core.Path.{_≡_, refl, ap}
 use mathlib.Core.Bool.{true}
 use mathlib.Core.List.{List}
@@ -46,11 +47,16 @@ module _ (p q : Poly) (g : Regular (p .head)) (h : Regular (q .head)) (a b : ℕ
       → Whole (coefficientAt (blockOf (productPoly p q)) k) (times (seriesIn p a) (seriesIn q b) k)
   unfolding productPoly announced paired
   product-exact =
-      multiplied-is (min-limit-pos (p .head) (q .head) (g .rules) (h .rules)) (own-sits p g u) (own-sits q h v) (wholes-is u (limitsOf p q)) (wholes-is v (limitsOf p q)) room .at
+      multiplied-is (min-limit-pos (p .head) (q .head) (g .rules) (h .rules)) (own-sits p g u) (own-sits q h v)
+      (wholes-is u (limitsOf p q)) (wholes-is v (limitsOf p q)) room .at
 
-  -- all ways agree as numbers: whichever was taken, the coefficient equals that of the general product of the cut operands
+  -- all ways agree as numbers: whichever was taken, the coefficient equals that of the general product of the cut
+  -- operands
   pub ways-agree : (k : List ℕ) → length k ≡ 4 → Inside (announced Product (p .head) (q .head) .limits) k
-      → eq (coefficientAt (blockOf (productPoly p q)) k) (coefficientAt (generalBlock (limitsOf p q) (cut (limitsOf p q) (blockOf p)) (cut (limitsOf p q) (blockOf q))) k) ≡ true
+      → eq (coefficientAt (blockOf (productPoly p q)) k)
+      (coefficientAt (generalBlock (limitsOf p q) (cut (limitsOf p q) (blockOf p)) (cut (limitsOf p q) (blockOf q)))
+      k) ≡ true
   unfolding announced paired
   ways-agree k f i =
-      whole-eq (product-exact k f i) (general-is (left-sits p q g h) (right-sits p q g h) (cut-is (wholes-is u (limitsOf p q))) (cut-is (wholes-is v (limitsOf p q))) room .at k f i) .1 refl
+      whole-eq (product-exact k f i) (general-is (left-sits p q g h) (right-sits p q g h)
+      (cut-is (wholes-is u (limitsOf p q))) (cut-is (wholes-is v (limitsOf p q))) room .at k f i) .1 refl

@@ -1,5 +1,5 @@
--- What a quotient owes of its header (document 01, 'Announced limits and lengths', quotient: a where the divisor's b is 1, else L): the true header is the announced one,
--- and the coefficients are as many as it says; on every shortcut.
+-- What a quotient owes of its header (document 01, 'Announced limits and lengths', quotient: a where the divisor's b is
+-- 1, else L): the true header is the announced one, and the coefficients are as many as it says; on every shortcut.
 use mathlib.Core.Path.{_≡_, refl, _∙_}
 use mathlib.Core.List.{List, []}
 use Prim.Native.Nat.{ℕ, _≤_, _<_}

@@ -1,4 +1,5 @@
--- m times a block, shifted up by one in a variable (document 01, port order 4, the source's `mul_var`), cut to the limits.
+-- m times a block, shifted up by one in a variable (document 01, port order 4, the source's `mul_var`), cut to the
+-- limits.
 use mathlib.Core.Path.{_≡_, sym, ap, _∙_}
 use mathlib.Core.Bool.{true≢false}
 use mathlib.Core.List.{List}
@@ -61,5 +62,6 @@ raised-is {l} {x} {X} {m} {M} v h s q w room = record {
       (λ t. rw t)
       (λ t.
       let p = positive (at k v) (eqb-false _ _ t) in
-      rw t (ap (λ (z : ℤ). z *ℤ M) (past-at x k' (q .at k' f' (inside-less f v h p i)) (outside n k' (λ j. true≢false (sym (is-inside (inside-raise f v h p long-n i j)) ∙ o)))) ∙ zero-*ℤ M)));
+      rw t (ap (λ (z : ℤ). z *ℤ M) (past-at x k' (q .at k' f' (inside-less f v h p i))
+      (outside n k' (λ j. true≢false (sym (is-inside (inside-raise f v h p long-n i j)) ∙ o)))) ∙ zero-*ℤ M)));
 }

@@ -1,4 +1,5 @@
--- The variables left (document 01, port order 4, 'General': recursion on the first variable): n of four numbers from the variable v on, as the box that they span.
+-- The variables left (document 01, port order 4, 'General': recursion on the first variable): n of four numbers from
+-- the variable v on, as the box that they span.
 use mathlib.Core.Path.{_≡_, refl, ap}
 use mathlib.Core.List.{List, [], _∷_}
 use Prim.Native.Nat.{ℕ, zero, suc, _+_, _*_, _≤_, _<_}

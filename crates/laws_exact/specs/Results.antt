@@ -1,5 +1,6 @@
--- The results are polynomials with whole coefficients again, so that the laws of this crate apply to them (document 01, 'Where the result is exact', of what is made in several
--- steps): their series are the exact ones under the limits, |A + B| is at most |A| + |B|, and |A B| at most |A| |B|.
+-- The results are polynomials with whole coefficients again, so that the laws of this crate apply to them (document 01,
+-- 'Where the result is exact', of what is made in several steps): their series are the exact ones under the limits, |A
+-- + B| is at most |A| + |B|, and |A B| at most |A| |B|.
 use mathlib.Core.Path.{_≡_, refl, ap}
 use mathlib.Core.Bool.{true, false}
 use mathlib.Core.List.{List}
@@ -50,7 +51,8 @@ keeps-sits k = record {
   full = k .full;
 }
 
-pub result : {h : Header} {p : Poly} {Z : Series} {n : ℕ} → Keeps h p → Is (h .limits) (blockOf p) Z → weight (p .head .lengths) Z ≤ n → Result (h .limits) p Z n
+pub result : {h : Header} {p : Poly} {Z : Series} {n : ℕ} → Keeps h p → Is (h .limits) (blockOf p) Z
+    → weight (p .head .lengths) Z ≤ n → Result (h .limits) p Z n
 result k w b = let s = keeps-sits k in record { wholes = is-wholes s w; agrees = wholes-agree s w; light = le-trans (wholes-weight s w) b }
 
 -- ---- weights over other lengths
@@ -81,17 +83,21 @@ module _ (p q : Poly) (g : Regular (p .head)) (h : Regular (q .head)) (a b : ℕ
         let k = combined-keeps p q g h false in
         let n = combined false p q .head .lengths in
         let e = ap length (k .regular .ns) in
-        result k (record { at = sum-exact p q g h a b u v bound }) (omega (arith, weight-plus (seriesIn p a) (seriesIn q b) n, left-weight n e, right-weight n e))
+        result k (record { at = sum-exact p q g h a b u v bound })
+        (omega (arith, weight-plus (seriesIn p a) (seriesIn q b) n, left-weight n e, right-weight n e))
 
-    pub difference-result : Result (announced Sum (p .head) (q .head) .limits) (combined true p q) (less (seriesIn p a) (seriesIn q b)) (weightIn p a + weightIn q b)
+    pub difference-result : Result (announced Sum (p .head) (q .head) .limits) (combined true p q)
+        (less (seriesIn p a) (seriesIn q b)) (weightIn p a + weightIn q b)
     difference-result =
         let k = combined-keeps p q g h true in
         let n = combined true p q .head .lengths in
         let e = ap length (k .regular .ns) in
-        result k (record { at = difference-exact p q g h a b u v bound }) (omega (arith, weight-less (seriesIn p a) (seriesIn q b) n, left-weight n e, right-weight n e))
+        result k (record { at = difference-exact p q g h a b u v bound })
+        (omega (arith, weight-less (seriesIn p a) (seriesIn q b) n, left-weight n e, right-weight n e))
 
   module _ (bound : weightIn p a * weightIn q b ≤ 2 ^ 53) where
-    pub product-result : Result (announced Product (p .head) (q .head) .limits) (productPoly p q) (times (seriesIn p a) (seriesIn q b)) (weightIn p a * weightIn q b)
+    pub product-result : Result (announced Product (p .head) (q .head) .limits) (productPoly p q)
+        (times (seriesIn p a) (seriesIn q b)) (weightIn p a * weightIn q b)
     product-result =
         let k = product-keeps p q g h in
         let e = ap length (k .regular .ns) in

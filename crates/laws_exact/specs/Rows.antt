@@ -1,5 +1,7 @@
--- One place of the general product (document 01, port order 4, 'General') is the exact product of the series there, where the sizes of its terms sum to 2 ^ 53 at most.
--- The recursion on the first variable is the sum over the first number of an index; a line is such a sum where every later number is 0.
+-- One place of the general product (document 01, port order 4, 'General') is the exact product of the series there,
+-- where the sizes of its terms sum to 2 ^ 53 at most.
+-- The recursion on the first variable is the sum over the first number of an index; a line is such a sum where every
+-- later number is 0.
 use mathlib.Core.Path.{_≡_, sym, _∙_}
 use mathlib.Core.Bool.{true, not}
 use mathlib.Core.List.{List, [], _∷_}
@@ -39,7 +41,8 @@ module _ {r k : List ℕ} {a b : Block} (s : Sits r a) (t : Sits r b) (i : Insid
   unfolding alone
   alone-rest n v h = eqb-true _ _ (and-right (not (eqb (at r v) 1)) (eqb (span r n (suc v)) 1) h)
 
-  pub place-whole : (n v : ℕ) → n + v ≡ 4 → {xs ys : List Float} {P Q : Series} → Stores (from lx n v) (from k n v) xs P → Stores (from ly n v) (from k n v) ys Q
+  pub place-whole : (n v : ℕ) → n + v ≡ 4 → {xs ys : List Float} {P Q : Series} → Stores (from lx n v) (from k n v) xs P
+      → Stores (from ly n v) (from k n v) ys Q
       → {x : Float} {c : ℤ} → Whole x c → natAbs c + sizes P Q (from k n v) ≤ 2 ^ 53 → Whole (productAt lx ly r k n v xs ys x) (c +ℤ times P Q (from k n v))
   unfolding productAt from boxPlace
   place-whole zero v e {P = P} {Q = Q} p q w h = rw (times-nil P Q) (mul-step w (p .known [] InBox.none) (q .known [] InBox.none) (rw (sizes-nil P Q) at h))

@@ -1,5 +1,6 @@
--- A value that runs through several products and sums under the limits l, as in `pow` and in Horner's rule (document 01, port order 7): it sits under l, and no length is
--- above x. A product adds the lengths less 1; cut at every step, it never passes l.
+-- A value that runs through several products and sums under the limits l, as in `pow` and in Horner's rule (document
+-- 01, port order 7): it sits under l, and no length is above x. A product adds the lengths less 1; cut at every step,
+-- it never passes l.
 use Prim.Native.Nat.{ℕ, _+_, _≤_, _<_, min}
 use mathlib.Core.Bool.{false, _||_}
 use mathlib.Core.List.{List}
@@ -17,7 +18,8 @@ use Rattle.model.specs.Add.{joinedBlock}
 use Rattle.model.specs.Product.{isZero, constantBlock, multiplied}
 use Rattle.shape_words.specs.Rules.{Regular}
 use Rattle.shape.specs.Keeps.{Keeps}
-use Rattle.laws_exact.specs.Sits.{Sits, sits-more, cut-at, cut-sits, sum-at, max-at}
+use Rattle.shape.specs.Cut.{cut-at}
+use Rattle.laws_exact.specs.Sits.{Sits, sits-more, cut-sits, sum-at, max-at}
 use Rattle.laws_exact.specs.Keeps.{sits-keeps, joined-sits, joined-under}
 use Rattle.laws_exact.specs.ProductKeeps.{constant-sits, left-fits, shape-under, product-sits}
 
@@ -31,7 +33,8 @@ most-more h m = record { sits = m .sits; most = λ k g. le-trans (m .most k g) (
 pub constant-most : {l : List ℕ} {x : ℕ → ℕ} {b : Block} (c : Float) → Sits l b → ((k : ℕ) → k < 4 → 1 ≤ x k) → Most l x (constantBlock c)
 constant-most c s h = record { sits = constant-sits c s; most = λ k g. le-trans (omega (arith, at-four (λ k. 1) k g)) (h k g) }
 
-module _ (l : List ℕ) (a b : Block) (pos-l : (k : ℕ) → k < 4 → 1 ≤ at l k) (p : (k : ℕ) → k < 4 → 1 ≤ at (a .lengths) k) (q : (k : ℕ) → k < 4 → 1 ≤ at (b .lengths) k) where
+module _ (l : List ℕ) (a b : Block) (pos-l : (k : ℕ) → k < 4 → 1 ≤ at l k) (p : (k : ℕ) → k < 4 → 1 ≤ at (a .lengths) k)
+    (q : (k : ℕ) → k < 4 → 1 ≤ at (b .lengths) k) where
   -- the whole product, zero tested before the cut
   pub multiplied-fits : Sits (sumShape l (cut l a .lengths) (cut l b .lengths)) (multiplied l a b)
   unfolding multiplied
@@ -60,7 +63,8 @@ joined-most {a = a} {b = b} m n = record {
 }
 
 -- a running value under the limits and the lengths of a header
-pub most-keeps : {h : Header} {x : ℕ → ℕ} {b : Block} → Regular h → Most (h .limits) x b → ((k : ℕ) → k < 4 → min (limit h k) (x k) ≤ len h k) → Keeps h (polyOf h b)
+pub most-keeps : {h : Header} {x : ℕ → ℕ} {b : Block} → Regular h → Most (h .limits) x b
+    → ((k : ℕ) → k < 4 → min (limit h k) (x k) ≤ len h k) → Keeps h (polyOf h b)
 most-keeps r m e =
     let s = m .sits in
     sits-keeps r (record { ns = s .ns; lo = s .lo; hi = λ k h. le-trans (omega (arith, s .hi k h, m .most k h)) (e k h); full = s .full })

@@ -1,5 +1,6 @@
--- What exp and log owe of their headers (document 01, 'Announced limits and lengths', exp and log: 1 where a is 1, else L): the true header is the announced one, and
--- the coefficients are as many as it says. Of a constant they give the head alone.
+-- What exp and log owe of their headers (document 01, 'Announced limits and lengths', exp and log: 1 where a is 1, else
+-- L): the true header is the announced one, and the coefficients are as many as it says. Of a constant they give the
+-- head alone.
 use mathlib.Core.Path.{_≡_, refl, sym, ap, _∙_}
 use mathlib.Core.Bool.{not, cond}
 use mathlib.Core.List.{List, [], _∷_}
@@ -50,7 +51,8 @@ module _ (head : Float) (lx r : List ℕ) where
 count-after : (l : List ℕ) (v : ℕ) → v < 4 → count (after v l) ≡ span l (3 - v) (suc v)
 unfolding span
 count-after l =
-    each (λ v. count (after v l) ≡ span l (3 - v) (suc v)) (one-mul _) (one-mul _ ∙ one-mul _) (one-mul _ ∙ (one-mul _ ∙ one-mul _)) (one-mul _ ∙ (one-mul _ ∙ (one-mul _ ∙ one-mul _)))
+    each (λ v. count (after v l) ≡ span l (3 - v) (suc v)) (one-mul _) (one-mul _ ∙ one-mul _)
+    (one-mul _ ∙ (one-mul _ ∙ one-mul _)) (one-mul _ ∙ (one-mul _ ∙ (one-mul _ ∙ one-mul _)))
 
 pub after-count : (l : List ℕ) (n v : ℕ) → v + suc n ≡ 4 → count (after v l) ≡ span l n (suc v)
 after-count l n v h = let e : 3 - v ≡ n = omega arith in count-after l v (omega arith) ∙ ap (λ (m : ℕ). span l m (suc v)) e
@@ -107,7 +109,8 @@ span-after {lx} u n v m e h =
     let p : 1 * span lx n (suc v) ≤ at lx v * span lx n (suc v) = mul-le-mul-right (span lx n (suc v)) (u .lo v (omega arith)) in
     omega (arith, p, one-mul (span lx n (suc v)))
 
-pub length-log : (head : Float) {lx r : List ℕ} → Under lx r → (xs : List Float) (n v : ℕ) → v + n ≡ 4 → span lx n v ≤ length xs → length (logRows head lx r n v xs) ≡ span r n v
+pub length-log : (head : Float) {lx r : List ℕ} → Under lx r → (xs : List Float) (n v : ℕ) → v + n ≡ 4
+    → span lx n v ≤ length xs → length (logRows head lx r n v xs) ≡ span r n v
 unfolding logRows alone span
 length-log head u xs zero v e m = refl
 length-log head {lx} {r} u xs (suc n) v e m =
@@ -120,7 +123,8 @@ length-log head {lx} {r} u xs (suc n) v e m =
     rw (t, o) (length-grow (at r v - 1) (logNext head lx r v xs) (head ∷ []) ∙ omega (arith, mul-one (at r v))))
     (λ t.
     rw t
-    (length-stack (logRow head lx r n v xs) (logRows head lx r n (suc v) xs) (span r n (suc v)) (length-log head u xs n (suc v) (omega arith) l) (length-row u v n e xs l head) (at r v - 1)
+    (length-stack (logRow head lx r n v xs) (logRows head lx r n (suc v) xs) (span r n (suc v))
+    (length-log head u xs n (suc v) (omega arith) l) (length-row u v n e xs l head) (at r v - 1)
     ∙ ap (λ (i : ℕ). i * span r n (suc v)) c))
 
 -- ---- the headers

@@ -1,5 +1,6 @@
--- What `derivative`, `taylor_expansion_of_coeff` and `shift_down` owe of their headers (document 01, 'Announced limits and lengths', the three shifts): limits less n in the
--- variable, no length above max(1, a - n) there and a elsewhere, and as many coefficients as the true header says; past the stored length too.
+-- What `derivative`, `taylor_expansion_of_coeff` and `shift_down` owe of their headers (document 01, 'Announced limits
+-- and lengths', the three shifts): limits less n in the variable, no length above max(1, a - n) there and a elsewhere,
+-- and as many coefficients as the true header says; past the stored length too.
 use mathlib.Core.Path.{_≡_, refl}
 use mathlib.Core.List.{List}
 use mathlib.Core.Bool.{cond}

@@ -1,5 +1,5 @@
--- A block that sits under the lengths r (document 01, 'Announced limits and lengths': the true length may be shorter): four lengths of 1 to r, and as many places
--- as they say. What cutting leaves sits under the limits.
+-- A block that sits under the lengths r (document 01, 'Announced limits and lengths': the true length may be shorter):
+-- four lengths of 1 to r, and as many places as they say. What cutting leaves sits under the limits.
 use mathlib.Core.Path.{_≡_, refl, sym, _∙_}
 use mathlib.Core.List.{List}
 use Prim.Native.Nat.{ℕ, _+_, _-_, _≤_, _<_, min, max}
@@ -10,7 +10,7 @@ use Rattle.lists.specs.Four.{at, four, at-four, four-same}
 use Rattle.model.specs.Header.{count}
 use Rattle.model.specs.Limits.{cutTo, maxShape, sumShape}
 use Rattle.model.specs.Poly.{Block, cut}
-use Rattle.shape.specs.Cut.{cut-full}
+use Rattle.shape.specs.Cut.{cut-full, cut-at}
 use Rattle.shape_words.specs.Spans.{count-one}
 
 pub record Sits (r : List ℕ) (b : Block) : Type 0 where
@@ -25,10 +25,6 @@ sits-more h s = record { ns = s .ns; lo = s .lo; hi = λ k l. le-trans (s .hi k 
 -- under its own lengths
 pub sits-self : {r : List ℕ} {b : Block} → Sits r b → Sits (b .lengths) b
 sits-self s = record { ns = s .ns; lo = s .lo; hi = λ k l. le-refl _; full = s .full }
-
-pub cut-at : (l n : List ℕ) (k : ℕ) → k < 4 → at (cutTo l n) k ≡ min (at l k) (at n k)
-unfolding cutTo
-cut-at l n = at-four (λ k. min (at l k) (at n k))
 
 pub cut-sits : (l : List ℕ) (b : Block) → ((k : ℕ) → k < 4 → 1 ≤ at l k) → ((k : ℕ) → k < 4 → 1 ≤ at (b .lengths) k) → Sits l (cut l b)
 unfolding cut cutTo
@@ -53,9 +49,11 @@ sum-at l n m = at-four (λ k. min (at l k) (at n k + at m k - 1))
 pub max-left : {r t : List ℕ} {a b : Block} → Sits r a → Sits t b → count (b .lengths) ≡ 1 → maxShape (a .lengths) (b .lengths) ≡ a .lengths
 unfolding maxShape
 max-left {a = a} {b = b} s t h =
-    four-same (λ k. max (at (a .lengths) k) (at (b .lengths) k)) (at (a .lengths)) (λ k l. omega (arith, s .lo k l, count-one (b .lengths) (t .lo) h k l)) ∙ sym (s .ns)
+    four-same (λ k. max (at (a .lengths) k) (at (b .lengths) k)) (at (a .lengths))
+    (λ k l. omega (arith, s .lo k l, count-one (b .lengths) (t .lo) h k l)) ∙ sym (s .ns)
 
 pub max-right : {r t : List ℕ} {a b : Block} → Sits r a → Sits t b → count (a .lengths) ≡ 1 → maxShape (a .lengths) (b .lengths) ≡ b .lengths
 unfolding maxShape
 max-right {a = a} {b = b} s t h =
-    four-same (λ k. max (at (a .lengths) k) (at (b .lengths) k)) (at (b .lengths)) (λ k l. omega (arith, t .lo k l, count-one (a .lengths) (s .lo) h k l)) ∙ sym (t .ns)
+    four-same (λ k. max (at (a .lengths) k) (at (b .lengths) k)) (at (b .lengths))
+    (λ k l. omega (arith, t .lo k l, count-one (a .lengths) (s .lo) h k l)) ∙ sym (t .ns)

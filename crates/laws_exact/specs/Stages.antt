@@ -1,4 +1,5 @@
--- The product of two blocks that are cut already (document 01, port order 4) is the exact one on whichever way is chosen: one, constant, linear, general, from either side.
+-- The product of two blocks that are cut already (document 01, port order 4) is the exact one on whichever way is
+-- chosen: one, constant, linear, general, from either side.
 -- The product by a constant that a line asks for is the product again, one stage lower.
 use mathlib.Core.Path.{_≡_, refl, sym, ap, _∙_}
 use mathlib.Core.Bool.{true, cond, true≢false}
@@ -90,7 +91,8 @@ line-way stage {l} {a} {x} {A} s t p q r i given =
     linear-product (λ y. productOf stage l y (constantBlock (linear a .c))) (linear a) i s t p q r
     (sits-more (shape-under l _ _) (product-sits stage t (constant-sits (linear a .c) t))) given
 
-pub product-is : (stage : ℕ) {l : List ℕ} {a b : Block} {A B : Series} → Sits l a → Sits l b → Is l a A → Is l b B → Fits l A B → Is l (productOf stage l a b) (times A B)
+pub product-is : (stage : ℕ) {l : List ℕ} {a b : Block} {A B : Series} → Sits l a → Sits l b → Is l a A → Is l b B
+    → Fits l A B → Is l (productOf stage l a b) (times A B)
 unfolding productOf plainProduct
 product-is zero {l} {a} {b} {A} {B} s t p q r =
     by-way {P = λ w. Is l (plainProduct l (w .kind) (w .line .c) a b) (times A B)}
@@ -120,6 +122,8 @@ product-is (suc stage) {l} {a} {b} {A} {B} s t p q r =
           line-way stage s t p q r i (product-is stage t (constant-sits _ t) q (constant-is A (line-constant i s p)) (fits-constant r));
       right-linear = λ _ e.
           let i = linear-is b e in
-          swapped A B (line-way stage t s q p (fits-comm r) i (product-is stage s (constant-sits _ s) p (constant-is B (line-constant i t q)) (fits-constant (fits-comm r))));
+          swapped A B (line-way stage t s q p (fits-comm r) i
+          (product-is stage s (constant-sits _ s) p (constant-is B (line-constant i t q))
+          (fits-constant (fits-comm r))));
       rest = general-is s t p q r;
     })

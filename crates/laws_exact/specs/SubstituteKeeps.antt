@@ -1,5 +1,6 @@
--- What `subst_var` owes of its header (document 01, 'Announced limits and lengths', substitution, and port order 7): the polynomial itself where it lacks the variable; else
--- the smaller limits, and no length above min(L, 1+(p-1)(b-1)) in v and min(L, a+(p-1)(b-1)) elsewhere, p the uncut length of v; on the zero, linear and Horner paths.
+-- What `subst_var` owes of its header (document 01, 'Announced limits and lengths', substitution, and port order 7):
+-- the polynomial itself where it lacks the variable; else the smaller limits, and no length above min(L, 1+(p-1)(b-1))
+-- in v and min(L, a+(p-1)(b-1)) elsewhere, p the uncut length of v; on the zero, linear and Horner paths.
 use mathlib.Core.Path.{_≡_, refl}
 use mathlib.Core.Bool.{false, _&&_}
 use mathlib.Core.List.{List}
@@ -30,7 +31,8 @@ use Rattle.shape.specs.Limits.{min-limit-pos}
 use Rattle.shape.specs.Announced.{paired-regular}
 use Rattle.shape.specs.Under.{under-same}
 use Rattle.shape.specs.Keeps.{Keeps}
-use Rattle.laws_exact.specs.Sits.{Sits, cut-at}
+use Rattle.shape.specs.Cut.{cut-at}
+use Rattle.laws_exact.specs.Sits.{Sits}
 use Rattle.laws_exact.specs.Keeps.{limitsOf}
 use Rattle.laws_exact.specs.ProductKeeps.{set-four}
 use Rattle.laws_exact.specs.Ways.{linear-is, line-two}
@@ -73,14 +75,17 @@ module _ (l : List ℕ) (v : ℕ) (a : Block) (h : v < 4) (pos-l : (k : ℕ) →
     abbrev more : ℕ → ℕ
     more k = min (at l k) (at (b .lengths) k) - 1
 
-    turn-most : (n : ℕ) (x : ℕ → ℕ) {res : Block} → ((k : ℕ) → k < 4 → at rowLengths k ≤ x k) → Most l x res → Most l (λ k. x k + more k) (joinedBlock false (multiplied l res b) (rowAt l v a n))
+    turn-most : (n : ℕ) (x : ℕ → ℕ) {res : Block} → ((k : ℕ) → k < 4 → at rowLengths k ≤ x k) → Most l x res
+        → Most l (λ k. x k + more k) (joinedBlock false (multiplied l res b) (rowAt l v a n))
     unfolding cut
     turn-most n x {res} e m =
         joined-most
-        (multiplied-most l res b pos-l (m .sits .lo) pos-b {y = λ k. more k + 1} (m .most) (λ k g. rw (cut-at l (b .lengths) k g) (omega arith)) (λ k g. omega arith))
+        (multiplied-most l res b pos-l (m .sits .lo) pos-b {y = λ k. more k + 1} (m .most)
+        (λ k g. rw (cut-at l (b .lengths) k g) (omega arith)) (λ k g. omega arith))
         (most-more (λ k g. le-trans (e k g) (omega arith)) (row-most n))
 
-    horner-most : (n : ℕ) (x : ℕ → ℕ) {res : Block} → ((k : ℕ) → k < 4 → at rowLengths k ≤ x k) → Most l x res → Most l (λ k. x k + n * more k) (horner l v a n b res)
+    horner-most : (n : ℕ) (x : ℕ → ℕ) {res : Block} → ((k : ℕ) → k < 4 → at rowLengths k ≤ x k) → Most l x res
+        → Most l (λ k. x k + n * more k) (horner l v a n b res)
     unfolding horner
     horner-most zero x e m = most-more (λ k g. omega arith) m
     horner-most (suc n) x e m =
@@ -129,11 +134,14 @@ module _ (v : ℕ) (p q : Poly) (g : Regular (p .head)) (h : Regular (q .head)) 
   abbrev lengthAt : ℕ → ℕ
   lengthAt k = lengthAfter (Substitution v) k (at limits k) (len (p .head) v) (min (at limits k) (len (p .head) k)) (min (at limits k) (len (q .head) k))
 
-  pub lengths-fit : v < 4 → (k : ℕ) → k < 4 → min (at limits k) (at (set (cutTo limits (p .head .lengths)) v 1) k + (len (p .head) v - 1) * (min (at limits k) (len (q .head) k) - 1)) ≤ at (four lengthAt) k
+  pub lengths-fit : v < 4 → (k : ℕ) → k < 4 → min (at limits k)
+      (at (set (cutTo limits (p .head .lengths)) v 1) k
+      + (len (p .head) v - 1) * (min (at limits k) (len (q .head) k) - 1)) ≤ at (four lengthAt) k
   unfolding cutTo
   lengths-fit i k l =
       rw (at-four lengthAt k l)
-      (one-changed (λ k x. min (at limits k) (x + (len (p .head) v - 1) * (min (at limits k) (len (q .head) k) - 1)) ≤ lengthAt k) (cutTo limits (p .head .lengths)) v 1 i
+      (one-changed (λ k x. min (at limits k) (x + (len (p .head) v - 1) * (min (at limits k) (len (q .head) k) - 1))
+      ≤ lengthAt k) (cutTo limits (p .head .lengths)) v 1 i
       (rw (eq-eqb v v refl) (le-refl _))
       (λ k l o. rw (ne-eqb k v o, cut-at limits (p .head .lengths) k l) (le-refl _)) k l)
 
@@ -145,7 +153,8 @@ module _ (v : ℕ) (p q : Poly) (g : Regular (p .head)) (h : Regular (q .head)) 
       let i : v < 4 = omega (arith, ltb-true v (p .head .vars) t, g .rules .few) in
       rw t
       (most-keeps (paired-regular (Substitution v) (len (p .head) v) (g .rules) (h .rules))
-      (substituted-most limits v (blockOf p) i (min-limit-pos (p .head) (q .head) (g .rules) (h .rules)) (λ k l. ruled-at (g .rules) k l .pos) (blockOf q) (λ k l. ruled-at (h .rules) k l .pos))
+      (substituted-most limits v (blockOf p) i (min-limit-pos (p .head) (q .head) (g .rules) (h .rules))
+      (λ k l. ruled-at (g .rules) k l .pos) (blockOf q) (λ k l. ruled-at (h .rules) k l .pos))
       (lengths-fit i)))
       (λ t. rw t (record { regular = g; under = under-same (p .head); full = full }))
 

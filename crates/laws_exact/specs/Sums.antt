@@ -1,5 +1,6 @@
--- Document 01, 'Where the result is exact': sum and difference of polynomials with whole coefficients are the exact truncated ones where |A| + |B| is at most 2 ^ 53,
--- at every index under the announced limits and on every shortcut. Negation is exact wherever the coefficients are whole.
+-- Document 01, 'Where the result is exact': sum and difference of polynomials with whole coefficients are the exact
+-- truncated ones where |A| + |B| is at most 2 ^ 53, at every index under the announced limits and on every shortcut.
+-- Negation is exact wherever the coefficients are whole.
 use mathlib.Core.Path.{_≡_, refl, ap}
 use mathlib.Core.Bool.{Bool, true, false}
 use mathlib.Core.List.{List}
@@ -48,7 +49,9 @@ module _ (p q : Poly) (g : Regular (p .head)) (h : Regular (q .head)) (a b : ℕ
 
   combined-is : (minus : Bool) → Is (limitsOf p q) (blockOf (combined minus p q)) (λ k. joinZ minus (seriesIn p a k) (seriesIn q b k))
   unfolding combined announced paired
-  combined-is minus = joined-is minus (left-sits p q g h) (right-sits p q g h) (cut-is (wholes-is u (limitsOf p q))) (cut-is (wholes-is v (limitsOf p q))) (room minus)
+  combined-is minus =
+      joined-is minus (left-sits p q g h) (right-sits p q g h) (cut-is (wholes-is u (limitsOf p q)))
+      (cut-is (wholes-is v (limitsOf p q))) (room minus)
 
   pub sum-exact : (k : List ℕ) → length k ≡ 4 → Inside (announced Sum (p .head) (q .head) .limits) k
       → Whole (coefficientAt (blockOf (combined false p q)) k) (plus (seriesIn p a) (seriesIn q b) k)
@@ -65,4 +68,5 @@ pub negated-exact : (p : Poly) → Regular (p .head) → (a : ℕ → ℤ) → W
 unfolding negated
 negated-exact p g a w k f =
     let l = four (λ v. suc (at k v)) in
-    rw (negated-head p g) (negated-is (stored (p .head)) refl (wholes-is w l) .at k f (inside-four (each (λ v. at k v < at l v) (le-refl _) (le-refl _) (le-refl _) (le-refl _))))
+    rw (negated-head p g) (negated-is (stored (p .head)) refl (wholes-is w l) .at k f
+    (inside-four (each (λ v. at k v < at l v) (le-refl _) (le-refl _) (le-refl _) (le-refl _))))

@@ -1,5 +1,6 @@
--- The terms that one place of a product sums, by the first variable left (document 01, port order 4, 'General'): the source's range of j leaves out only zeros, and where
--- every later length is 1 the terms are products of two numbers, which the source sums from +0.0 and then adds (`mul_1d`).
+-- The terms that one place of a product sums, by the first variable left (document 01, port order 4, 'General'): the
+-- source's range of j leaves out only zeros, and where every later length is 1 the terms are products of two numbers,
+-- which the source sums from +0.0 and then adds (`mul_1d`).
 use mathlib.Core.Path.{_≡_, sym, ap, _∙_}
 use mathlib.Core.List.{List, _∷_}
 use Prim.Native.Nat.{ℕ, suc, _+_, _-_, _*_, _^_, _≤_, _<_}
@@ -60,10 +61,12 @@ module _ {n m k : ℕ} {ns ms ks : List ℕ} {xs ys : List Float} {P Q : Series}
   out-of-window i h o =
       decide (ltb i (lo m k))
       (λ e. let l = ltb-true i (lo m k) e in
-      times-none _ _ ks (λ j w. ap (λ (x : ℤ). P (i ∷ j) *ℤ x) (row-past t (k - i) (omega arith) (omega arith) (indexMinus ks j) (minus-within ks j)) ∙ *ℤ-zero (P (i ∷ j))))
+      times-none _ _ ks (λ j w. ap (λ (x : ℤ). P (i ∷ j) *ℤ x)
+      (row-past t (k - i) (omega arith) (omega arith) (indexMinus ks j) (minus-within ks j)) ∙ *ℤ-zero (P (i ∷ j))))
       (λ e. let l = ltb-false i (lo m k) e in
       let far : n ≤ i = decide (ltb i n) (λ x. absurd (let y = ltb-true i n x in o l (omega arith))) (λ x. ltb-false i n x) in
-      times-none _ _ ks (λ j w. ap (λ (x : ℤ). x *ℤ Q ((k - i) ∷ indexMinus ks j)) (row-past s i (omega arith) far j w) ∙ zero-*ℤ (Q ((k - i) ∷ indexMinus ks j))))
+      times-none _ _ ks (λ j w. ap (λ (x : ℤ). x *ℤ Q ((k - i) ∷ indexMinus ks j)) (row-past s i (omega arith) far j w)
+      ∙ zero-*ℤ (Q ((k - i) ∷ indexMinus ks j))))
 
   pub times-window : times P Q (k ∷ ks) ≡ sumZ termZ (steps n m k) (lo m k)
   times-window = times-row P Q k ks ∙ sum-window addZ termZ (suc k) (lo m k) (steps n m k) (omega arith) out-of-window

@@ -1,4 +1,5 @@
--- The ways of a product (document 01, port order 4), one after the other: what holds on each way holds of the way chosen. And what a linear factor is.
+-- The ways of a product (document 01, port order 4), one after the other: what holds on each way holds of the way
+-- chosen. And what a linear factor is.
 use mathlib.Core.Path.{_≡_, refl, sym}
 use mathlib.Core.Bool.{Bool, true, false, cond, true≢false}
 use Prim.Native.Nat.{ℕ, zero, suc, _+_, _≤_, _<_}
@@ -78,4 +79,6 @@ module _ (b : Block) where
   -- and at every place but the first two rows' first a zero
   pub line-place : (v : ℕ) → linearIn b v ≡ true → (p : ℕ) → p < count (b .lengths) → linearPlace (b .places) (rowOne b v) p ≡ true
   unfolding linearIn
-  line-place v h p l = zeros-at (rowOne b v) (count (b .lengths)) p (and-right (leb 2 (at (b .lengths) v)) (zerosBut (b .places) (rowOne b v) (count (b .lengths))) h) l
+  line-place v h p l =
+      zeros-at (rowOne b v) (count (b .lengths)) p
+      (and-right (leb 2 (at (b .lengths) v)) (zerosBut (b .places) (rowOne b v) (count (b .lengths))) h) l

@@ -1,5 +1,6 @@
--- A block of whole numbers (document 01, 'Where the result is exact': whole coefficients; equality as numbers), and a block that is a series wherever an index lies
--- under the limits l. The second is what every operation is said to keep: it does not ask how the block is stored, so shortcuts compose.
+-- A block of whole numbers (document 01, 'Where the result is exact': whole coefficients; equality as numbers), and a
+-- block that is a series wherever an index lies under the limits l. The second is what every operation is said to keep:
+-- it does not ask how the block is stored, so shortcuts compose.
 use mathlib.Core.Path.{_≡_, refl, sym, ap, _∙_}
 use mathlib.Core.Bool.{false, true≢false}
 use mathlib.Core.List.{List}
@@ -69,7 +70,9 @@ place-origin n = omega arith
 module _ {b : Block} {a : ℕ → ℤ} (w : Wholes b a) where
   pub wholes-at : (k : List ℕ) → Whole (coefficientAt b k) (seriesOf (b .lengths) a k)
   unfolding coefficientAt seriesOf truncated
-  wholes-at k = decide (inside (b .lengths) k) (λ t. rw t (w .at (place (b .lengths) k) (place-lt (b .lengths) k (inside-is (b .lengths) k t)))) (λ t. rw t whole-zero)
+  wholes-at k =
+      decide (inside (b .lengths) k) (λ t. rw t
+      (w .at (place (b .lengths) k) (place-lt (b .lengths) k (inside-is (b .lengths) k t)))) (λ t. rw t whole-zero)
 
   pub wholes-is : (l : List ℕ) → Is l b (seriesOf (b .lengths) a)
   wholes-is l = record { at = λ k f i. wholes-at k }

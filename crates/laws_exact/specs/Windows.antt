@@ -1,5 +1,6 @@
--- Laws of sums and products of series, by the first variable (they belong beside crate whole's SeriesLaws): a sum over a range of which only a window is not zero,
--- the product at an index as a sum over its first number, and the product at the constant's index.
+-- Laws of sums and products of series, by the first variable (they belong beside crate whole's SeriesLaws): a sum over
+-- a range of which only a window is not zero, the product at an index as a sum over its first number, and the product
+-- at the constant's index.
 use mathlib.Core.Path.{_≡_, refl, sym, ap, ap₂, _∙_}
 use mathlib.Core.List.{List, [], _∷_}
 use Prim.Native.Nat.{ℕ, zero, suc, _+_, _-_, _*_, _≤_, _<_, suc-le-suc}

@@ -1,4 +1,5 @@
--- The quotient of two blocks under the limits l (document 01, port order 5: divisor one, divisor constant, else the recurrence) is the exact one on whichever way is chosen.
+-- The quotient of two blocks under the limits l (document 01, port order 5: divisor one, divisor constant, else the
+-- recurrence) is the exact one on whichever way is chosen.
 use mathlib.Core.Path.{_≡_, refl, ap, _∙_}
 use mathlib.Core.Bool.{true}
 use mathlib.Core.List.{List}
@@ -34,7 +35,8 @@ use Rattle.laws_exact_quotient.specs.Inverses.{quotient-only-under}
 use Rattle.laws_exact_quotient.specs.Recurred.{recurred-is}
 
 -- each place divided by c, which is 1 or -1
-divided-by : {l : List ℕ} {a : Block} {A : Series} {c : Float} {C : ℤ} → Whole c C → natAbs C ≡ 1 → Is l a A → ((k : List ℕ) → length k ≡ 4 → Inside l k → natAbs (A k) ≤ 2 ^ 53)
+divided-by : {l : List ℕ} {a : Block} {A : Series} {c : Float} {C : ℤ} → Whole c C → natAbs C ≡ 1 → Is l a A
+    → ((k : List ℕ) → length k ≡ 4 → Inside l k → natAbs (A k) ≤ 2 ^ 53)
     → Is l (block (a .lengths) (table (count (a .lengths)) (dividedAt c (a .places)))) (λ k. A k *ℤ C)
 divided-by {a = a} {c = c} {C = C} w unit p h = record {
   at = λ k f i.

@@ -1,5 +1,6 @@
--- What a place of a quotient finds (document 01, port order 5): the places before it. By the first variable left, every row before its own is stored whole, so that it can
--- be a factor of a product, and of its own row what lies before it, which is the same again in the variables after.
+-- What a place of a quotient finds (document 01, port order 5): the places before it. By the first variable left, every
+-- row before its own is stored whole, so that it can be a factor of a product, and of its own row what lies before it,
+-- which is the same again in the variables after.
 use mathlib.Core.Path.{_≡_}
 use mathlib.Core.List.{List, _∷_}
 use Prim.Native.Nat.{ℕ, _+_, _*_, _<_}

@@ -1,6 +1,8 @@
--- Document 01, 'Where the result is exact' (port order 5): where the divisor's constant is 1 or -1, the exact truncated quotient exists and is the only one.
--- A divisor with such a constant has an inverse, and what a series Q is up to an index follows from Q B up to that index: so two series whose products by B agree under
--- the limits agree there. (With no limits set: crate whole's QuotientLaws.)
+-- Document 01, 'Where the result is exact' (port order 5): where the divisor's constant is 1 or -1, the exact truncated
+-- quotient exists and is the only one.
+-- A divisor with such a constant has an inverse, and what a series Q is up to an index follows from Q B up to that
+-- index: so two series whose products by B agree under the limits agree there. (With no limits set: crate whole's
+-- QuotientLaws.)
 use mathlib.Core.Path.{_≡_, sym, ap, _∙_}
 use mathlib.Core.List.{List}
 use Prim.Native.Nat.{ℕ}

@@ -1,5 +1,6 @@
--- A product with its last row apart (document 01, port order 5): at an index, Q B is what the rows of Q before give, from the first row that the divisor reaches,
--- and the row of the index itself times the divisor's row 0. The recurrence of `div` is this equation, solved for the last row.
+-- A product with its last row apart (document 01, port order 5): at an index, Q B is what the rows of Q before give,
+-- from the first row that the divisor reaches, and the row of the index itself times the divisor's row 0. The
+-- recurrence of `div` is this equation, solved for the last row.
 use mathlib.Core.Path.{_≡_, ap, ap₂, _∙_}
 use mathlib.Core.List.{List, _∷_}
 use Prim.Native.Nat.{ℕ, _+_, _-_, _≤_, _<_}

@@ -1,6 +1,7 @@
--- One place of a quotient (document 01, port order 5, the recurrence of `div`): A is lessened, variable by variable, by what the rows before give, then divided by the
--- divisor's constant. Where P B is A at that index, what is left before the division is P times the constant: so the place is P. No number in between is more than the sizes
--- of the terms of P B there.
+-- One place of a quotient (document 01, port order 5, the recurrence of `div`): A is lessened, variable by variable, by
+-- what the rows before give, then divided by the divisor's constant. Where P B is A at that index, what is left before
+-- the division is P times the constant: so the place is P. No number in between is more than the sizes of the terms of
+-- P B there.
 use mathlib.Core.Path.{_≡_, refl, sym, ap, _∙_}
 use mathlib.Core.Bool.{false}
 use mathlib.Core.List.{List, [], _∷_}
@@ -34,7 +35,8 @@ use Rattle.laws_exact.specs.Joins.{join-at}
 use Rattle.laws_exact_quotient.specs.Lasts.{takenZ, times-last, sizes-last}
 use Rattle.laws_exact_quotient.specs.Earlier.{Before, row-before, row-own}
 
--- n variables are left, from v on: q has the places before that of k, y is the divisor, whose constant is 1 or -1, and there is room for the terms of P B
+-- n variables are left, from v on: q has the places before that of k, y is the divisor, whose constant is 1 or -1, and
+-- there is room for the terms of P B
 pub record Left (r k : List ℕ) (y : Block) (n v : ℕ) (q : List Float) (P B : Series) : Type 0 where
   pub earlier : Before (from r n v) (from k n v) q P
   pub divisor : Stores (from (y .lengths) n v) (from k n v) (y .places) B

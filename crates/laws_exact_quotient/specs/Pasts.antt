@@ -1,5 +1,6 @@
--- Past its lengths a quotient is zero (document 01, port order 5, and 'Announced limits and lengths', quotient: a where the divisor's b is 1, else L): in a variable where the
--- divisor has one row, the quotient of the series reaches no further than the dividend.
+-- Past its lengths a quotient is zero (document 01, port order 5, and 'Announced limits and lengths', quotient: a where
+-- the divisor's b is 1, else L): in a variable where the divisor has one row, the quotient of the series reaches no
+-- further than the dividend.
 use mathlib.Core.Path.{_≡_, sym, ap, _∙_}
 use mathlib.Core.Bool.{false, true≢false}
 use mathlib.Core.List.{List}

@@ -1,6 +1,8 @@
--- Document 01, 'Where the result is exact' (port order 5): the quotient of polynomials with whole coefficients, the divisor's constant 1 or -1, is the exact truncated one
--- where |A| + |Q| |B| is at most 2 ^ 53, at every index under the announced limits and on every shortcut, in 0 to 4 variables.
--- |A| and |B| are of the operands as they are stored, before the cut; Q is their exact quotient, a series without end, and |Q| its sum under the announced limits.
+-- Document 01, 'Where the result is exact' (port order 5): the quotient of polynomials with whole coefficients, the
+-- divisor's constant 1 or -1, is the exact truncated one where |A| + |Q| |B| is at most 2 ^ 53, at every index under
+-- the announced limits and on every shortcut, in 0 to 4 variables.
+-- |A| and |B| are of the operands as they are stored, before the cut; Q is their exact quotient, a series without end,
+-- and |Q| its sum under the announced limits.
 use mathlib.Core.Path.{_≡_, refl, sym, ap, _∙_}
 use mathlib.Core.List.{List}
 use Prim.Native.Nat.{ℕ, _+_, _*_, _^_, _≤_}
@@ -55,7 +57,8 @@ module _ (p q : Poly) (g : Regular (p .head)) (h : Regular (q .head)) (a b : ℕ
       → Whole (coefficientAt (blockOf (quotientPoly p q)) k) (quotient (seriesIn p a) (seriesIn q b) k)
   unfolding quotientPoly announced paired
   quotient-exact =
-      divided-is (min-limit-pos (p .head) (q .head) (g .rules) (h .rules)) (own-sits p g u) (own-sits q h v) (wholes-is u (limitsOf p q)) (wholes-is v (limitsOf p q)) unit room .at
+      divided-is (min-limit-pos (p .head) (q .head) (g .rules) (h .rules)) (own-sits p g u) (own-sits q h v)
+      (wholes-is u (limitsOf p q)) (wholes-is v (limitsOf p q)) unit room .at
 
   -- the result is a polynomial with whole coefficients again, and no heavier than Q
   pub quotient-result : Result (announced Quotient (p .head) (q .head) .limits) (quotientPoly p q) (quotientIn p a q b) (weightOver p a q b)
@@ -64,4 +67,6 @@ module _ (p q : Poly) (g : Regular (p .head)) (h : Regular (q .head)) (a b : ℕ
       let k = quotient-keeps p q g h in
       let s = keeps-sits k in
       let e : length (announced Quotient (p .head) (q .head) .limits) ≡ 4 = ap length (announced-regular Quotient g h .ls) in
-      result k (record { at = quotient-exact }) (boxN-part (λ j. natAbs (quotientIn p a q b j)) (at-within _ _ (ap length (s .ns) ∙ sym e) (λ v l. s .hi v (rw e at l))))
+      result k (record { at = quotient-exact })
+      (boxN-part (λ j. natAbs (quotientIn p a q b j))
+      (at-within _ _ (ap length (s .ns) ∙ sym e) (λ v l. s .hi v (rw e at l))))

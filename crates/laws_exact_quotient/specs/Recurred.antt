@@ -1,5 +1,5 @@
--- The quotient by the recurrence of `div` (document 01, port order 5) under the limits l is the quotient of the series there: at the places that it stores, each from those
--- before it, and past them.
+-- The quotient by the recurrence of `div` (document 01, port order 5) under the limits l is the quotient of the series
+-- there: at the places that it stores, each from those before it, and past them.
 use mathlib.Core.Path.{_≡_, refl, sym, _∙_}
 use mathlib.Core.List.{List, [], _∷_}
 use Prim.Native.Nat.{ℕ, zero, suc, _≤_, _<_}
@@ -50,7 +50,8 @@ module _ {l : List ℕ} {a b : Block} {A B : Series} (s : Sits l a) (t : Sits l 
   four = refl
 
   -- the places before that of k, by their indices
-  earlier : (k : List ℕ) → length k ≡ 4 → (g : List Float) → ((x : ℕ) → x < place r k → Whole (getD g x nan) (Q (index r x))) → Before (from r 4 0) (from k 4 0) g Q
+  earlier : (k : List ℕ) → length k ≡ 4 → (g : List Float)
+      → ((x : ℕ) → x < place r k → Whole (getD g x nan) (Q (index r x))) → Before (from r 4 0) (from k 4 0) g Q
   earlier k f g known =
       rw (from-four r, from-four k, ← four-at r four, ← four-at k f)
       (record {

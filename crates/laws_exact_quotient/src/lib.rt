@@ -1,4 +1,5 @@
-// Where the quotient of `model` is exact on whole numbers, and that no other quotient is. A crate needs a function: this one.
+// Where the quotient of `model` is exact on whole numbers, and that no other quotient is. A crate needs a function:
+// this one.
 ghost use mathlib.Core.Path.{_≡_};
 
 pub fn same(x: f64) -> f64

@@ -1,5 +1,6 @@
--- Document 01, 'Where the result is exact', `shift_down`: the sum of all coefficients is kept, and |A| does not grow. So where |A| is at most 2 ^ 53, the result is a polynomial
--- with whole coefficients again, and `evaluate_all_one` of it is the number that it was.
+-- Document 01, 'Where the result is exact', `shift_down`: the sum of all coefficients is kept, and |A| does not grow.
+-- So where |A| is at most 2 ^ 53, the result is a polynomial with whole coefficients again, and `evaluate_all_one` of
+-- it is the number that it was.
 use mathlib.Core.Path.{_≡_, refl, sym, ap, _∙_}
 use mathlib.Core.Bool.{true, cond}
 use mathlib.Core.List.{List}
@@ -43,7 +44,8 @@ use Rattle.laws_exact.specs.BoxRows.{box-rows, gathered}
 use Rattle.laws_exact_shift.specs.Shifted.{length-here, beyond, shift-down-exact}
 
 -- `evaluate_all_one` of whole coefficients with |A| at most 2 ^ 53 is the sum of all coefficients
-pub evaluated : (p : Poly) → Regular (p .head) → {a : ℕ → ℤ} → Wholes (blockOf p) a → weightIn p a ≤ 2 ^ 53 → Whole (sumTo (p .coeffs) (stored (p .head))) (total (p .head .lengths) (seriesIn p a))
+pub evaluated : (p : Poly) → Regular (p .head) → {a : ℕ → ℤ} → Wholes (blockOf p) a → weightIn p a ≤ 2 ^ 53
+    → Whole (sumTo (p .coeffs) (stored (p .head))) (total (p .head .lengths) (seriesIn p a))
 unfolding sumTo
 evaluated p g {a} u b =
     let four-n = ap length (g .ns) in
@@ -107,7 +109,8 @@ module _ (v n : ℕ) (p : Poly) (g : Regular (p .head)) (h : v < 4) (a : ℕ →
     row-weight =
         le-trans (sumN-le _ sizeAfter (at after v) 0 (λ j x y. size-after j))
         (le-of-eq (ap (λ (m : ℕ). sumN sizeAfter m 0) (length-here v n p g h)
-        ∙ gathered addN (λ j. natAbs (A (set k v j))) sizeAfter n (at before v) refl (λ j l. rw (ne-eqb j 0 (λ o. omega arith))) (λ j l. ap natAbs (beyond v n p g h a k f j l))))
+        ∙ gathered addN (λ j. natAbs (A (set k v j))) sizeAfter n (at before v) refl
+        (λ j l. rw (ne-eqb j 0 (λ o. omega arith))) (λ j l. ap natAbs (beyond v n p g h a k f j l))))
 
   pub shift-down-total : total (shiftDownPoly v n p .head .lengths) S ≡ total before A
   unfolding total shiftDownPoly
@@ -120,7 +123,8 @@ module _ (v n : ℕ) (p : Poly) (g : Regular (p .head)) (h : v < 4) (a : ℕ →
   shift-weight : weight after S ≤ weight before A
   unfolding weight
   shift-weight =
-      le-trans (le-of-eq (box-rows addN (λ k. natAbs (S k)) after v long-after ∙ ap (λ (m : List ℕ). boxN m (λ k. sumN (λ j. natAbs (S (set k v j))) (at after v) 0)) same-others))
+      le-trans (le-of-eq (box-rows addN (λ k. natAbs (S k)) after v long-after
+      ∙ ap (λ (m : List ℕ). boxN m (λ k. sumN (λ j. natAbs (S (set k v j))) (at after v) 0)) same-others))
       (le-trans (boxN-le _ _ (set before v 1) (λ k i. row-weight k (in-box-length i ∙ length-set before v 1 ∙ ap length (g .ns))))
       (le-of-eq (sym (box-rows addN (λ k. natAbs (A k)) before v long-before))))
 
@@ -138,4 +142,6 @@ module _ (v n : ℕ) (p : Poly) (g : Regular (p .head)) (h : v < 4) (a : ℕ →
         let r = shift-down-result in
         let e = ap length (k .regular .ns) in
         whole-eq (evaluated q (k .regular) (r .wholes) (le-trans (r .light) bound)) (evaluated p g u bound) .1
-        (box-same addZ _ _ (q .head .lengths) (λ i b. r .agrees i (in-box-length b ∙ e) (stored-under (keeps-sits k) (inside-is (q .head .lengths) i (in-box-inside (q .head .lengths) e b)))) ∙ shift-down-total)
+        (box-same addZ _ _ (q .head .lengths) (λ i b.
+        r .agrees i (in-box-length b ∙ e) (stored-under (keeps-sits k)
+        (inside-is (q .head .lengths) i (in-box-inside (q .head .lengths) e b)))) ∙ shift-down-total)

@@ -1,4 +1,5 @@
--- Document 01, 'Where the result is exact', `shift_down`: where |A| is at most 2 ^ 53, the coefficients are the whole numbers of the textbook's shift, at every index.
+-- Document 01, 'Where the result is exact', `shift_down`: where |A| is at most 2 ^ 53, the coefficients are the whole
+-- numbers of the textbook's shift, at every index.
 use mathlib.Core.Path.{_≡_, refl, sym, ap, _∙_}
 use mathlib.Core.Bool.{false, true≢false}
 use mathlib.Core.List.{List}
@@ -27,8 +28,7 @@ use Rattle.laws_whole.specs.Index.{InBox}
 use Rattle.laws_whole.specs.StoredLaws.{in-box-inside, below-in-box, stored-past}
 use Rattle.shape_words.specs.Rules.{Regular}
 use Rattle.shape_words.specs.Lengths.{Inside, inside-is, is-inside, inside-four, inside-at}
-use Rattle.laws_exact.specs.Wholes.{Wholes, whole-at, stored-at, past-at, index-read, wholes-at}
-use Rattle.laws_exact.specs.Firsts.{outside}
+use Rattle.laws_exact.specs.Wholes.{Wholes, whole-at, stored-at, index-read, wholes-at}
 use Rattle.laws_exact.specs.Sums.{seriesIn, weightIn}
 use Rattle.laws_exact.specs.ShiftKeeps.{shiftHead, shiftedAt}
 use Rattle.laws_exact.specs.BoxRows.{row-part}
@@ -73,7 +73,9 @@ module _ (v n : ℕ) (p : Poly) (g : Regular (p .head)) (h : v < 4) where
 
     module _ (k : List ℕ) (f : length k ≡ 4) where
       past-row : (j : ℕ) → (Inside before (set k v j) → ⊥) → A (set k v j) ≡ pos 0
-      past-row j o = stored-past before four-before a (set k v j) (length-set k v j ∙ f) (λ c. o (inside-is before (set k v j) (in-box-inside before four-before c)))
+      past-row j o =
+          stored-past before four-before a (set k v j) (length-set k v j ∙ f)
+          (λ c. o (inside-is before (set k v j) (in-box-inside before four-before c)))
 
       -- past the stored rows
       pub beyond : (j : ℕ) → at before v ≤ j → A (set k v j) ≡ pos 0
@@ -110,11 +112,20 @@ module _ (v n : ℕ) (p : Poly) (g : Regular (p .head)) (h : v < 4) where
             (λ t.
             let l = leb-true (at before v) (n + 1) t in
             let z : at k v ≡ 0 = omega (arith, inside-at i v h, length-here) in
-            rw (t, eq-eqb (at k v) 0 z, sum-narrow addZ (λ j. A (set k v j)) (at before v) (suc n) (omega arith) (λ j x y. beyond k f j x)) (rows (at before v) (omega arith)))
+            rw (
+              t,
+              eq-eqb (at k v) 0 z,
+              sum-narrow addZ (λ j. A (set k v j)) (at before v) (suc n) (omega arith) (λ j x y. beyond k f j x),
+            ) (rows (at before v) (omega arith)))
             (λ t.
             let l = leb-false (at before v) (n + 1) t in
             rw t (decide (eqb (at k v) 0)
-            (λ z. rw (z, last) (whole-add (row n (omega arith)) (rows n (omega arith)) (rw (← last) (le-trans (abs-sumZ _ _ (suc n) 0 (λ j x y. le-refl _)) (row-small (suc n) (omega arith))))))
+            (λ z. rw (
+              z,
+              last,
+            ) (whole-add (row n (omega arith)) (rows n (omega arith))
+            (rw (← last) (le-trans (abs-sumZ _ _ (suc n) 0 (λ j x y. le-refl _))
+            (row-small (suc n) (omega arith))))))
             (λ z. rw z (row (at k v + n) (omega (arith, inside-at i v h, length-here))))))
 
       past : inside after k ≡ false → shifted v n A k ≡ pos 0
@@ -122,8 +133,12 @@ module _ (v n : ℕ) (p : Poly) (g : Regular (p .head)) (h : v < 4) where
       past t =
           let no : Inside after k → ⊥ = λ i. true≢false (sym (is-inside i) ∙ t) in
           decide (eqb (at k v) 0)
-          (λ z. rw z (sum-zeros addZ (λ j. A (set k v j)) (suc n) 0 (λ j x y. past-row k f j (λ i. no (inside-row k f j (omega (arith, eqb-true (at k v) 0 z, length-here)) i)))))
-          (λ z. rw z (past-row k f (at k v + n) (λ i. no (inside-row k f (at k v + n) (let e = at-same k v (at k v + n) (long-k k f) in omega (arith, inside-at i v h, length-here)) i))))
+          (λ z. rw z (sum-zeros addZ (λ j. A (set k v j)) (suc n) 0
+          (λ j x y. past-row k f j
+          (λ i. no (inside-row k f j (omega (arith, eqb-true (at k v) 0 z, length-here)) i)))))
+          (λ z. rw z (past-row k f (at k v + n) (λ i.
+          no (inside-row k f (at k v + n) (let e = at-same k v (at k v + n) (long-k k f) in
+          omega (arith, inside-at i v h, length-here)) i))))
 
       pub shift-down-exact : Whole (coefficientAt (blockOf (shiftDownPoly v n p)) k) (shifted v n A k)
       unfolding shiftDownPoly

@@ -1,4 +1,5 @@
-// Where `shift_down` of `model` is exact on whole numbers and keeps the sum of all coefficients. A crate needs a function: this one.
+// Where `shift_down` of `model` is exact on whole numbers and keeps the sum of all coefficients. A crate needs a
+// function: this one.
 ghost use mathlib.Core.Path.{_≡_};
 
 pub fn same(x: f64) -> f64

@@ -1,9 +1,12 @@
--- Horner's rule on series (document 01, port order 7, `subst_var`: from the highest power, every power counted): what the rows n to n + d - 1 of v have made, and its size.
--- The rows together weigh |A|, and each turn multiplies by |B|: so nothing on the way weighs more than |A| times max(1, |B|) to the p - 1.
+-- Horner's rule on series (document 01, port order 7, `subst_var`: from the highest power, every power counted): what
+-- the rows n to n + d - 1 of v have made, and its size.
+-- The rows together weigh |A|, and each turn multiplies by |B|: so nothing on the way weighs more than |A| times max(1,
+-- |B|) to the p - 1.
 use mathlib.Core.Path.{_≡_, sym, ap, ap₂, _∙_}
 use mathlib.Core.List.{List}
 use Prim.Native.Nat.{ℕ, zero, suc, _+_, _-_, _*_, _^_, _≤_, _<_}
-use native.Mathlib.Nat.{le-trans, le-refl, le-of-eq, add-zero, zero-add, add-mul, zero-mul, mul-assoc, mul-le-mul-left, mul-le-mul-right, pow-succ', pow-le-pow-right}
+use native.Mathlib.Nat.{le-trans, le-refl, le-of-eq, add-zero, zero-add, add-mul, zero-mul, mul-assoc, mul-le-mul-left}
+use native.Mathlib.Nat.{mul-le-mul-right, pow-succ', pow-le-pow-right}
 use native.Mathlib.Omega.{arith}
 use lib.ListN.{length, set, length-set}
 use lib.Seq.{set-set}
@@ -50,7 +53,9 @@ module _ (v : ℕ) (A B : Series) where
   substitute-one k =
       sym (running-all 1 k)
       ∙ running-step 0 0 k
-      ∙ ap (λ (x : ℤ). coefficientOf v 0 A k +ℤ x) (times-none (running 1 0) B k (λ j w. ap (λ (x : ℤ). x *ℤ B (indexMinus k j)) (running-none 1 j) ∙ zero-*ℤ (B (indexMinus k j))))
+      ∙ ap (λ (x : ℤ). coefficientOf v 0 A k +ℤ x)
+      (times-none (running 1 0) B k (λ j w. ap (λ (x : ℤ). x *ℤ B (indexMinus k j)) (running-none 1 j)
+      ∙ zero-*ℤ (B (indexMinus k j))))
       ∙ +ℤ-idr (coefficientOf v 0 A k)
 
   -- ---- sizes, over a box ns that holds p rows of v
@@ -83,7 +88,9 @@ module _ (v : ℕ) (A B : Series) where
       step-weight n d =
           le-trans (le-of-eq (box-same addN _ _ ns (λ k u. ap natAbs (running-step n d k))))
           (le-trans (weight-plus (coefficientOf v n A) (times (running (suc n) d) B) ns)
-          (let e : weight ns (times (running (suc n) d) B) ≤ weight ns (running (suc n) d) * b = le-trans (weight-times (running (suc n) d) B ns) (mul-le-mul-left (weight ns (running (suc n) d)) small) in omega arith))
+          (let e : weight ns (times (running (suc n) d) B) ≤ weight ns (running (suc n) d) * b =
+          le-trans (weight-times (running (suc n) d) B ns)
+          (mul-le-mul-left (weight ns (running (suc n) d)) small) in omega arith))
 
       rows-sum : (n d : ℕ) → n + d ≤ p → weight ns (running n d) * b ^ n ≤ sumN W d n * b ^ (p - 1)
       unfolding weight
@@ -91,10 +98,13 @@ module _ (v : ℕ) (A B : Series) where
       rows-sum n (suc d) l =
           let R : ℕ = weight ns (running (suc n) d) in
           let x : weight ns (running n (suc d)) * b ^ n ≤ (W n + R * b) * b ^ n = mul-le-mul-right (b ^ n) (step-weight n d) in
-          let y : (W n + R * b) * b ^ n ≡ W n * b ^ n + R * b ^ suc n = add-mul (W n) (R * b) (b ^ n) ∙ ap (λ (z : ℕ). W n * b ^ n + z) (mul-assoc R b (b ^ n) ∙ ap (λ (z : ℕ). R * z) (sym (pow-succ' b n))) in
+          let y : (W n + R * b) * b ^ n ≡ W n * b ^ n + R * b ^ suc n =
+          add-mul (W n) (R * b) (b ^ n) ∙ ap (λ (z : ℕ). W n * b ^ n + z)
+          (mul-assoc R b (b ^ n) ∙ ap (λ (z : ℕ). R * z) (sym (pow-succ' b n))) in
           let z : W n * b ^ n ≤ W n * b ^ (p - 1) = mul-le-mul-left (W n) (pow-le-pow-right one (omega arith)) in
           let w : R * b ^ suc n ≤ sumN W d (suc n) * b ^ (p - 1) = rows-sum (suc n) d (omega arith) in
-          let s : sumN W (suc d) n * b ^ (p - 1) ≡ W n * b ^ (p - 1) + sumN W d (suc n) * b ^ (p - 1) = ap (λ (t : ℕ). t * b ^ (p - 1)) (sum-first addN W d n) ∙ add-mul (W n) (sumN W d (suc n)) (b ^ (p - 1)) in
+          let s : sumN W (suc d) n * b ^ (p - 1) ≡ W n * b ^ (p - 1) + sumN W d (suc n) * b ^ (p - 1) =
+          ap (λ (t : ℕ). t * b ^ (p - 1)) (sum-first addN W d n) ∙ add-mul (W n) (sumN W d (suc n)) (b ^ (p - 1)) in
           omega arith
 
       -- nothing on the way weighs more

@@ -1,5 +1,6 @@
--- Horner's rule on blocks of whole numbers (document 01, port order 7, `subst_var`): every turn, cut to the limits l, is exact there, since nothing on the way weighs more
--- than max(1,|A|) times max(1,|B|) to the p - 1. The first turn multiplies a zero, and asks nothing of |B|.
+-- Horner's rule on blocks of whole numbers (document 01, port order 7, `subst_var`): every turn, cut to the limits l,
+-- is exact there, since nothing on the way weighs more than max(1,|A|) times max(1,|B|) to the p - 1. The first turn
+-- multiplies a zero, and asks nothing of |B|.
 use mathlib.Core.Path.{_≡_, refl, sym, ap, _∙_}
 use mathlib.Core.Bool.{false}
 use mathlib.Core.List.{List}
@@ -62,10 +63,12 @@ module _ {l : List ℕ} {v : ℕ} {a b : Block} {x y : ℕ → ℤ} (g : Puts l 
   -- ---- sizes
 
   -- any box of four numbers that holds the rows of v
-  pub made-weight : (ns : List ℕ) → length ns ≡ 4 → p ≤ at ns v → (n d : ℕ) → n + d ≤ p → weight ns (made n d) * atLeastOne b y ^ n ≤ atLeastOne a x * atLeastOne b y ^ (p - 1)
+  pub made-weight : (ns : List ℕ) → length ns ≡ 4 → p ≤ at ns v → (n d : ℕ) → n + d ≤ p
+      → weight ns (made n d) * atLeastOne b y ^ n ≤ atLeastOne a x * atLeastOne b y ^ (p - 1)
   made-weight ns f r n d e =
       le-trans
-      (running-weight v A B ns (rw f (g .var)) p r (g .left .lo v (g .var)) (atLeastOne b y) (omega arith) (le-trans (weight-any (b .lengths) (ap length (g .right .ns)) y ns f) (omega arith)) n d e)
+      (running-weight v A B ns (rw f (g .var)) p r (g .left .lo v (g .var)) (atLeastOne b y) (omega arith)
+      (le-trans (weight-any (b .lengths) (ap length (g .right .ns)) y ns f) (omega arith)) n d e)
       (mul-le-mul-right (atLeastOne b y ^ (p - 1)) (le-trans (weight-any (a .lengths) (ap length (g .left .ns)) x ns f) (omega arith)))
 
   -- a box that holds an index and the rows of v
@@ -92,7 +95,10 @@ module _ {l : List ℕ} {v : ℕ} {a b : Block} {x y : ℕ → ℤ} (g : Puts l 
     at = λ k f i.
         let W : ℕ = weight (wide k) (made (suc n) d) in
         let t : ℕ = atLeastOne b y in
-        let small-b : weight (wide k) B ≤ t ^ suc n = le-trans (weight-any (b .lengths) (ap length (g .right .ns)) y (wide k) refl) (rw (pow-suc t n) (le-trans (omega (arith, one-mul t)) (mul-le-mul-right t (one-le-pow n t (omega arith))))) in
+        let small-b : weight (wide k) B ≤ t ^ suc n =
+        le-trans (weight-any (b .lengths) (ap length (g .right .ns)) y (wide k) refl)
+        (rw (pow-suc t n) (le-trans (omega (arith, one-mul t))
+        (mul-le-mul-right t (one-le-pow n t (omega arith))))) in
         le-trans (sizes-le (made (suc n) d) B (in-wide k f)) (le-trans (mul-le-mul-left W small-b) (wide-weight k (suc n) d e));
   }
 
@@ -104,7 +110,8 @@ module _ {l : List ℕ} {v : ℕ} {a b : Block} {x y : ℕ → ℤ} (g : Puts l 
 
   -- ---- the turns
 
-  turn-is : (n d : ℕ) → suc n + d ≡ p → {res : Block} → Sits l res → Is l res (made (suc n) d) → Is l (joinedBlock false (multiplied l res b) (rowAt l v a n)) (made n (suc d))
+  turn-is : (n d : ℕ) → suc n + d ≡ p → {res : Block} → Sits l res → Is l res (made (suc n) d)
+      → Is l (joinedBlock false (multiplied l res b) (rowAt l v a n)) (made n (suc d))
   turn-is n d e {res} r c =
       is-same (λ k f i. +ℤ-comm (times (made (suc n) d) B k) (coefficientOf v n A k) ∙ sym (running-step v A B n d k))
       (joined-is false (multiplied-sits l res b (g .pos-l) (r .lo) (g .right .lo)) (row-sits l v a (g .var) (g .pos-l) (g .left .lo) n)

@@ -1,5 +1,6 @@
--- `subst_var` by a line in v with c zero (document 01, port order 7): row k times m to the k, by running products. That is the exact substitution: each turn of Horner's rule
--- raises by one in v and multiplies by m, so of all rows only one reaches an index.
+-- `subst_var` by a line in v with c zero (document 01, port order 7): row k times m to the k, by running products. That
+-- is the exact substitution: each turn of Horner's rule raises by one in v and multiplies by m, so of all rows only one
+-- reaches an index.
 use mathlib.Core.Path.{_≡_, refl, sym, ap, _∙_}
 use mathlib.Core.Bool.{true≢false}
 use mathlib.Core.List.{List}
@@ -58,7 +59,9 @@ module _ (v : ℕ) (h : v < 4) (A B : Series) (only : (j : List ℕ) → length 
   times-raise X k f =
       times-comm X B k
       ∙ times-line B X k f v h (λ j w o u. only j (within-length w ∙ f) u)
-      ∙ ap (λ (x : ℤ). raisedZ v (B (unit v)) X k +ℤ x) (times-comm X (constantOf B) k ∙ times-constantOf B X k f ∙ ap (λ (x : ℤ). x *ℤ X k) (only origin refl origin-other) ∙ zero-*ℤ (X k))
+      ∙ ap (λ (x : ℤ). raisedZ v (B (unit v)) X k +ℤ x)
+      (times-comm X (constantOf B) k ∙ times-constantOf B X k f
+      ∙ ap (λ (x : ℤ). x *ℤ X k) (only origin refl origin-other) ∙ zero-*ℤ (X k))
       ∙ +ℤ-idr _
 
   module _ (p : ℕ) (past : (k : List ℕ) → length k ≡ 4 → p ≤ at k v → A k ≡ pos 0) where
@@ -69,7 +72,9 @@ module _ (v : ℕ) (h : v < 4) (A B : Series) (only : (j : List ℕ) → length 
     unfolding coefficientOf powZ
     running-line zero n k f e =
         running-none v A B n k
-        ∙ sym (ap (λ (x : ℤ). x *ℤ powZ m (at k v)) (past (set k v (n + at k v)) (length-set k v (n + at k v) ∙ f) (rw (at-same k v (n + at k v) (rw f h)) (omega arith))) ∙ zero-*ℤ (powZ m (at k v)))
+        ∙ sym (ap (λ (x : ℤ). x *ℤ powZ m (at k v))
+        (past (set k v (n + at k v)) (length-set k v (n + at k v) ∙ f)
+        (rw (at-same k v (n + at k v) (rw f h)) (omega arith))) ∙ zero-*ℤ (powZ m (at k v)))
     running-line (suc d) n k f e =
         running-step v A B n d k
         ∙ ap (λ (x : ℤ). coefficientOf v n A k +ℤ x) (times-raise (running v A B (suc n) d) k f)
@@ -81,7 +86,8 @@ module _ (v : ℕ) (h : v < 4) (A B : Series) (only : (j : List ℕ) → length 
         let o : 1 ≤ at k v = positive (at k v) (eqb-false (at k v) 0 t) in
         let s : suc n + x ≡ n + at k v = omega arith in
         let r : suc x ≡ at k v = omega arith in
-        let q : A (set k' v (suc n + at k' v)) *ℤ powZ m (at k' v) ≡ A (set k v (n + at k v)) *ℤ powZ m x = rw (at-same k v x (rw f h), set-set k v x (suc n + x), s) in
+        let q : A (set k' v (suc n + at k' v)) *ℤ powZ m (at k' v) ≡ A (set k v (n + at k v)) *ℤ powZ m x =
+        rw (at-same k v x (rw f h), set-set k v x (suc n + x), s) in
         rw t
         (+ℤ-idl _
         ∙ ap (λ (y : ℤ). y *ℤ m) (running-line d (suc n) k' (length-set k v x ∙ f) (omega arith) ∙ q)
@@ -97,16 +103,20 @@ module _ (v : ℕ) (h : v < 4) (A B : Series) (only : (j : List ℕ) → length 
 -- ---- the floats
 
 -- the running product
-power-whole : {x : Float} {m : ℤ} → Whole x m → (n : ℕ) → ((j : ℕ) → j ≤ n → natAbs (powZ m j) ≤ 2 ^ 53) → Whole (walk (λ j f. mul binary64 f x) n 0 oneF) (powZ m n)
+power-whole : {x : Float} {m : ℤ} → Whole x m → (n : ℕ) → ((j : ℕ) → j ≤ n → natAbs (powZ m j) ≤ 2 ^ 53)
+    → Whole (walk (λ j f. mul binary64 f x) n 0 oneF) (powZ m n)
 unfolding walk powZ
 power-whole w zero b = whole-unit
-power-whole {x} w (suc n) b = rw (walk-more (λ j f. mul binary64 f x) n 0 oneF) (whole-mul (power-whole w n (λ j l. b j (omega arith))) w (b (suc n) (le-refl _)))
+power-whole {x} w (suc n) b =
+    rw (walk-more (λ j f. mul binary64 f x) n 0 oneF)
+    (whole-mul (power-whole w n (λ j l. b j (omega arith))) w (b (suc n) (le-refl _)))
 
 module _ (l : List ℕ) (v : ℕ) {a : Block} {z : ℕ → ℤ} (h : v < 4) (u : Wholes a z) {x : Float} {m : ℤ} (w : Whole x m) where
   abbrev A : Series
   A = seriesOf (a .lengths) z
 
-  pub powered-is : ((n : ℕ) → n < at (a .lengths) v → natAbs (powZ m n) ≤ 2 ^ 53) → ((k : List ℕ) → length k ≡ 4 → at k v < at (a .lengths) v → natAbs (A k *ℤ powZ m (at k v)) ≤ 2 ^ 53)
+  pub powered-is : ((n : ℕ) → n < at (a .lengths) v → natAbs (powZ m n) ≤ 2 ^ 53)
+      → ((k : List ℕ) → length k ≡ 4 → at k v < at (a .lengths) v → natAbs (A k *ℤ powZ m (at k v)) ≤ 2 ^ 53)
       → Is l (powered l v a x) (λ k. A k *ℤ powZ m (at k v))
   unfolding powered
   powered-is small room = record {
@@ -118,5 +128,7 @@ module _ (l : List ℕ) (v : ℕ) {a : Block} {z : ℕ → ℤ} (h : v < 4) (u :
         let j = cut-inside l (a .lengths) s in
         let below = inside-at j v h in
         rw (index-read n place-at k f s) (whole-mul (stored-at a k (wholes-at u k) j) (power-whole w (at k v) (λ j e. small j (omega arith))) (room k f below)))
-        (λ t. ap (λ (y : ℤ). y *ℤ powZ m (at k v)) (past-at a k (wholes-at u k) (outside (a .lengths) k (λ j. true≢false (sym (is-inside (inside-cut i j)) ∙ t)))) ∙ zero-*ℤ (powZ m (at k v)));
+        (λ t. ap (λ (y : ℤ). y *ℤ powZ m (at k v))
+        (past-at a k (wholes-at u k) (outside (a .lengths) k
+        (λ j. true≢false (sym (is-inside (inside-cut i j)) ∙ t)))) ∙ zero-*ℤ (powZ m (at k v)));
   }

@@ -1,5 +1,6 @@
--- The ways of `subst_var` on blocks of whole numbers (document 01, port order 7), tested on the uncut b: zero leaves the row 0; a line in v with c zero gives row k times m to
--- the k; else Horner's rule. Each is the exact substitution under the limits.
+-- The ways of `subst_var` on blocks of whole numbers (document 01, port order 7), tested on the uncut b: zero leaves
+-- the row 0; a line in v with c zero gives row k times m to the k; else Horner's rule. Each is the exact substitution
+-- under the limits.
 use mathlib.Core.Path.{_≡_, sym, ap, _∙_}
 use mathlib.Core.Bool.{true, _&&_}
 use mathlib.Core.List.{List}
@@ -64,7 +65,9 @@ module _ {l : List ℕ} {v : ℕ} {a b : Block} {x y : ℕ → ℤ} (g : Puts l 
       ∙ running-step v A B 0 (p - 1) k
       ∙ ap (λ (z : ℤ). coefficientOf v 0 A k +ℤ z)
       (times-none (running v A B 1 (p - 1)) B k (λ j w.
-      ap (λ (z : ℤ). running v A B 1 (p - 1) j *ℤ z) (zero-series (g .pos-l) (g .right) (wholes-is (g .wholes-right) l) e (indexMinus k j) (minus-length k j ∙ f) (before (minus-within k j) i))
+      ap (λ (z : ℤ). running v A B 1 (p - 1) j *ℤ z)
+      (zero-series (g .pos-l) (g .right) (wholes-is (g .wholes-right) l) e (indexMinus k j) (minus-length k j ∙ f)
+      (before (minus-within k j) i))
       ∙ *ℤ-zero (running v A B 1 (p - 1) j)))
       ∙ +ℤ-idr (coefficientOf v 0 A k)))
       (row-is l v (g .var) (g .wholes-left) 0 (g .left .lo v (g .var)))
@@ -97,7 +100,8 @@ module _ {l : List ℕ} {v : ℕ} {a b : Block} {x y : ℕ → ℤ} (g : Puts l 
     line-way =
         is-same (λ k f i. sym (substitute-line v (g .var) A B line-zero p past k f))
         (powered-is l v (g .var) (g .wholes-left) factor
-        (λ n e. le-trans (power-small n e) (le-trans (le-of-eq (sym (one-mul _))) (le-trans (mul-le-mul-right (atLeastOne b y ^ (p - 1)) (omega arith)) (g .bound))))
+        (λ n e. le-trans (power-small n e) (le-trans (le-of-eq (sym (one-mul _)))
+        (le-trans (mul-le-mul-right (atLeastOne b y ^ (p - 1)) (omega arith)) (g .bound))))
         (λ k f e. rw (abs-mul (A k) (powZ (B (unit v)) (at k v)))
         (le-trans (mul-le-mul (le-trans (size-at (a .lengths) x (ap length (g .left .ns)) k f) (omega arith)) (power-small (at k v) e)) (g .bound))))
 

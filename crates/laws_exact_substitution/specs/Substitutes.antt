@@ -1,5 +1,6 @@
--- Document 01, 'Where the result is exact': substitution into a polynomial with whole coefficients is the exact truncated one where max(1,|A|) times max(1,|B|) to the p - 1
--- is at most 2 ^ 53, at every index under the announced limits and on the zero, linear, missing and Horner paths. The result is a polynomial with whole coefficients again.
+-- Document 01, 'Where the result is exact': substitution into a polynomial with whole coefficients is the exact
+-- truncated one where max(1,|A|) times max(1,|B|) to the p - 1 is at most 2 ^ 53, at every index under the announced
+-- limits and on the zero, linear, missing and Horner paths. The result is a polynomial with whole coefficients again.
 use mathlib.Core.Path.{_≡_, refl, sym, ap, _∙_}
 use mathlib.Core.List.{List}
 use Prim.Native.Nat.{ℕ, _+_, _-_, _*_, _^_, _≤_, _<_, max}
@@ -52,7 +53,8 @@ weightWith v p a q b = max 1 (weightIn p a) * max 1 (weightIn q b) ^ (powersIn v
 past-end : (k : List ℕ) (v : ℕ) → length k ≤ v → at k v ≡ 0
 past-end k v h = decide (eqb (at k v) 0) (eqb-true (at k v) 0) (λ t. absurd (let l = long k v (positive (at k v) (eqb-false (at k v) 0 t)) in omega arith))
 
-module _ (v : ℕ) (p q : Poly) (g : Regular (p .head)) (h : Regular (q .head)) (a b : ℕ → ℤ) (u : Wholes (blockOf p) a) (w : Wholes (blockOf q) b) (bound : weightWith v p a q b ≤ 2 ^ 53) where
+module _ (v : ℕ) (p q : Poly) (g : Regular (p .head)) (h : Regular (q .head)) (a b : ℕ → ℤ) (u : Wholes (blockOf p) a)
+    (w : Wholes (blockOf q) b) (bound : weightWith v p a q b ≤ 2 ^ 53) where
   abbrev A : Series
   A = seriesIn p a
 
@@ -83,7 +85,9 @@ module _ (v : ℕ) (p q : Poly) (g : Regular (p .head)) (h : Regular (q .head)) 
         let x : Within n r = at-within n r f (each (λ w. at n w ≤ at r w) (omega arith) (omega arith) (omega arith) (omega arith)) in
         rw powers
         (le-trans (boxN-part (λ k. natAbs (substitute v (len (p .head) v) A B k)) x)
-        (le-trans (le-of-eq (box-same addN _ _ r (λ k c. ap natAbs (sym (running-all v A B (len (p .head) v) k))) ∙ sym (mul-one _) ∙ ap (λ (z : ℕ). weight r (running v A B 0 (len (p .head) v)) * z) (sym (pow-zero (max 1 (weightIn q b))))))
+        (le-trans (le-of-eq (box-same addN _ _ r (λ k c. ap natAbs (sym (running-all v A B (len (p .head) v) k)))
+        ∙ sym (mul-one _) ∙ ap (λ (z : ℕ). weight r (running v A B 0 (len (p .head) v)) * z)
+        (sym (pow-zero (max 1 (weightIn q b))))))
         (made-weight puts r refl (rw (at-four (λ w. at n w + len (p .head) v) v i) (omega arith)) 0 (len (p .head) v) (omega arith))))
 
   -- ---- one that it lacks
@@ -112,8 +116,11 @@ module _ (v : ℕ) (p q : Poly) (g : Regular (p .head)) (h : Regular (q .head)) 
     lacks-weight =
         let n : List ℕ = p .head .lengths in
         let f : length n ≡ 4 = ap length (g .ns) in
-        let under : (k : List ℕ) → Inside n k → Inside (p .head .limits) k = λ k i. inside-four (λ v l. omega (arith, inside-at i v l, ruled-at (g .rules) v l .fit)) in
-        le-trans (le-of-eq (box-same addN _ (λ k. natAbs (A k)) n (λ k c. ap natAbs (unchanged k (in-box-length c ∙ f) (under k (inside-is n k (in-box-inside n f c))))) ∙ sym (mul-one (weightIn p a))))
+        let under : (k : List ℕ) → Inside n k → Inside (p .head .limits) k =
+        λ k i. inside-four (λ v l. omega (arith, inside-at i v l, ruled-at (g .rules) v l .fit)) in
+        le-trans (le-of-eq (box-same addN _ (λ k. natAbs (A k)) n
+        (λ k c. ap natAbs (unchanged k (in-box-length c ∙ f) (under k (inside-is n k (in-box-inside n f c)))))
+        ∙ sym (mul-one (weightIn p a))))
         (mul-le-mul (omega arith) (one-le-pow (powersIn v p - 1) (max 1 (weightIn q b)) (omega arith)))
 
   -- ---- the paths
@@ -133,8 +140,10 @@ module _ (v : ℕ) (p q : Poly) (g : Regular (p .head)) (h : Regular (q .head)) 
   unfolding substitutePoly
   substitute-weight =
       decide (ltb v (p .head .vars))
-      (λ t. has-weight (omega (arith, ltb-true v (p .head .vars) t, g .rules .few)) (substitutePoly v p q .head .lengths) (ap length (substitute-keeps v p q g h (u .full) .regular .ns)))
+      (λ t. has-weight (omega (arith, ltb-true v (p .head .vars) t, g .rules .few))
+      (substitutePoly v p q .head .lengths) (ap length (substitute-keeps v p q g h (u .full) .regular .ns)))
       (λ t. rw t (lacks-weight (ltb-false v (p .head .vars) t)))
 
-  pub substitute-result : Result (announced (Substitution v) (p .head) (q .head) .limits) (substitutePoly v p q) (substitute v (powersIn v p) A B) (weightWith v p a q b)
+  pub substitute-result : Result (announced (Substitution v) (p .head) (q .head) .limits) (substitutePoly v p q)
+      (substitute v (powersIn v p) A B) (weightWith v p a q b)
   substitute-result = result (substitute-keeps v p q g h (u .full)) substitute-is substitute-weight

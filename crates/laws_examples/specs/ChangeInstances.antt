@@ -1,5 +1,5 @@
--- The laws of `subst_var` and `shift_down` apply: of document 01's examples they say that [1,2,3] with v replaced by [1,1] limit 3 has 8 at the index 1, and [2,3,1] shifted
--- by 1 has 5 at the index 0.
+-- The laws of `subst_var` and `shift_down` apply: of document 01's examples they say that [1,2,3] with v replaced by
+-- [1,1] limit 3 has 8 at the index 1, and [2,3,1] shifted by 1 has 5 at the index 0.
 use mathlib.Core.Path.{refl}
 use mathlib.Core.Bool.{false}
 use mathlib.Core.List.{List, [], _∷_}
@@ -54,14 +54,18 @@ unfolding headerOf span ofBits
 into-wholes =
     held-wholes 0x2104000000000000 into _ (lit≤ tt)
     (three (λ p. Whole (getD into p nan) (whole (pos 1 ∷ pos 2 ∷ pos 3 ∷ []) p))
-    (record { sign = false; value = (refl, refl); is = refl }) (record { sign = false; value = (refl, refl); is = refl }) (record { sign = false; value = (refl, refl); is = refl }))
+    (record { sign = false; value = (refl, refl); is = refl })
+    (record { sign = false; value = (refl, refl); is = refl })
+    (record { sign = false; value = (refl, refl); is = refl }))
 
 put-wholes : Wholes (blockOf (held 0x2102000000000000 put)) (whole (pos 1 ∷ pos 1 ∷ pos 0 ∷ []))
 unfolding headerOf span ofBits
 put-wholes =
     held-wholes 0x2102000000000000 put _ (lit≤ tt) (λ p h.
     three (λ p. Whole (getD put p nan) (whole (pos 1 ∷ pos 1 ∷ pos 0 ∷ []) p))
-    (record { sign = false; value = (refl, refl); is = refl }) (record { sign = false; value = (refl, refl); is = refl }) (record { sign = false; value = (refl, refl); is = refl })
+    (record { sign = false; value = (refl, refl); is = refl })
+    (record { sign = false; value = (refl, refl); is = refl })
+    (record { sign = false; value = (refl, refl); is = refl })
     p (let l : p < 2 = h in omega arith))
 
 down-wholes : Wholes (blockOf (held 0x2104000000000000 down)) (whole (pos 2 ∷ pos 3 ∷ pos 1 ∷ []))
@@ -69,16 +73,21 @@ unfolding headerOf span ofBits
 down-wholes =
     held-wholes 0x2104000000000000 down _ (lit≤ tt)
     (three (λ p. Whole (getD down p nan) (whole (pos 2 ∷ pos 3 ∷ pos 1 ∷ []) p))
-    (record { sign = false; value = (refl, refl); is = refl }) (record { sign = false; value = (refl, refl); is = refl }) (record { sign = false; value = (refl, refl); is = refl }))
+    (record { sign = false; value = (refl, refl); is = refl })
+    (record { sign = false; value = (refl, refl); is = refl })
+    (record { sign = false; value = (refl, refl); is = refl }))
 
 eight : Whole (coefficientAt (blockOf (substitutePoly 0 (held 0x2104000000000000 into) (held 0x2102000000000000 put))) (1 ∷ 0 ∷ 0 ∷ 0 ∷ [])) (pos 8)
-unfolding headerOf goodWord goodHeader goodVars goodVar span weight substitute power one degree coefficientOf times seriesOf truncated inside strides offset box sum upTo indexMinus announced paired minDegreesP1 minLimit
+unfolding headerOf goodWord goodHeader goodVars goodVar span weight substitute power one degree coefficientOf times
+    seriesOf truncated inside strides offset box sum upTo indexMinus announced paired minDegreesP1 minLimit
 eight =
-    substitute-exact 0 (held 0x2104000000000000 into) (held 0x2102000000000000 put) (held-regular 0x2104000000000000 into refl) (held-regular 0x2102000000000000 put refl)
+    substitute-exact 0 (held 0x2104000000000000 into) (held 0x2102000000000000 put)
+    (held-regular 0x2104000000000000 into refl) (held-regular 0x2102000000000000 put refl)
     (whole (pos 1 ∷ pos 2 ∷ pos 3 ∷ [])) (whole (pos 1 ∷ pos 1 ∷ pos 0 ∷ [])) into-wholes put-wholes (lit≤ tt) (1 ∷ 0 ∷ 0 ∷ 0 ∷ []) refl
     (record { i0 = lit< tt; i1 = lit< tt; i2 = lit< tt; i3 = lit< tt })
 
 five : Whole (coefficientAt (blockOf (shiftDownPoly 0 1 (held 0x2104000000000000 down))) origin) (pos 5)
 unfolding headerOf goodWord goodHeader goodVars goodVar span weight shifted seriesOf truncated inside strides offset box sum
 five =
-    shift-down-exact 0 1 (held 0x2104000000000000 down) (held-regular 0x2104000000000000 down refl) (lit< tt) (whole (pos 2 ∷ pos 3 ∷ pos 1 ∷ [])) down-wholes (lit≤ tt) origin refl
+    shift-down-exact 0 1 (held 0x2104000000000000 down) (held-regular 0x2104000000000000 down refl) (lit< tt)
+    (whole (pos 2 ∷ pos 3 ∷ pos 1 ∷ [])) down-wholes (lit≤ tt) origin refl

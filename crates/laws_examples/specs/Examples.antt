@@ -1,6 +1,7 @@
--- Document 01, 'Examples to hold', those marked P, as far as the operations stand: one table, one statement, by computation from the definitions that the functions
--- promise. A row names an operation, its operands and what is wanted; an operand is a header word and the bits of its coefficients. A number that is read has no
--- header: its word is 0. A further operation is a further case of `Operation` and of `answer`.
+-- Document 01, 'Examples to hold', those marked P, as far as the operations stand: one table, one statement, by
+-- computation from the definitions that the functions promise. A row names an operation, its operands and what is
+-- wanted; an operand is a header word and the bits of its coefficients. A number that is read has no header: its word
+-- is 0. A further operation is a further case of `Operation` and of `answer`.
 use mathlib.Core.Path.{_≡_, refl}
 use mathlib.Core.Bool.{Bool, true, false, _&&_}
 use mathlib.Core.List.{List, [], _∷_, map}
@@ -33,8 +34,10 @@ use Rattle.model.specs.Add.{joinAt, joined, joinedBlock}
 use Rattle.model.specs.General.{line, alone, productAt, general}
 use Rattle.model.specs.Product.{grown, raisedAt, raised, chosen, plainProduct, linearProduct, productOf, multiplied, productPoly, productAnswer, productOut}
 use Rattle.model.specs.Quotient.{taken, lessened, quotientAt, recurred, quotientShape, quotientOf, divided, quotientPoly, quotientAnswer, quotientOut}
-use Rattle.model.specs.Series.{expRow, expRows, logNext, logGathered, logRow, logRows, seriesShape, expOf, logOf, expPoly, logPoly, expAnswer, expOut, logAnswer, logOut}
-use Rattle.model.specs.Shifts.{rowsFrom, derivativeFactor, derivativePoly, rowSum, shiftDownPoly, derivativeAnswer, derivativeOut, shiftDownAnswer, shiftDownOut}
+use Rattle.model.specs.Series.{expRow, expRows, logNext, logGathered, logRow, logRows, seriesShape, expOf, logOf}
+use Rattle.model.specs.Series.{expPoly, logPoly, expAnswer, expOut, logAnswer, logOut}
+use Rattle.model.specs.Shifts.{rowsFrom, derivativeFactor, derivativePoly, rowSum, shiftDownPoly, derivativeAnswer}
+use Rattle.model.specs.Shifts.{derivativeOut, shiftDownAnswer, shiftDownOut}
 use Rattle.model.specs.Power.{squared, powerPoly, powerAnswer, powerOut}
 use Rattle.model.specs.Substitute.{rowAt, powered, horner, substituted, substitutePoly, substituteAnswer, substituteOut}
 
@@ -212,5 +215,13 @@ rows =
     ∷ []
 
 pub examples-hold : hold rows ≡ true
-unfolding hold equal same rows tailAnswer tailGate readBy tailOf sumTo productAnswer productOut pairGate answerBy leaves written goodWord goodHeader goodVars goodVar productPoly multiplied productOf chosen plainProduct linearProduct linearFrom lineOf linearIn zerosBut grown raised raisedAt joinedBlock joined joinAt general productAt line alone walk table cut cutTo maxShape sumShape minDegreesP1 minLimit announced paired headerOf wordOf fields strides offset index inside span quotientAnswer quotientOut quotientPoly divided quotientOf quotientShape recurred quotientAt lessened taken inGate workGate single rowsFrom derivativeFactor derivativePoly rowSum shiftDownPoly derivativeAnswer derivativeOut shiftDownAnswer shiftDownOut squared powerPoly powerAnswer powerOut rowAt powered horner substituted substitutePoly substituteAnswer substituteOut expAnswer expOut expPoly expOf seriesShape expRows expRow logAnswer logOut logPoly logOf logRows logNext logRow logGathered stack grow ofInt ofBits toBits neg add sub mul div eq
+unfolding hold equal same rows tailAnswer tailGate readBy tailOf sumTo productAnswer productOut pairGate answerBy leaves
+    written goodWord goodHeader goodVars goodVar productPoly multiplied productOf chosen plainProduct linearProduct
+    linearFrom lineOf linearIn zerosBut grown raised raisedAt joinedBlock joined joinAt general productAt line alone
+    walk table cut cutTo maxShape sumShape minDegreesP1 minLimit announced paired headerOf wordOf fields strides offset
+    index inside span quotientAnswer quotientOut quotientPoly divided quotientOf quotientShape recurred quotientAt
+    lessened taken inGate workGate single rowsFrom derivativeFactor derivativePoly rowSum shiftDownPoly derivativeAnswer
+    derivativeOut shiftDownAnswer shiftDownOut squared powerPoly powerAnswer powerOut rowAt powered horner substituted
+    substitutePoly substituteAnswer substituteOut expAnswer expOut expPoly expOf seriesShape expRows expRow logAnswer
+    logOut logPoly logOf logRows logNext logRow logGathered stack grow ofInt ofBits toBits neg add sub mul div eq
 examples-hold = refl

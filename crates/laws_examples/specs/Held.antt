@@ -1,4 +1,5 @@
--- What an entry point holds: a header word that is good and coefficients that are lent are a polynomial to which the laws of this crate apply.
+-- What an entry point holds: a header word that is good and coefficients that are lent are a polynomial to which the
+-- laws of this crate apply.
 use mathlib.Core.Path.{_≡_, _∙_}
 use mathlib.Core.Bool.{true}
 use mathlib.Core.List.{List}
@@ -23,7 +24,8 @@ held-regular w a g = good-word w g .regular
 pub held-full : (w : ℕ) (a : List Float) → stored (headerOf w) ≤ length a → length (held w a .coeffs) ≡ stored (held w a .head)
 held-full w a h = length-take (stored (headerOf w)) a ∙ omega arith
 
-pub held-wholes : (w : ℕ) (a : List Float) (z : ℕ → ℤ) → stored (headerOf w) ≤ length a → ((p : ℕ) → p < stored (headerOf w) → Whole (getD a p nan) (z p)) → Wholes (blockOf (held w a)) z
+pub held-wholes : (w : ℕ) (a : List Float) (z : ℕ → ℤ) → stored (headerOf w) ≤ length a
+    → ((p : ℕ) → p < stored (headerOf w) → Whole (getD a p nan) (z p)) → Wholes (blockOf (held w a)) z
 held-wholes w a z h k = record {
   full = held-full w a h;
   at = λ p l. rw (getD-take (stored (headerOf w)) a p nan l) (k p l);

@@ -1,6 +1,7 @@
--- Document 01, 'What each answer owes': the promise admits one outcome. A promise here says of the answer, and of each lent buffer as it is left, that it is a
--- definition's value at the arguments: so two outcomes that keep it are equal.
--- The exception is NaN bits: in the logic all NaNs are one value, so equal floats that are NaN may differ in their bits. No definition reads them.
+-- Document 01, 'What each answer owes': the promise admits one outcome. A promise here says of the answer, and of each
+-- lent buffer as it is left, that it is a definition's value at the arguments: so two outcomes that keep it are equal.
+-- The exception is NaN bits: in the logic all NaNs are one value, so equal floats that are NaN may differ in their
+-- bits. No definition reads them.
 use mathlib.Core.Path.{_≡_, refl, sym, ap₂, _∙_}
 use mathlib.Core.List.{List, [], _∷_}
 

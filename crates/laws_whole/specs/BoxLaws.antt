@@ -5,7 +5,8 @@ use Prim.Native.Nat.{ℕ, suc, _+_, _-_, _<_}
 use native.Mathlib.Omega.{arith}
 use Rattle.model_textbook.specs.Sum.{Adding, sum}
 use Rattle.model_textbook.specs.Box.{box, upTo, indexPlus, indexMinus}
-use Rattle.laws_whole.specs.SumLaws.{Additive, Through, sum-related, carried, equal, zeros, sum-same, sum-narrow, sum-only, sum-plus, sum-exchange, sum-reverse, sum-triangle}
+use Rattle.laws_whole.specs.SumLaws.{Additive, Through, sum-related, carried, equal, zeros, sum-same, sum-narrow}
+use Rattle.laws_whole.specs.SumLaws.{sum-only, sum-plus, sum-exchange, sum-reverse, sum-triangle}
 use Rattle.laws_whole.specs.Index.{InBox, Within}
 
 in-box-first : {i n : ℕ} {j ns : List ℕ} → InBox (i ∷ j) (n ∷ ns) → i < n
@@ -24,7 +25,8 @@ box-related r f g [] h = h [] InBox.none
 box-related r f g (n ∷ ns) h =
     sum-related r _ _ n 0 (λ i p q. box-related r (λ j. f (i ∷ j)) (λ j. g (i ∷ j)) ns (λ j u. h (i ∷ j) (InBox.more (omega arith) u)))
 
-pub box-through : {A B : Type 0} {M : Adding A} {N : Adding B} {t : A → B} → Through M N t → (f : List ℕ → A) (ns : List ℕ) → t (box M ns f) ≡ box N ns (λ j. t (f j))
+pub box-through : {A B : Type 0} {M : Adding A} {N : Adding B} {t : A → B} → Through M N t
+    → (f : List ℕ → A) (ns : List ℕ) → t (box M ns f) ≡ box N ns (λ j. t (f j))
 box-through {t = t} h f ns = box-related (carried h) f (λ j. t (f j)) ns (λ j u. refl)
 
 module _ {A : Type 0} (M : Adding A) where
@@ -82,7 +84,8 @@ module _ {A : Type 0} (M : Adding A) where
       ap (λ (z : ℕ). box M (upTo ks) (λ j. f (z ∷ j))) e ∙ box-reverse (λ j. f ((k - i) ∷ j)) ks)
 
   -- i ≤ j, j in the box, by j and by i
-  pub box-triangle : (f : List ℕ → List ℕ → A) (ns : List ℕ) → box M ns (λ j. box M (upTo j) (λ i. f i j)) ≡ box M ns (λ i. box M (indexMinus ns i) (λ d. f i (indexPlus i d)))
+  pub box-triangle : (f : List ℕ → List ℕ → A) (ns : List ℕ)
+      → box M ns (λ j. box M (upTo j) (λ i. f i j)) ≡ box M ns (λ i. box M (indexMinus ns i) (λ d. f i (indexPlus i d)))
   unfolding box upTo indexMinus indexPlus
   box-triangle f [] = refl
   box-triangle f (n ∷ ns) =

@@ -1,8 +1,10 @@
--- Negation, sum, difference, product and division by 1 or -1 at binary64 are exact on whole floats where the result's size is 2 ^ 53 at most.
+-- Negation, sum, difference, product and division by 1 or -1 at binary64 are exact on whole floats where the result's
+-- size is 2 ^ 53 at most.
 use mathlib.Core.Path.{_≡_, refl, sym, ap, ap₂, _∙_}
 use mathlib.Core.Bool.{Bool, true, false, not}
 use Prim.Native.Nat.{ℕ, zero, suc, _+_, _-_, _*_, _^_, _≤_, _<_}
-use native.Mathlib.Nat.{mul-one, one-mul, mul-assoc, mul-comm, mul-mul-mul-comm, mul-pos, zero-mul, mul-zero, add-mul, mul-sub, lt-of-mul-lt-mul-right, le-of-mul-le-mul-right, lt-irrefl}
+use native.Mathlib.Nat.{mul-one, one-mul, mul-assoc, mul-comm, mul-mul-mul-comm, mul-pos, zero-mul, mul-zero, add-mul}
+use native.Mathlib.Nat.{mul-sub, lt-of-mul-lt-mul-right, le-of-mul-le-mul-right, lt-irrefl}
 use native.Mathlib.Omega.{arith}
 use lib.Dec.{ltb, eqb}
 use lib.IntN.{ℤ, pos, negℤ, natAbs, _+ℤ_, _-ℤ_, _*ℤ_, negℤ-negℤ, negℤ-+ℤ, zero-*ℤ, +ℤ-comm}
@@ -95,9 +97,11 @@ module _ (a b c : ℕ) (p : 0 < c) where
       (λ t. rw t (rounded true (b - a) (b * c - a * c) c z p (minus-mul b a c) (sym (minus-lt a b (lower t)) ∙ k) h))
       (λ t. rw t (rounded false (a - b) (a * c - b * c) c z p (minus-mul a b c) (sym (minus-ge a b (higher t)) ∙ k) h))
   whole-fractions true false z k h =
-      let back : negℤ (pos a) +ℤ pos b ≡ negℤ (pos a +ℤ negℤ (pos b)) = sym (negℤ-+ℤ (pos a) (negℤ (pos b)) ∙ ap (λ (x : ℤ). negℤ (pos a) +ℤ x) (negℤ-negℤ (pos b))) in
+      let back : negℤ (pos a) +ℤ pos b ≡ negℤ (pos a +ℤ negℤ (pos b)) =
+      sym (negℤ-+ℤ (pos a) (negℤ (pos b)) ∙ ap (λ (x : ℤ). negℤ (pos a) +ℤ x) (negℤ-negℤ (pos b))) in
       decide (ltb (a * c) (b * c))
-      (λ t. rw t (rounded false (b - a) (b * c - a * c) c z p (minus-mul b a c) (sym (back ∙ ap negℤ (minus-lt a b (lower t)) ∙ negℤ-negℤ (pos (b - a))) ∙ k) h))
+      (λ t. rw t (rounded false (b - a) (b * c - a * c) c z p (minus-mul b a c)
+      (sym (back ∙ ap negℤ (minus-lt a b (lower t)) ∙ negℤ-negℤ (pos (b - a))) ∙ k) h))
       (λ t. rw t (rounded (ltb (b * c) (a * c)) (a - b) (a * c - b * c) c z p (minus-mul a b c)
       (not-positive (ltb (b * c) (a * c)) (a - b) (λ u. let l = not-lower u in omega arith) ∙ sym (back ∙ ap negℤ (minus-ge a b (higher t))) ∙ k) h))
 
@@ -107,7 +111,8 @@ whole-add {a} {b} p q h =
     both-finite (λ x y. Whole (add binary64 x y) (a +ℤ b)) p q (λ s m e t n d p q.
     let f = common s m e t n d p q in
     rw (f .0, f .1)
-    (whole-fractions (natAbs a) (natAbs b) (down e * down d) (mul-pos (down-pos e) (down-pos d)) s t (a +ℤ b) (ap₂ _+ℤ_ (own-sign s m e p) (own-sign t n d q)) h))
+    (whole-fractions (natAbs a) (natAbs b) (down e * down d) (mul-pos (down-pos e) (down-pos d)) s t (a +ℤ b)
+    (ap₂ _+ℤ_ (own-sign s m e p) (own-sign t n d q)) h))
 
 pub whole-sub : {x y : Float} {a b : ℤ} → Whole x a → Whole y b → natAbs (a -ℤ b) ≤ 2 ^ 53 → Whole (sub binary64 x y) (a -ℤ b)
 unfolding sub

@@ -1,4 +1,5 @@
--- Computed examples: sums, whole floats at and past the bound, and textbook series on cases of document 01's 'Examples to hold'.
+-- Computed examples: sums, whole floats at and past the bound, and textbook series on cases of document 01's 'Examples
+-- to hold'.
 use mathlib.Core.Path.{_≡_, refl}
 use mathlib.Core.Bool.{true, false}
 use mathlib.Core.List.{List, [], _∷_}
@@ -65,7 +66,8 @@ upward : Whole (walk (λ i acc. add binary64 acc (getD floats i nan)) 4 0 (ofBit
 unfolding sum
 upward =
     whole-list floats (λ j. getD terms j (pos 0)) 4
-    (each (λ j. Whole (getD floats j nan) (getD terms j (pos 0))) (whole-int _ (lit≤ tt)) (whole-int _ (lit≤ tt)) (whole-int _ (lit≤ tt)) (whole-int _ (lit≤ tt)))
+    (each (λ j. Whole (getD floats j nan) (getD terms j (pos 0))) (whole-int _ (lit≤ tt)) (whole-int _ (lit≤ tt))
+    (whole-int _ (lit≤ tt)) (whole-int _ (lit≤ tt)))
     (lit≤ tt)
 
 -- ---- series
@@ -109,7 +111,8 @@ unfolding quotient stored box
 quotient-minus = refl
 
 -- [[5,16],[22,60]] over [[1,2],[3,4]]: [[5,6],[7,8]]
-quotient-block : square (quotient (block (pos 5 ∷ pos 16 ∷ pos 22 ∷ pos 60 ∷ [])) (block (pos 1 ∷ pos 2 ∷ pos 3 ∷ pos 4 ∷ []))) ≡ pos 5 ∷ pos 6 ∷ pos 7 ∷ pos 8 ∷ []
+quotient-block : square (quotient (block (pos 5 ∷ pos 16 ∷ pos 22 ∷ pos 60 ∷ []))
+    (block (pos 1 ∷ pos 2 ∷ pos 3 ∷ pos 4 ∷ []))) ≡ pos 5 ∷ pos 6 ∷ pos 7 ∷ pos 8 ∷ []
 unfolding quotient stored box
 quotient-block = refl
 

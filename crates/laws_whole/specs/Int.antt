@@ -1,10 +1,12 @@
--- The laws of ℤ that lib.IntN lacks: the product is associative and distributes over the sum, and sizes of sums and products.
+-- The laws of ℤ that lib.IntN lacks: the product is associative and distributes over the sum, and sizes of sums and
+-- products.
 use mathlib.Core.Path.{_≡_, refl, sym, ap, _∙_}
 use Prim.Native.Nat.{ℕ, zero, suc, _+_, _*_, _≤_}
 use native.Mathlib.Nat.{le-refl}
 use native.Mathlib.Omega.{arith}
 use lib.Dec.{ltb}
-use lib.IntN.{ℤ, pos, negsuc, negℤ, sucℤ, predℤ, subℕ, natAbs, _+ℤ_, _-ℤ_, _*ℤ_, one, sucℤ-*ℤ, predℤ-*ℤ, sucℤ-+ℤ, predℤ-+ℤ, +ℤ-idl, +ℤ-assoc, +ℤ-comm, *ℤ-comm, *ℤ-one, zero-*ℤ, +ℤ-invl, +ℤ-negℤ-cancel}
+use lib.IntN.{ℤ, pos, negsuc, negℤ, sucℤ, predℤ, subℕ, natAbs, _+ℤ_, _-ℤ_, _*ℤ_, one, sucℤ-*ℤ, predℤ-*ℤ, sucℤ-+ℤ}
+use lib.IntN.{predℤ-+ℤ, +ℤ-idl, +ℤ-assoc, +ℤ-comm, *ℤ-comm, *ℤ-one, zero-*ℤ, +ℤ-invl, +ℤ-negℤ-cancel}
 use borrow.Author.Tests.{ltb-true}
 use Rattle.lists.specs.Test.{decide}
 
@@ -33,8 +35,10 @@ pub right-distrib : (a b c : ℤ) → (a +ℤ b) *ℤ c ≡ a *ℤ c +ℤ b *ℤ
 right-distrib a b c =
     by-steps (λ a. (a +ℤ b) *ℤ c ≡ a *ℤ c +ℤ b *ℤ c)
     (ap (λ x. x *ℤ c) (+ℤ-idl b) ∙ sym (+ℤ-idl (b *ℤ c)) ∙ ap (λ x. x +ℤ b *ℤ c) (sym (zero-*ℤ c)))
-    (λ a h. ap (λ x. x *ℤ c) (sucℤ-+ℤ a b) ∙ sucℤ-*ℤ (a +ℤ b) c ∙ ap (λ x. x +ℤ c) h ∙ +ℤ-right-comm (a *ℤ c) (b *ℤ c) c ∙ ap (λ x. x +ℤ b *ℤ c) (sym (sucℤ-*ℤ a c)))
-    (λ a h. ap (λ x. x *ℤ c) (predℤ-+ℤ a b) ∙ predℤ-*ℤ (a +ℤ b) c ∙ ap (λ x. x -ℤ c) h ∙ +ℤ-right-comm (a *ℤ c) (b *ℤ c) (negℤ c) ∙ ap (λ x. x +ℤ b *ℤ c) (sym (predℤ-*ℤ a c)))
+    (λ a h. ap (λ x. x *ℤ c) (sucℤ-+ℤ a b) ∙ sucℤ-*ℤ (a +ℤ b) c ∙ ap (λ x. x +ℤ c) h ∙ +ℤ-right-comm (a *ℤ c) (b *ℤ c) c
+    ∙ ap (λ x. x +ℤ b *ℤ c) (sym (sucℤ-*ℤ a c)))
+    (λ a h. ap (λ x. x *ℤ c) (predℤ-+ℤ a b) ∙ predℤ-*ℤ (a +ℤ b) c ∙ ap (λ x. x -ℤ c) h
+    ∙ +ℤ-right-comm (a *ℤ c) (b *ℤ c) (negℤ c) ∙ ap (λ x. x +ℤ b *ℤ c) (sym (predℤ-*ℤ a c)))
     a
 
 pub left-distrib : (a b c : ℤ) → a *ℤ (b +ℤ c) ≡ a *ℤ b +ℤ a *ℤ c
@@ -51,7 +55,8 @@ pub *ℤ-assoc : (a b c : ℤ) → (a *ℤ b) *ℤ c ≡ a *ℤ (b *ℤ c)
     by-steps (λ a. (a *ℤ b) *ℤ c ≡ a *ℤ (b *ℤ c))
     (ap (λ x. x *ℤ c) (zero-*ℤ b) ∙ zero-*ℤ c ∙ sym (zero-*ℤ (b *ℤ c)))
     (λ a h. ap (λ x. x *ℤ c) (sucℤ-*ℤ a b) ∙ right-distrib (a *ℤ b) b c ∙ ap (λ x. x +ℤ b *ℤ c) h ∙ sym (sucℤ-*ℤ a (b *ℤ c)))
-    (λ a h. ap (λ x. x *ℤ c) (predℤ-*ℤ a b) ∙ right-distrib (a *ℤ b) (negℤ b) c ∙ ap (λ x. x +ℤ negℤ b *ℤ c) h ∙ ap (λ x. a *ℤ (b *ℤ c) +ℤ x) (neg-*ℤ b c) ∙ sym (predℤ-*ℤ a (b *ℤ c)))
+    (λ a h. ap (λ x. x *ℤ c) (predℤ-*ℤ a b) ∙ right-distrib (a *ℤ b) (negℤ b) c ∙ ap (λ x. x +ℤ negℤ b *ℤ c) h
+    ∙ ap (λ x. a *ℤ (b *ℤ c) +ℤ x) (neg-*ℤ b c) ∙ sym (predℤ-*ℤ a (b *ℤ c)))
     a
 
 pub *ℤ-unit : (a : ℤ) → a *ℤ pos 1 ≡ a

@@ -13,7 +13,8 @@ use Rattle.laws_whole.specs.SumLaws.{sum-one, sum-same, sum-blocks}
 use Rattle.laws_whole.specs.BoxLaws.{box-same}
 use Rattle.laws_whole.specs.IndexLaws.{in-box-length, four-at}
 
--- how many indices a box holds, and the place of one: for any number of variables, so that laws can go by one variable after the other
+-- how many indices a box holds, and the place of one: for any number of variables, so that laws can go by one variable
+-- after the other
 unfoldable pub boxCount : List ℕ → ℕ
 boxCount [] = 1
 boxCount (n ∷ ns) = n * boxCount ns

@@ -1,4 +1,5 @@
--- The textbook quotient is the one series whose product by the divisor is the dividend, in four variables, where the divisor's constant is 1 or -1.
+-- The textbook quotient is the one series whose product by the divisor is the dividend, in four variables, where the
+-- divisor's constant is 1 or -1.
 use mathlib.Core.Path.{_≡_, sym, ap, _∙_}
 use mathlib.Core.List.{List}
 use Prim.Native.Nat.{ℕ, zero, suc, _<_}
@@ -36,7 +37,8 @@ module _ (A B : Series) where
   quotient-step : (k : List ℕ) → quotient A B k ≡ B origin *ℤ (A k -ℤ times (quotient A B) (rest B) k)
   unfolding quotient turns
   quotient-step k =
-      ap (λ (x : ℤ). B origin *ℤ (A k -ℤ x)) (before (turns (degree k) A B) (quotient A B) B k (λ j w l. turns-same (degree k) (suc (degree j)) j l (omega arith)))
+      ap (λ (x : ℤ). B origin *ℤ (A k -ℤ x)) (before (turns (degree k) A B) (quotient A B) B k
+      (λ j w l. turns-same (degree k) (suc (degree j)) j l (omega arith)))
 
   module _ (unit : natAbs (B origin) ≡ 1) where
     -- Q B = A
@@ -59,7 +61,8 @@ module _ (A B : Series) where
           sym (+ℤ-negℤ-cancel (Q k *ℤ B origin) r)
           ∙ ap (λ (x : ℤ). x -ℤ r) (ap (λ (i : List ℕ). Q k *ℤ B i +ℤ r) (sym (minus-self k four)) ∙ sym (times-rest Q B k) ∙ h k four) in
           sym (unit-back (Q k) (B origin) unit)
-          ∙ ap (λ (x : ℤ). x *ℤ B origin) (s ∙ ap (λ (x : ℤ). A k -ℤ x) (before Q (quotient A B) B k (λ j w l. only-below n j (omega arith) (within-length w ∙ four))))
+          ∙ ap (λ (x : ℤ). x *ℤ B origin) (s ∙ ap (λ (x : ℤ). A k -ℤ x)
+          (before Q (quotient A B) B k (λ j w l. only-below n j (omega arith) (within-length w ∙ four))))
           ∙ *ℤ-comm (A k -ℤ times (quotient A B) (rest B) k) (B origin)
           ∙ sym (quotient-step k)
 

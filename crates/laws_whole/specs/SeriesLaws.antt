@@ -16,10 +16,12 @@ use Rattle.laws_whole.specs.SumSizes.{sumZ-times}
 use Rattle.laws_whole.specs.Index.{Within}
 use Rattle.laws_whole.specs.BoxLaws.{box-same, box-only, box-plus, box-reverse, box-triangle, sum-box}
 use Rattle.laws_whole.specs.BoxSizes.{boxZ-times, times-boxZ}
-use Rattle.laws_whole.specs.IndexLaws.{within-upTo, upTo-within, within-self, within-length, minus-length, minus-minus, upTo-minus, add-minus, minus-add, degree-none, degree-self}
+use Rattle.laws_whole.specs.IndexLaws.{within-upTo, upTo-within, within-self, within-length, minus-length}
+use Rattle.laws_whole.specs.IndexLaws.{minus-minus, upTo-minus, add-minus, minus-add, degree-none, degree-self}
 
 -- products that agree term by term
-pub times-same : (A B C D : Series) (k : List ℕ) → ((j : List ℕ) → Within j k → A j *ℤ B (indexMinus k j) ≡ C j *ℤ D (indexMinus k j)) → times A B k ≡ times C D k
+pub times-same : (A B C D : Series) (k : List ℕ)
+    → ((j : List ℕ) → Within j k → A j *ℤ B (indexMinus k j) ≡ C j *ℤ D (indexMinus k j)) → times A B k ≡ times C D k
 unfolding times
 times-same A B C D k h = box-same addZ _ _ (upTo k) (λ j u. h j (within-upTo j k u))
 

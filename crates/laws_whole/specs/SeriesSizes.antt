@@ -29,7 +29,8 @@ sizes-all A B ns =
     (le-trans (boxN-le _ (λ i. natAbs (A i) * boxN ns (λ d. natAbs (B d))) ns (λ i u. row i u))
     (le-of-eq (sym (boxN-times (λ i. natAbs (A i)) (boxN ns (λ d. natAbs (B d))) ns))))
   where
-    row : (i : List ℕ) → InBox i ns → boxN (indexMinus ns i) (λ d. natAbs (A i) * natAbs (B (indexMinus (indexPlus i d) i))) ≤ natAbs (A i) * boxN ns (λ d. natAbs (B d))
+    row : (i : List ℕ) → InBox i ns → boxN (indexMinus ns i)
+        (λ d. natAbs (A i) * natAbs (B (indexMinus (indexPlus i d) i))) ≤ natAbs (A i) * boxN ns (λ d. natAbs (B d))
     row i u =
         le-trans
         (le-of-eq

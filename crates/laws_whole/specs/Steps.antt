@@ -1,4 +1,5 @@
--- A walk whose steps each add a known whole number is exact where the sizes sum to 2 ^ 53 at most; so is a sum from +0.0 upward.
+-- A walk whose steps each add a known whole number is exact where the sizes sum to 2 ^ 53 at most; so is a sum from
+-- +0.0 upward.
 use mathlib.Core.List.{List}
 use Prim.Native.Nat.{ℕ, zero, suc, _+_, _*_, _^_, _≤_, _<_}
 use native.Mathlib.Nat.{le-refl}
@@ -35,7 +36,8 @@ pub add-step : {x y : Float} {c b : ℤ} → Whole x c → Whole y b → natAbs 
 add-step {c} {b} p q h = whole-add p q (omega (arith, abs-add c b))
 
 -- acc + x * y
-pub mul-step : {x y z : Float} {c a b : ℤ} → Whole x c → Whole y a → Whole z b → natAbs c + natAbs a * natAbs b ≤ 2 ^ 53 → Whole (add binary64 x (mul binary64 y z)) (c +ℤ a *ℤ b)
+pub mul-step : {x y z : Float} {c a b : ℤ} → Whole x c → Whole y a → Whole z b → natAbs c + natAbs a * natAbs b ≤ 2 ^ 53
+    → Whole (add binary64 x (mul binary64 y z)) (c +ℤ a *ℤ b)
 mul-step {c} {a} {b} p q r h = add-step p (whole-mul q r (omega (arith, abs-mul a b))) (omega (arith, abs-mul a b))
 
 -- ---- sums of terms, from any start and from +0.0
@@ -53,6 +55,7 @@ pub whole-list : (xs : List Float) (e : ℕ → ℤ) (n : ℕ) → ((j : ℕ) �
 whole-list xs e n known h = whole-sum (λ i. getD xs i nan) e n 0 (λ j p q. known j (omega arith)) h
 
 -- the products of two rows of terms
-pub whole-products : (g h : ℕ → Float) (p q : ℕ → ℤ) (n a : ℕ) → ((j : ℕ) → a ≤ j → j < a + n → Whole (g j) (p j)) → ((j : ℕ) → a ≤ j → j < a + n → Whole (h j) (q j))
+pub whole-products : (g h : ℕ → Float) (p q : ℕ → ℤ) (n a : ℕ) → ((j : ℕ) → a ≤ j → j < a + n → Whole (g j) (p j))
+    → ((j : ℕ) → a ≤ j → j < a + n → Whole (h j) (q j))
     → Adds (λ i acc. add binary64 acc (mul binary64 (g i) (h i))) (λ j. p j *ℤ q j) (λ j. natAbs (p j) * natAbs (q j)) n a
 whole-products g h p q n a u v = record { size = λ j l r. omega (arith, abs-mul (p j) (q j)); step = λ j l r x c w b. mul-step w (u j l r) (v j l r) b }

@@ -1,4 +1,5 @@
--- The series of a stored polynomial, in four variables: its coefficients at the stored places, zero past them; |A| and the sum of all coefficients as sums over the places.
+-- The series of a stored polynomial, in four variables: its coefficients at the stored places, zero past them; |A| and
+-- the sum of all coefficients as sums over the places.
 use mathlib.Core.Path.{_≡_, sym, ap, _∙_}
 use mathlib.Core.List.{List}
 use mathlib.Core.Bool.{Bool, true, _&&_}

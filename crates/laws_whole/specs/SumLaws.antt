@@ -172,7 +172,8 @@ module _ {A : Type 0} (M : Adding A) where
       ∙ ap (λ (x : A). M .plus x (sum M (λ i. f i (0 + n)) (suc (0 + n)) 0)) (sum-triangle f n)
       ∙ ap (λ (m : ℕ). M .plus (sum M (by-row n) n 0) (sum M (λ i. f i m) (suc m) 0)) (zero-add n)
       ∙ ap (λ (x : A). M .plus x (sum M (λ i. f i n) (suc n) 0))
-      (sym (plus-nil (sum M (by-row n) n 0)) ∙ ap (M .plus (sum M (by-row n) n 0)) (sym last ∙ ap (by-row n) (sym (zero-add n))) ∙ sym (sum-last (by-row n) n 0))
+      (sym (plus-nil (sum M (by-row n) n 0)) ∙ ap (M .plus (sum M (by-row n) n 0))
+      (sym last ∙ ap (by-row n) (sym (zero-add n))) ∙ sym (sum-last (by-row n) n 0))
       ∙ sym (sum-plus (by-row n) (λ i. f i n) (suc n) 0)
       ∙ sym (sum-same (by-row (suc n)) (λ i. M .plus (by-row n i) (f i n)) (suc n) 0 (λ i p q. row i (omega arith)))
 

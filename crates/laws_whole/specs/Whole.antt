@@ -1,4 +1,5 @@
--- A float that is a whole number (document 01, 'Where the result is exact': equality as numbers), and that rounding keeps a whole number of size 2 ^ 53 at most.
+-- A float that is a whole number (document 01, 'Where the result is exact': equality as numbers), and that rounding
+-- keeps a whole number of size 2 ^ 53 at most.
 use mathlib.Core.Path.{_≡_, refl, sym, ap, _∙_, subst}
 use mathlib.Core.Bool.{Bool, true, false}
 use Prim.Native.Nat.{ℕ, suc, _*_, _^_, _≤_, _<_}
@@ -58,10 +59,14 @@ whole-one {x} {a} {b} p =
     sym (own-sign s m e p) ∙ ap (signed s) n ∙ own-sign s m e q)
 
 -- a fraction that is a whole number of that size rounds to it
-pub whole-round : (s : Bool) (num den : ℕ) (z : ℤ) → 0 < den → num ≡ natAbs z * den → signed s (natAbs z) ≡ z → natAbs z ≤ 2 ^ 53 → Whole (round binary64 s num den) z
+pub whole-round : (s : Bool) (num den : ℕ) (z : ℤ) → 0 < den → num ≡ natAbs z * den → signed s (natAbs z) ≡ z
+    → natAbs z ≤ 2 ^ 53 → Whole (round binary64 s num den) z
 whole-round s num den z p e k h = record {
   sign = s;
-  value = subst (λ (x : Float). HasValue x s (natAbs z) 1) (round-same binary64 s (natAbs z) 1 num den (zero-lt-suc 0) p (sym (mul-one num ∙ e))) (round-whole binary64 s (natAbs z) h);
+  value =
+      subst (λ (x : Float). HasValue x s (natAbs z) 1)
+      (round-same binary64 s (natAbs z) 1 num den (zero-lt-suc 0) p (sym (mul-one num ∙ e)))
+      (round-whole binary64 s (natAbs z) h);
   is = k;
 }
 

@@ -50,7 +50,8 @@ module _ {ℓ κ} {A : Type ℓ} {B : Type κ} (s : B → List A → A) where
       ∙ (chain-keeps ys (drop i ws) (length xs + i) (omega arith) ∙ take-all (length xs + i) ys (omega arith)))
 
   -- that place
-  pub chain-at : (d : A) (e : B) (xs : List A) (ws : List B) (i : ℕ) → i < length ws → getD (chain s xs ws) (length xs + i) d ≡ s (getD ws i e) (chain s xs (take i ws))
+  pub chain-at : (d : A) (e : B) (xs : List A) (ws : List B) (i : ℕ) → i < length ws
+      → getD (chain s xs ws) (length xs + i) d ≡ s (getD ws i e) (chain s xs (take i ws))
   chain-at d e xs ws i h =
       let ys : List A = chain s xs (take i ws) in
       let w : B = getD ws i e in

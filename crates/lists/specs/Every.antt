@@ -1,4 +1,5 @@
--- A test that every place of a range passes; and a loop that looks at one after the other and stops at the first that does not.
+-- A test that every place of a range passes; and a loop that looks at one after the other and stops at the first that
+-- does not.
 use Prim.Native.Nat.{ℕ, zero, suc, _+_, _-_, _≤_, _<_}
 use mathlib.Core.Bool.{Bool, true, false, _&&_}
 use mathlib.Core.Path.{_≡_, refl, ap, _∙_}

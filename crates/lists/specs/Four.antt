@@ -1,8 +1,8 @@
 -- Four numbers, one to a variable: the lists of limits, lengths, strides and indices.
-use Prim.Native.Nat.{ℕ, zero, suc, _+_, _-_, _≤_, _<_}
+use Prim.Native.Nat.{ℕ, zero, suc, _-_, _<_}
 use mathlib.Core.List.{List, [], _∷_}
 use mathlib.Core.Bool.{Bool, true, false}
-use mathlib.Core.Path.{_≡_, refl, sym, ap, _∙_}
+use mathlib.Core.Path.{_≡_, refl}
 use native.Mathlib.Omega.{arith}
 use lib.Dec.{eqb, lit<}
 use lib.ListN.{length, getD, set}
@@ -47,7 +47,8 @@ pub at-other : (l : List ℕ) (v w k : ℕ) → (w ≡ v → ⊥) → at (set l 
 at-other l v w k h = getD-set-other l v w k 0 h
 
 -- a property of the places of a list with one changed
-pub one-changed : (Q : ℕ → ℕ → Type 0) (l : List ℕ) (v k : ℕ) → v < length l → Q v k → ((w : ℕ) → w < 4 → (w ≡ v → ⊥) → Q w (at l w)) → (w : ℕ) → w < 4 → Q w (at (set l v k) w)
+pub one-changed : (Q : ℕ → ℕ → Type 0) (l : List ℕ) (v k : ℕ) → v < length l → Q v k
+    → ((w : ℕ) → w < 4 → (w ≡ v → ⊥) → Q w (at l w)) → (w : ℕ) → w < 4 → Q w (at (set l v k) w)
 one-changed Q l v k p q r w h = go (eqb w v) refl
   where
     go : (b : Bool) → eqb w v ≡ b → Q w (at (set l v k) w)

@@ -1,6 +1,7 @@
 pub mod Bytes
 pub mod Test
 pub mod Table
+pub mod Fill
 pub mod Grow
 pub mod Walk
 pub mod Part

@@ -1,12 +1,14 @@
 -- Parts of a buffer, what stands below a place, and what was kept.
-use Prim.Native.Nat.{ℕ, zero, suc, _+_, _-_, _*_, _≤_, _<_}
+use Prim.Native.Nat.{ℕ, zero, suc, _+_, _-_, _≤_, _<_}
 use mathlib.Core.List.{List, [], _∷_, _++_}
 use mathlib.Core.Path.{_≡_, refl, sym, ap, _∙_}
 use native.Mathlib.Omega.{arith}
 use native.Mathlib.Nat.{zero-add, suc-add}
-use lib.ListN.{length, getD, take, drop, set, take-append-drop, length-set, length-take, length-drop}
-use lib.Seq.{take-set-le, drop-set-add, take-take, drop-nil, take-nil, drop-cons, getD-set-same, take-at, drop-at, drop-drop, drop-set-lt, set-append-left}
+use lib.ListN.{length, take, drop, set, length-set, length-take, length-drop, length-append}
+use lib.Seq.{take-set-le, drop-set-add, take-take, take-nil, drop-cons, getD-set-same, take-at, drop-at, drop-drop, drop-set-lt, set-append-left}
+use lib.Seq.{length-take-le}
 use Rattle.lists.specs.Table.{Filled, filled-none, filled-more, filled-end, front, table, length-table}
+use borrow.Rule.Slice.PartMut.{putMid}
 
 module _ {A : Type 0} where
   -- the places from f up to t, as `&l[f..t]` reads
@@ -34,17 +36,18 @@ module _ {A : Type 0} where
   pub below-set : {s : ℕ} (w : List A) (i : ℕ) (v : A) → s ≤ i → Below s w (set w i v)
   below-set {s} w i v h = record { len = length-set w i v; head = take-set-le s w i v h }
 
-  take-drop : (f k : ℕ) (l : List A) → drop f (take (f + k) l) ≡ take k (drop f l)
-  take-drop zero k l = rw (zero-add k)
-  take-drop (suc f) k [] = rw (take-nil (suc f + k), take-nil k)
-  take-drop (suc f) k (x ∷ l) = rw (suc-add f k) (take-drop f k l)
+  -- a part of a front
+  pub drop-take : (f k : ℕ) (l : List A) → drop f (take (f + k) l) ≡ take k (drop f l)
+  drop-take zero k l = rw (zero-add k)
+  drop-take (suc f) k [] = rw (take-nil (suc f + k), take-nil k)
+  drop-take (suc f) k (x ∷ l) = rw (suc-add f k) (drop-take f k l)
 
   -- a part below s is the same
   pub below-part : {s : ℕ} {w w' : List A} (f t : ℕ) → Below s w w' → f ≤ t → t ≤ s → part f t w' ≡ part f t w
   below-part {s} {w} {w'} f t b p q =
       let k : f + (t - f) ≡ t = omega arith in
       let cut : (l : List A) → take (t - f) (drop f l) ≡ drop f (take t (take s l)) =
-      λ l. sym (take-drop f (t - f) l) ∙ (ap (λ (n : ℕ). drop f (take n l)) k ∙ ap (drop f) (sym (take-take t s l q))) in
+      λ l. sym (drop-take f (t - f) l) ∙ (ap (λ (n : ℕ). drop f (take n l)) k ∙ ap (drop f) (sym (take-take t s l q))) in
       cut w' ∙ (ap (λ (l : List A). drop f (take t l)) (b .head) ∙ sym (cut w))
 
   -- a loop that fills the places of `d` from `at` on, and has done n
@@ -55,7 +58,8 @@ module _ {A : Type 0} where
   pub at-none : {at : ℕ} {f : ℕ → A} {d : List A} → FilledAt at 0 f d d
   at-none = record { below = below-same; tail = filled-none }
 
-  pub at-more : {at n : ℕ} {f : ℕ → A} {d out : List A} {v : A} → FilledAt at n f d out → v ≡ f n → n < length (drop at d) → FilledAt at (n + 1) f d (set out (at + n) v)
+  pub at-more : {at n : ℕ} {f : ℕ → A} {d out : List A} {v : A} → FilledAt at n f d out → v ≡ f n
+      → n < length (drop at d) → FilledAt at (n + 1) f d (set out (at + n) v)
   at-more {at} {n} {f} {d} {out} {v} h e l =
       record {
         below = below-then (h .below) (below-set out (at + n) v (omega arith));
@@ -74,7 +78,9 @@ module _ {A : Type 0} where
       record {
         below = h .below;
         holds = ap (λ (m : ℕ). take m (drop at out)) k ∙ ap (take n) (filled-end (h .tail) p q) ∙ take-at (table n f) (drop n (drop at d)) n (length-table f n);
-        above = sym (drop-drop n at out) ∙ ap (drop n) (filled-end (h .tail) p q) ∙ drop-at (table n f) (drop n (drop at d)) n (length-table f n) ∙ drop-drop n at d;
+        above =
+            sym (drop-drop n at out) ∙ ap (drop n) (filled-end (h .tail) p q)
+            ∙ drop-at (table n f) (drop n (drop at d)) n (length-table f n) ∙ drop-drop n at d;
       }
 
   -- a part above is the same
@@ -97,3 +103,31 @@ module _ {A : Type 0} where
   -- a value stored at the front of a list whose front is a
   pub set-front : (a d : List A) {o : List A} (v : A) → o ≡ a ++ d → 0 < length a → set o 0 v ≡ set a 0 v ++ d
   set-front a d {o} v e h = ap (λ z. set z 0 v) e ∙ set-append-left a d 0 v h
+
+  -- a part of a buffer became xs
+  pub kept-mid : (p n : ℕ) (w ys : List A) {xs : List A} (k : ℕ) → xs ≡ take k ys → k ≡ n → n ≤ length ys
+      → p + n ≤ length w → {q : ℕ} → q ≡ n → Kept p (p + n) (take n ys) w (putMid p q w xs)
+  kept-mid p n w ys {xs} k e f g h {q} e' =
+      let l : length xs ≡ n = ap length e ∙ (rw f (length-take-le n ys g)) in
+      let lp : length (take p w) ≡ p = length-take-le p w (omega arith) in
+      let rest : List A = drop q (drop p w) in
+      let d : drop p (take p w ++ (xs ++ rest)) ≡ xs ++ rest = drop-at (take p w) (xs ++ rest) p lp in
+      let m : p + n - p ≡ n = omega arith in
+      record {
+        below = record { len = simp (length-append, length-take, length-drop) (omega (arith, l)); head = take-at (take p w) (xs ++ rest) p lp };
+        holds = ap (λ (j : ℕ). take j (drop p (take p w ++ (xs ++ rest)))) m ∙ (ap (take n) d ∙ (take-at xs rest n l ∙ (e ∙ ap (λ (j : ℕ). take j ys) f)));
+        above =
+            sym (drop-drop n p (take p w ++ (xs ++ rest)))
+            ∙ (ap (drop n) d ∙ (drop-at xs rest n l ∙ (drop-drop q p w ∙ ap (λ (j : ℕ). drop (p + j) w) e')));
+      }
+
+  -- the one place of a list, stored
+  pub one-place : (x : A) (old : List A) → length old ≡ 1 → set old 0 x ≡ x ∷ []
+  one-place x [] e = absurd (omega arith)
+  one-place x (y ∷ []) e = refl
+  one-place x (y ∷ z ∷ old) e = absurd (omega arith)
+
+  -- the first place of a list, stored
+  pub one-set : (x : A) (w : List A) → 0 < length w → take 1 (set w 0 x) ≡ x ∷ []
+  one-set x [] h = absurd (omega arith)
+  one-set x (y ∷ w) h = refl

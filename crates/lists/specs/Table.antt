@@ -1,13 +1,12 @@
 -- The list of f 0, f 1, .. f (n - 1): what is made place by place; and a loop that fills the front of a list with it.
 use Prim.Native.Nat.{ℕ, zero, suc, _+_, _≤_, _<_}
-use mathlib.Core.List.{List, [], _∷_, _++_, append-assoc}
+use mathlib.Core.List.{List, [], _∷_, _++_}
 use mathlib.Core.Path.{_≡_, refl, sym, ap, _∙_}
 use native.Mathlib.Numerals.{add-one}
 use native.Mathlib.Omega.{arith}
-use native.Mathlib.Nat.{add-zero, le-refl}
-use lib.ListN.{length, getD, take, drop, set, length-append, length-drop, length-set}
-use lib.Seq.{getD-at, drop-cons, set-at, append-snoc, getD-append-seam, take-suc, take-length}
-use lib.ListN.{List·getD-append}
+use native.Mathlib.Nat.{le-refl}
+use lib.ListN.{length, getD, take, drop, set, length-append, length-drop, length-set, List·getD-append}
+use lib.Seq.{getD-at, drop-cons, set-at, append-snoc, take-suc, take-length}
 use lib.Dec.{ltb}
 use borrow.Author.Tests.{ltb-true, ltb-false}
 use Rattle.lists.specs.Test.{decide}

@@ -5,7 +5,7 @@ use Prim.Native.Nat.{ℕ}
 use mathlib.Core.List.{List}
 use mathlib.Core.Bool.{Bool, true, false, cond}
 use lib.Dec.{eqb}
-use lib.ListN.{length, getD, set}
+use lib.ListN.{length, set}
 use lib.Ieee.{Float, add, sub, binary64}
 use Rattle.lists.specs.Table.{table}
 use Rattle.model.specs.declared.Refusal.{Refusal}

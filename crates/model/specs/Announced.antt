@@ -3,8 +3,7 @@
 -- Total, and a header that keeps the rules (its count aside) whatever v, n and e are: what a gate refuses is announced
 -- to nobody.
 use Prim.Native.Nat.{ℕ, _+_, _-_, _*_, min, max}
-use mathlib.Core.List.{List, [], _∷_}
-use mathlib.Core.Bool.{Bool, cond}
+use mathlib.Core.Bool.{cond}
 use lib.Dec.{ltb, eqb}
 use Rattle.lists.specs.Four.{at, four}
 use Rattle.model.specs.declared.Header.{Header}
@@ -31,8 +30,8 @@ limitAfter (Substitution v) k l = l
 limitAfter (Term v) k l = l
 limitAfter (Order v n) k l = l
 
--- The length of variable k of the result: l its limit, a and b the operands' lengths (after cutting, where there are two operands),
--- p the uncut length of v in the polynomial, which a substitution alone asks for.
+-- The length of variable k of the result: l its limit, a and b the operands' lengths (after cutting, where there are
+-- two operands), p the uncut length of v in the polynomial, which a substitution alone asks for.
 abbrev pub lengthAfter : Family → ℕ → ℕ → ℕ → ℕ → ℕ → ℕ
 lengthAfter Constant k l p a b = 1
 lengthAfter Same k l p a b = a

@@ -1,8 +1,8 @@
 -- REFERENCE 4.2. Document 01, port order 2, constructors, with the lengths of 'What must change shape': each writes its
 -- coefficients to a lent buffer.
 use Prim.Native.Nat.{ℕ}
-use mathlib.Core.List.{List, [], _∷_}
-use lib.ListN.{length, take}
+use mathlib.Core.List.{[], _∷_}
+use lib.ListN.{take}
 use lib.IntN.{pos}
 use lib.Ieee.{Float, ofInt, binary64}
 use Rattle.model.specs.declared.Header.{Header}

@@ -2,7 +2,7 @@
 -- the limit, at most 4,096 stored places.
 -- Lists have four numbers, one to a variable; a missing variable has limit 1 and length 1 and stands at the end.
 use Prim.Native.Nat.{ℕ, zero, suc, _*_, min}
-use mathlib.Core.List.{List, [], _∷_}
+use mathlib.Core.List.{List}
 use mathlib.Core.Bool.{Bool, _&&_, _||_, cond}
 use lib.Dec.{ltb, leb, eqb}
 use Rattle.lists.specs.Four.{at, four}

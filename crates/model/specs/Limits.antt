@@ -1,8 +1,8 @@
 -- REFERENCE 3.1 to 3.3. Document 01, port order 1: the smaller limits, cutting, and the lengths of a sum and of a
 -- product.
 use Prim.Native.Nat.{ℕ, _+_, _-_, min, max}
-use mathlib.Core.List.{List, [], _∷_}
-use mathlib.Core.Bool.{Bool, cond}
+use mathlib.Core.List.{List}
+use mathlib.Core.Bool.{cond}
 use lib.Dec.{ltb}
 use Rattle.lists.specs.Four.{at, four}
 use Rattle.model.specs.declared.Header.{Header}

@@ -2,8 +2,8 @@
 -- gives one with no variables, 1 a copy.
 -- The exponent is any u32. Refusals 1, 2, 5, 6.
 use Prim.Native.Nat.{ℕ, zero, suc, _/_, _%_}
-use mathlib.Core.List.{List, [], _∷_}
-use mathlib.Core.Bool.{Bool, cond}
+use mathlib.Core.List.{List}
+use mathlib.Core.Bool.{cond}
 use lib.Dec.{leb, eqb}
 use lib.ListN.{length}
 use lib.Ieee.{Float}
@@ -19,7 +19,8 @@ use Rattle.model.specs.Readings.{oneF}
 use Rattle.model.specs.Constructed.{constant}
 use Rattle.model.specs.Product.{constantBlock, multiplied}
 
--- what is reached and the base's running square, under the limits l: at most n turns, one for each bit of the exponent left
+-- what is reached and the base's running square, under the limits l: at most n turns, one for each bit of the exponent
+-- left
 unfoldable pub squared : ℕ → List ℕ → ℕ → Block → Block → Block
 squared zero l e res base = res
 squared (suc n) l e res base =

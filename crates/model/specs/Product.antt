@@ -4,7 +4,7 @@
 -- product again. Refusals 1, 2, 5, 6.
 use Prim.Native.Nat.{ℕ, zero, suc, _+_, _-_, min}
 use mathlib.Core.List.{List, [], _∷_}
-use mathlib.Core.Bool.{Bool, true, false, _&&_, _||_, cond}
+use mathlib.Core.Bool.{Bool, false, _&&_, _||_, cond}
 use lib.Dec.{eqb}
 use lib.ListN.{length, getD, set}
 use lib.Ieee.{Float, nan, mul, eq, binary64}
@@ -59,7 +59,8 @@ raisedAt v m b i = cond (eqb (at i v) 0) zeroF (mul binary64 (readAt b (set i v 
 unfoldable pub raised : List ℕ → ℕ → Float → Block → Block
 raised l v m b = let n = grown l v (b .lengths) in block n (table (count n) (λ k. raisedAt v m b (index n k)))
 
--- Which way: 0 left one, 1 right one, 2 left constant, 3 right constant, 4 left linear, 5 right linear, 6 general; with the constant or the line.
+-- Which way: 0 left one, 1 right one, 2 left constant, 3 right constant, 4 left linear, 5 right linear, 6 general; with
+-- the constant or the line.
 -- A line is looked for above stage 0 only: the product by a constant that a line asks for is one of stage 0.
 
 abbrev pub way : ℕ → Linear → Way

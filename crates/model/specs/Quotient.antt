@@ -6,9 +6,8 @@
 -- ly and r are the lengths of the divisor and of the result, k the index of the place; n variables are left, from v on.
 -- q has the places of the result before this one that agree with k in the variables before v.
 use Prim.Native.Nat.{ℕ, zero, suc, _+_, _-_, _*_}
-use mathlib.Core.List.{List, [], _∷_}
-use mathlib.Core.Bool.{Bool, false, cond}
-use lib.Dec.{eqb}
+use mathlib.Core.List.{List, []}
+use mathlib.Core.Bool.{false, cond}
 use lib.ListN.{length, getD, take, drop}
 use lib.Ieee.{Float, nan, add, neg, div, binary64}
 use Rattle.lists.specs.Table.{table}
@@ -35,7 +34,8 @@ module _ (ly r : List ℕ) (ys : List Float) (k : List ℕ) where
   abbrev pub rowsBefore : ℕ → ℕ → ℕ
   rowsBefore n v = at k v * span r n (suc v)
 
-  -- the rows j before, each times the divisor's row k - j: from +0.0, j ascending from the first that the divisor reaches
+  -- the rows j before, each times the divisor's row k - j: from +0.0, j ascending from the first that the divisor
+  -- reaches
   unfoldable pub taken : ℕ → ℕ → List Float → Float
   unfolding productAt
   taken n v q =

@@ -1,6 +1,6 @@
 -- REFERENCE 4.3, 4.4. Document 01, port order 2, readings: numbers read off a polynomial, and its parts in one
 -- variable.
-use Prim.Native.Nat.{ℕ, _+_, min}
+use Prim.Native.Nat.{ℕ, _+_}
 use mathlib.Core.List.{List, [], _∷_}
 use mathlib.Core.Bool.{cond}
 use lib.Dec.{leb}
@@ -13,12 +13,12 @@ use Rattle.model.specs.declared.Answer.{Answer}
 use Rattle.model.specs.declared.Reading.{Reading}
 use Rattle.model.specs.declared.LinearReading.{LinearReading}
 use Rattle.model.specs.declared.Family.the-variants.{Term, Order}
-use Rattle.model.specs.Header.{count, stored, len, ones, noHeader}
+use Rattle.model.specs.Header.{stored, len, ones, noHeader}
 use Rattle.model.specs.Places.{index}
 use Rattle.model.specs.Announced.{announced}
 use Rattle.model.specs.Refusals.{zeroF, readBy, linearBy}
 use Rattle.model.specs.Gates.{readGate, indexGate, inGate, announcedOne}
-use Rattle.model.specs.Poly.{Poly, Block, block, blockOf, polyOf, held, readAt, coefficientAt}
+use Rattle.model.specs.Poly.{Poly, block, blockOf, polyOf, held, readAt, coefficientAt}
 use Rattle.model.specs.Linear.{linear}
 use Rattle.model.specs.Answers.{answered, outAfter}
 

@@ -2,7 +2,7 @@
 -- buffer; done, the announced places hold the answer, then +0.0, the scratch's first 8 times the announced count are
 -- +0.0, and the rest is untouched.
 use Prim.Native.Nat.{ℕ, _-_, _*_}
-use mathlib.Core.List.{List, [], _∷_, _++_}
+use mathlib.Core.List.{List, _++_}
 use mathlib.Core.Bool.{Bool, true, false, _&&_, cond}
 use lib.Dec.{eqb, leb}
 use lib.ListN.{length, drop}
@@ -45,7 +45,8 @@ fits h lent = leb (stored h) 4096 && leb (stored h) lent
 abbrev pub roomy : Header → ℕ → Bool
 roomy h lent = leb (8 * stored h) lent
 
--- Answers. `answerBy`, `readBy` and `linearBy` say which case of the enum stands for which number and value of document 01.
+-- Answers. `answerBy`, `readBy` and `linearBy` say which case of the enum stands for which number and value of document
+-- 01.
 
 unfoldable pub answerBy : Refusal → ℕ → Answer
 answerBy r w = cond (isNone r) (answer.Done w) (answer.Refused r)

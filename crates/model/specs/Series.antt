@@ -10,8 +10,8 @@
 -- of those variables.
 use Prim.Native.Nat.{ℕ, zero, suc, _+_, _-_, _*_, min, max}
 use mathlib.Core.List.{List, [], _∷_}
-use mathlib.Core.Bool.{Bool, false, cond}
-use lib.Dec.{ltb, eqb}
+use mathlib.Core.Bool.{false, cond}
+use lib.Dec.{ltb}
 use lib.ListN.{length, getD, take, drop}
 use lib.Ieee.{Float, nan, add, sub, mul, div, neg, binary64}
 use Rattle.lists.specs.Table.{table}
@@ -22,7 +22,7 @@ use Rattle.lists.specs.Four.{at, four}
 use Rattle.model.specs.declared.Refusal.{Refusal}
 use Rattle.model.specs.declared.Answer.{Answer}
 use Rattle.model.specs.declared.Family.the-variants.{Series}
-use Rattle.model.specs.Header.{span, count, noHeader}
+use Rattle.model.specs.Header.{span, noHeader}
 use Rattle.model.specs.Places.{index}
 use Rattle.model.specs.Announced.{announced, lengthAfter}
 use Rattle.model.specs.Refusals.{zeroF}
@@ -51,8 +51,9 @@ abbrev pub overWhole : ℕ → List Float → List Float
 overWhole k xs = table (length xs) (λ i. div binary64 (getD xs i nan) (wholeF k))
 
 module _ (head : Float) (lx r : List ℕ) where
-  -- row k from the rows before it: x's row j times j, by the result's row k - j, for j from 1 as far as x reaches; then over k
-  -- (source: `exp`, lines 1302 to 1316; `exp_1d`, 1274 to 1281, takes the same steps where the row has one place: the term is (x_j * j) * res_(k-j) in both)
+  -- row k from the rows before it: x's row j times j, by the result's row k - j, for j from 1 as far as x reaches; then
+  -- over k (source: `exp`, lines 1302 to 1316; `exp_1d`, 1274 to 1281, takes the same steps where the row has one
+  -- place: the term is (x_j * j) * res_(k-j) in both)
   unfoldable pub expRow : ℕ → ℕ → List Float → ℕ → List Float → List Float
   expRow n v xs k q =
       overWhole k
@@ -70,7 +71,8 @@ module _ (head : Float) (lx r : List ℕ) where
   abbrev pub from1 : ℕ → ℕ → ℕ
   from1 v k = max 1 (k + 1 - at lx v)
 
-  -- one long variable (source: `log_1d`, lines 1322 to 1331): (x_k * k - sum) / x_0 / k, the sum over (x_(k-j) * res_j) * j from +0.0; past its length x is zero
+  -- one long variable (source: `log_1d`, lines 1322 to 1331): (x_k * k - sum) / x_0 / k, the sum over (x_(k-j) * res_j)
+  -- * j from +0.0; past its length x is zero
   unfoldable pub logNext : ℕ → List Float → List Float → Float
   logNext v xs q =
       let k = length q in
@@ -78,22 +80,26 @@ module _ (head : Float) (lx r : List ℕ) where
       let s = walk (λ j acc. add binary64 acc (mul binary64 (mul binary64 (x (k - j)) (getD q j nan)) (wholeF j))) (k - from1 v k) (from1 v k) zeroF in
       div binary64 (div binary64 (sub binary64 (mul binary64 (cond (ltb k (at lx v)) (x k) zeroF) (wholeF k)) s) (x 0)) (wholeF k)
 
-  -- Where more variables are long (source: `log`), row k from the rows before it: x's row k - j by the result's row j times j, from the first j that
-  -- x reaches on (lines 1358 to 1368); negated (1369); k times x's row k added, where x stores it (1370 to 1375).
+  -- Where more variables are long (source: `log`), row k from the rows before it: x's row k - j by the result's row j
+  -- times j, from the first j that x reaches on (lines 1358 to 1368); negated (1369); k times x's row k added, where x
+  -- stores it (1370 to 1375).
   unfoldable pub logGathered : ℕ → ℕ → List Float → ℕ → List Float → List Float
   logGathered n v xs k q =
       let x : Block = block (after v lx) (table (span lx n (suc v)) (λ i. mul binary64 (wholeF k) (getD (rowOf lx n v k xs) i nan))) in
       let given : ℕ → Float = λ i.
-      neg (walk (λ j acc. productAt lx r r (index r i) n (suc v) (rowOf lx n v (k - j) xs) (timesWhole j (rowOf r n v j q)) acc) (k - from1 v k) (from1 v k) zeroF) in
+      neg (walk (λ j acc. productAt lx r r (index r i) n (suc v) (rowOf lx n v (k - j) xs)
+      (timesWhole j (rowOf r n v j q)) acc) (k - from1 v k) (from1 v k) zeroF) in
       table (span r n (suc v)) (λ i. cond (ltb k (at lx v)) (joinAt false (given i) x (index r i)) (given i))
 
-  -- divided by x's row 0, through the quotient and its shortcuts, under the row's own lengths as limits (lines 1376 to 1383); then over k (1384)
+  -- divided by x's row 0, through the quotient and its shortcuts, under the row's own lengths as limits (lines 1376 to
+  -- 1383); then over k (1384)
   unfoldable pub logRow : ℕ → ℕ → List Float → ℕ → List Float → List Float
   unfolding logGathered
   logRow n v xs k q =
       overWhole k (quotientOf (after v r) (block (after v r) (logGathered n v xs k q)) (block (after v lx) (rowOf lx n v 0 xs)) .places)
 
-  -- no variable left: the head (lines 1339 to 1341, and 1321); one long variable: `log_1d` (1343 to 1349); else row 0 by recursion (1351 to 1354), then the others
+  -- no variable left: the head (lines 1339 to 1341, and 1321); one long variable: `log_1d` (1343 to 1349); else row 0
+  -- by recursion (1351 to 1354), then the others
   unfoldable pub logRows : ℕ → ℕ → List Float → List Float
   unfolding logNext logRow
   logRows zero v xs = head ∷ []

@@ -2,9 +2,9 @@
 -- variable v. Limits are less n in v, lengths max(1, a - n).
 -- Running factors as the source has them: the quotient is rounded first, then multiplied; n! by ascending products.
 -- Refusals 1, 2, 3, 4, 5.
-use Prim.Native.Nat.{ℕ, suc, _+_}
+use Prim.Native.Nat.{ℕ, _+_}
 use mathlib.Core.List.{List, [], _∷_}
-use mathlib.Core.Bool.{Bool, cond}
+use mathlib.Core.Bool.{cond}
 use lib.Dec.{leb, eqb}
 use lib.ListN.{length, set}
 use lib.Ieee.{Float, add, mul, div, binary64}

@@ -4,7 +4,7 @@
 -- Refusals 1, 2, 5, 6.
 use Prim.Native.Nat.{ℕ, zero, suc}
 use mathlib.Core.List.{List}
-use mathlib.Core.Bool.{Bool, false, _&&_, cond}
+use mathlib.Core.Bool.{false, _&&_, cond}
 use lib.Dec.{ltb, eqb}
 use lib.ListN.{length, set}
 use lib.Ieee.{Float, mul, eq, binary64}
@@ -14,7 +14,7 @@ use Rattle.lists.specs.Four.{at}
 use Rattle.model.specs.declared.Refusal.{Refusal}
 use Rattle.model.specs.declared.Answer.{Answer}
 use Rattle.model.specs.declared.Family.the-variants.{Substitution}
-use Rattle.model.specs.Header.{count, len}
+use Rattle.model.specs.Header.{count}
 use Rattle.model.specs.Places.{index}
 use Rattle.model.specs.Limits.{cutTo}
 use Rattle.model.specs.Announced.{announced}

@@ -1,7 +1,6 @@
 -- REFERENCE 2.1. Document 01, 'Header word', most significant first: number of variables (3 bits), then four times
 -- limit less one (6) and length less one (6), then 13 zero bits.
 use Prim.Native.Nat.{ℕ, _+_, _-_, _*_, _/_, _%_, _^_}
-use mathlib.Core.List.{List, [], _∷_}
 use mathlib.Core.Bool.{Bool, _&&_}
 use lib.Dec.{eqb}
 use Rattle.lists.specs.Four.{at, four}

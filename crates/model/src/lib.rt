@@ -4,7 +4,8 @@ ghost use Rattle.model.specs.Header.{noHeader, zeroWith, varWith, limitO
 ghost use Rattle.model.specs.Refusals.{noRefusal, refusedBy, refusedAt};
 ghost use Rattle.model.specs.Linear.{noLinear};
 
-// A polynomial's number of variables, its limits (the Rust's `degrees_p1`) and its stored lengths; 1 and 1 for a missing variable.
+// A polynomial's number of variables, its limits (the Rust's `degrees_p1`) and its stored lengths; 1 and 1 for a
+// missing variable.
 pub struct Header {
     pub vars: usize,
     pub limits: [usize; 4],
@@ -49,7 +50,8 @@ pub enum LinearReading {
     Refused(Refusal),
 }
 
-// The families of operations that announce their limits and lengths alike, with the numbers that decide them: an exponent, a variable, n or an order.
+// The families of operations that announce their limits and lengths alike, with the numbers that decide them: an
+// exponent, a variable, n or an order.
 pub enum Family {
     // A constant that carries no limits.
     Constant,

@@ -21,7 +21,8 @@ pub data WrongSizes (hs ss : List ℕ) : Type 0 where
   no-step : length ss ≡ 0 → WrongSizes hs ss
   many-places : 64 < length hs + length ss → WrongSizes hs ss
 
--- 7, in the step word w at the place p: no such kind; an operand that names no earlier place; a field that its kind does not use; the last bits
+-- 7, in the step word w at the place p: no such kind; an operand that names no earlier place; a field that its kind
+-- does not use; the last bits
 pub data WrongWord (w p : ℕ) : Type 0 where
   no-kind : 10 < stepOf w .kind → WrongWord w p
   late-a : usesOf (stepOf w .kind) .a ≡ true → p ≤ stepOf w .a → WrongWord w p

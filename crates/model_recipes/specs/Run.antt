@@ -71,7 +71,8 @@ values hs cs ss = chain stepValue (inputValues hs cs) ss
 unfoldable pub stepValues : List ℕ → List Float → List ℕ → List Poly
 stepValues hs cs ss = drop (length hs) (values hs cs ss)
 
--- Whether an operation refuses its operands: each kind's own gate, row by row, with the operands' true header words, n places for the result and m of scratch.
+-- Whether an operation refuses its operands: each kind's own gate, row by row, with the operands' true header words, n
+-- places for the result and m of scratch.
 unfoldable pub gates : Step → Poly → Poly → ℕ → ℕ → List Refusal
 gates s a b n m =
     let w = wordOf (a .head) in
@@ -119,7 +120,8 @@ laid [] vs = []
 laid (h ∷ known) [] = []
 laid (h ∷ known) (v ∷ vs) = padded (stored h) (v .coeffs) ++ laid known vs
 
--- hs the inputs' header words, cs their coefficients, ss the step words, pool, words and scratch the buffers as they came
+-- hs the inputs' header words, cs their coefficients, ss the step words, pool, words and scratch the buffers as they
+-- came
 module _ (hs : List ℕ) (cs : List Float) (ss : List ℕ) (pool : List Float) (words : List ℕ) (scratch : List Float) where
   unfoldable pub runRefusal : Refusal
   runRefusal =

@@ -19,7 +19,8 @@ pub struct Uses {
     pub n: bool,
 }
 
-// A recipe may be run, and this is what it takes: the pool total, the largest announced step count, the input coefficient total.
+// A recipe may be run, and this is what it takes: the pool total, the largest announced step count, the input
+// coefficient total.
 pub enum CheckAnswer {
     Accepted {
         pool: usize,

@@ -1,4 +1,5 @@
-// Sums, products, quotients and substitutions of power series over whole numbers, as a textbook has them: specs/. A crate needs a function: this one.
+// Sums, products, quotients and substitutions of power series over whole numbers, as a textbook has them: specs/. A
+// crate needs a function: this one.
 ghost use mathlib.Core.Path.{_≡_};
 
 pub fn same(x: u64) -> u64

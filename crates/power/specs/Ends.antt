@@ -42,14 +42,16 @@ module _ (e : ℕ) (l : List ℕ) where
   unfolding powerBlock
   front-none b out h g = rw h (record { lengths = refl; front = kept-set out 0 oneF g .holds })
 
-  pub front-same : (la : List ℕ) (w : List Float) {z : ℕ} {d out : List Float} → e ≡ 1 → z ≡ count la → z ≤ length w → Kept 0 (0 + z) (take z w) d out → Stands (powerBlock e l (lain 0 la w)) out la
+  pub front-same : (la : List ℕ) (w : List Float) {z : ℕ} {d out : List Float} → e ≡ 1 → z ≡ count la → z ≤ length w
+      → Kept 0 (0 + z) (take z w) d out → Stands (powerBlock e l (lain 0 la w)) out la
   unfolding powerBlock
   front-same la w {z} {d} {out} h k g q =
       let m : length (part 0 (0 + count la) w) ≡ 0 + z - 0 = length-part 0 (0 + count la) w (omega arith) (omega arith) ∙ omega arith in
       let i : z ≡ 0 + count la - 0 = omega arith in
       rw h (record { lengths = refl; front = ap (λ (j : ℕ). take j out) m ∙ (q .holds ∙ ap (λ (j : ℕ). take j w) i) })
 
-  pub front-more : (b : Block) {out : List Float} {r : List ℕ} → (e ≡ 0 → ⊥) → (e ≡ 1 → ⊥) → Stands (squared 32 l e (constantBlock oneF) b) out r → Stands (powerBlock e l b) out r
+  pub front-more : (b : Block) {out : List Float} {r : List ℕ} → (e ≡ 0 → ⊥) → (e ≡ 1 → ⊥)
+      → Stands (squared 32 l e (constantBlock oneF) b) out r → Stands (powerBlock e l b) out r
   unfolding powerBlock
   front-more b h g s = rw (ne-eqb _ _ h, ne-eqb _ _ g) s
 
@@ -80,5 +82,6 @@ module _ {la l : List ℕ} {e n mw mo : ℕ} (p : Powers la l e n mw mo) (w : Li
     pub ends-small : {z : ℕ} → z ≡ count r → z ≤ n
     ends-small h = omega (arith, ap count (s .lengths), count-less (powerShape e l la) (value .lengths) (value-sits .hi), p .all)
 
-    pub ends-padded : {z : ℕ} {zs : List Float} {k : ℕ} → length out ≡ n → z ≡ count r → zs ≡ zeros k → k ≡ n - z → putMid z (n - z) out zs ≡ padded n (value .places)
+    pub ends-padded : {z : ℕ} {zs : List Float} {k : ℕ} → length out ≡ n → z ≡ count r → zs ≡ zeros k → k ≡ n - z
+        → putMid z (n - z) out zs ≡ padded n (value .places)
     ends-padded lo h = stands-padded n value s lo (ends-small h) (h ∙ (ap count (s .lengths) ∙ sym (value-sits .full)))

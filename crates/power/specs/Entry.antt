@@ -1,4 +1,5 @@
--- What the entry shows: the kernel is lent what it asks for, and its block under the announced header is the definition's value.
+-- What the entry shows: the kernel is lent what it asks for, and its block under the announced header is the
+-- definition's value.
 use Prim.Native.Nat.{ℕ, _-_, _*_, _<_}
 use mathlib.Core.List.{List, _++_}
 use mathlib.Core.Path.{_≡_, refl, ap, _∙_}
@@ -62,7 +63,9 @@ module _ {e w ma mo ms : ℕ} (g : WorkReady (Power e) w ma mo ms) where
   entry-ruled a f = power-keeps e (held w a) (g .one .good .regular) f .regular .rules
 
 -- the block under the announced header is the value
-pub block-value : (e : ℕ) (p : Poly) → Regular (p .head) → polyOf (announced (Power e) (p .head) noHeader) (powerBlock e (announced (Power e) (p .head) noHeader .limits) (blockOf p)) ≡ powerPoly e p
+pub block-value : (e : ℕ) (p : Poly) → Regular (p .head)
+    → polyOf (announced (Power e) (p .head) noHeader)
+    (powerBlock e (announced (Power e) (p .head) noHeader .limits) (blockOf p)) ≡ powerPoly e p
 unfolding powerBlock powerPoly announced single
 block-value e p g =
     decide (eqb e 0)
@@ -71,11 +74,13 @@ block-value e p g =
     (λ u. rw u (ap (λ (l : List ℕ). poly (header (p .head .vars) l (p .head .lengths)) (p .coeffs)) (single-limits (Power e) g (λ k. refl))))
     (λ u. rw u)))
 
-module _ (w : ℕ) (a : List Float) (e : ℕ) {x h : Header} (ex : x ≡ headerOf w) (eh : h ≡ announced (Power e) (headerOf w) noHeader) {na : ℕ} (ea : na ≡ stored x) (g : Regular (headerOf w)) where
+module _ (w : ℕ) (a : List Float) (e : ℕ) {x h : Header} (ex : x ≡ headerOf w)
+    (eh : h ≡ announced (Power e) (headerOf w) noHeader) {na : ℕ} (ea : na ≡ stored x) (g : Regular (headerOf w)) where
   entry-value : polyOf h (powerBlock e (h .limits) (block (x .lengths) (take na a))) ≡ powerPoly e (held w a)
   entry-value = rw (ea, ex, eh) (block-value e (held w a) g)
 
-  pub entry-head : {r : List ℕ} → r ≡ powerBlock e (h .limits) (block (x .lengths) (take na a)) .lengths → header (h .vars) (h .limits) r ≡ powerPoly e (held w a) .head
+  pub entry-head : {r : List ℕ} → r ≡ powerBlock e (h .limits) (block (x .lengths) (take na a)) .lengths
+      → header (h .vars) (h .limits) r ≡ powerPoly e (held w a) .head
   entry-head k = rw k (ap (λ (p : Poly). p .head) entry-value)
 
   pub entry-out : (n : ℕ) {o : List Float} → o ≡ padded n (powerBlock e (h .limits) (block (x .lengths) (take na a)) .places)

@@ -1,4 +1,5 @@
--- How the products of a power come together in the work: where a product was kept, and what the turns leave for the next.
+-- How the products of a power come together in the work: where a product was kept, and what the turns leave for the
+-- next.
 use Prim.Native.Nat.{ℕ, _+_, _-_, _*_, _/_, _%_, _^_, _≤_, _<_, min}
 use mathlib.Core.List.{List}
 use mathlib.Core.Path.{_≡_, refl, sym, ap, _∙_}
@@ -36,8 +37,10 @@ module _ {l la lb : List ℕ} {pa pb n mw mo : ℕ} (s : Step l la lb pa pb n mw
 
   step-small : (count la ≤ n) × (count lb ≤ n)
   step-small =
-      let f = s .fits in
-      (le-trans (count-less (sumShape l la lb) la (shape-left (s .left) (s .right))) f, le-trans (count-less (sumShape l la lb) lb (shape-right (s .left) (s .right))) f)
+      let f = s .fits in (
+        le-trans (count-less (sumShape l la lb) la (shape-left (s .left) (s .right))) f,
+        le-trans (count-less (sumShape l la lb) lb (shape-right (s .left) (s .right))) f,
+      )
 
   step-some : 0 < n
   step-some = omega (arith, s .fits, count-pos (under-lengths (shape-under (s .left) (s .right)) (s .caps)))
@@ -59,7 +62,8 @@ module _ {l la lb : List ℕ} {pa pb n mw mo : ℕ} (s : Step l la lb pa pb n mw
     pub step-ends : (pa + z ≤ mw) × (pb + y ≤ mw)
     step-ends = (omega (arith, step-small .0, s .from-a, s .work), omega (arith, step-small .1, s .from-b, s .work))
 
-    pub step-made : {t : ℕ} {w' out : List Float} {r : List ℕ} → Made (multiplied l (block la (part pa (pa + z) w)) (block lb (part pb (pb + y) w))) t w w' out r
+    pub step-made : {t : ℕ} {w' out : List Float} {r : List ℕ}
+        → Made (multiplied l (block la (part pa (pa + z) w)) (block lb (part pb (pb + y) w))) t w w' out r
         → Made (multiplied l (lain pa la w) (lain pb lb w)) t w w' out r
     step-made m = rw (ez, ey) at m
 
@@ -183,14 +187,19 @@ module _ {la l : List ℕ} {e n mw mo : ℕ} (p : Powers la l e n mw mo) where
         out = j ∙ p .out;
       }
 
-      pub turn-next : 1 < left → {w' w'' : List Float} {r b : List ℕ} → Placed (taken l left (lain n lr w) (lain 0 lb w)) n n w w' r → Placed (multiplied l (lain 0 lb w') (lain 0 lb w')) 0 n w' w'' b
+      pub turn-next : 1 < left → {w' w'' : List Float} {r b : List ℕ}
+          → Placed (taken l left (lain n lr w) (lain 0 lb w)) n n w w' r
+          → Placed (multiplied l (lain 0 lb w') (lain 0 lb w')) 0 n w' w'' b
           → length w'' ≡ length w → Turning la l e n w₀ w'' r b (left / 2)
       unfolding powerShape
       turn-next h {w'} {w''} {r} {b} q1 q2 len =
           let g = running-next (t .running) h in
           let small : count r ≤ n = omega (arith, p .all, running-small g .0, ap (λ (z : Block). count (z .lengths)) (q1 .is)) in
-          let x : lain n r w'' ≡ taken l left (lain n lr w) (lain 0 lb w) = ap (block r) (q2 .after n (n + count r) (omega arith) (omega arith) (omega arith)) ∙ q1 .is in
-          let y : lain 0 lb w' ≡ lain 0 lb w = ap (block lb) (q1 .before 0 (0 + count lb) (omega arith) (omega (arith, p .all, running-small (t .running) .1))) in
+          let x : lain n r w'' ≡ taken l left (lain n lr w) (lain 0 lb w) =
+          ap (block r) (q2 .after n (n + count r) (omega arith) (omega arith) (omega arith)) ∙ q1 .is in
+          let y : lain 0 lb w' ≡ lain 0 lb w =
+          ap (block lb) (q1 .before 0 (0 + count lb) (omega arith)
+          (omega (arith, p .all, running-small (t .running) .1))) in
           let z : lain 0 b w'' ≡ multiplied l (lain 0 lb w) (lain 0 lb w) = q2 .is ∙ ap (λ (q : Block). multiplied l q q) y in
           record { running = rw (x, z) g; len = len ∙ t .len }
 

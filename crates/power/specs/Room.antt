@@ -1,5 +1,5 @@
--- What the functions of `pow` ask and leave. In the work the base lies at the front and the running result from n on, n the announced count; la and lb are lengths,
--- the m.. are the lengths of buffers.
+-- What the functions of `pow` ask and leave. In the work the base lies at the front and the running result from n on, n
+-- the announced count; la and lb are lengths, the m.. are the lengths of buffers.
 use Prim.Native.Nat.{ℕ, _+_, _-_, _*_, _%_, _≤_, _<_, min}
 use mathlib.Core.List.{List}
 use mathlib.Core.Bool.{cond}

@@ -1,4 +1,5 @@
--- The turns of squaring, on blocks alone: what is left to do makes the whole power, in turns enough for the exponent's bits, and no length passes the announced one.
+-- The turns of squaring, on blocks alone: what is left to do makes the whole power, in turns enough for the exponent's
+-- bits, and no length passes the announced one.
 use Prim.Native.Nat.{ℕ, zero, suc, _+_, _-_, _*_, _/_, _%_, _^_, _≤_, _<_, min}
 use mathlib.Core.List.{List}
 use mathlib.Core.Path.{_≡_, refl, sym, _∙_}
@@ -35,7 +36,8 @@ pub record Running (l : List ℕ) (m : ℕ → ℕ) (whole : Block) (e : ℕ) (r
 
 -- ---- the value
 
-squared-next : (t e : ℕ) (l : List ℕ) (res base : Block) → 1 < e → e < 2 ^ t → (e / 2 < 2 ^ (t - 1)) × (squared t l e res base ≡ squared (t - 1) l (e / 2) (taken l e res base) (multiplied l base base))
+squared-next : (t e : ℕ) (l : List ℕ) (res base : Block) → 1 < e → e < 2 ^ t → (e / 2 < 2 ^ (t - 1))
+    × (squared t l e res base ≡ squared (t - 1) l (e / 2) (taken l e res base) (multiplied l base base))
 unfolding squared
 squared-next zero e l res base h g = absurd (omega arith)
 squared-next (suc t) e l res base h g = let q : suc t - 1 ≡ t = omega arith in rw q ((omega arith, rw (lt-leb e 1 h)))
@@ -114,8 +116,10 @@ module _ {l : List ℕ} {m : ℕ → ℕ} {whole : Block} {e : ℕ} {res base : 
   pub running-small : (count (res .lengths) ≤ count shape) × (count (base .lengths) ≤ count shape)
   running-small =
       let u = running-under in
-      let s : List ℕ = sumShape l (res .lengths) (base .lengths) in
-      (le-trans (count-less s (res .lengths) (shape-left (u .0) (u .1))) running-bit, le-trans (count-less s (base .lengths) (shape-right (u .0) (u .1))) running-bit)
+      let s : List ℕ = sumShape l (res .lengths) (base .lengths) in (
+        le-trans (count-less s (res .lengths) (shape-left (u .0) (u .1))) running-bit,
+        le-trans (count-less s (base .lengths) (shape-right (u .0) (u .1))) running-bit,
+      )
 
 -- ---- the whole
 
@@ -144,4 +148,5 @@ power-sits e {l} {b} p s =
     let base = s (omega (arith, eqb-false e 0 t)) in
     rw t (decide (eqb e 1)
     (λ u. rw u (most-sits e (b .lengths) (record { sits = base; most = λ k h. rw (eqb-true e 1 u) (omega arith) })))
-    (λ u. rw u (most-sits e (b .lengths) (squared-most p 32 e (λ k. 0) (λ k. at (b .lengths) k - 1) (constant-most oneF base (λ k h. le-refl 1)) (record { sits = base; most = λ k h. omega arith }))))))
+    (λ u. rw u (most-sits e (b .lengths) (squared-most p 32 e (λ k. 0) (λ k. at (b .lengths) k - 1)
+    (constant-most oneF base (λ k h. le-refl 1)) (record { sits = base; most = λ k h. omega arith }))))))

@@ -1,5 +1,6 @@
 // Powers by squaring, without the last squaring: at most 63 products, whatever the exponent.
-// The work is eight blocks of the announced count n: the base lies at its front, the running result from n on, and products use what lies from 2 n on.
+// The work is eight blocks of the announced count n: the base lies at its front, the running result from n on, and
+// products use what lies from 2 n on.
 ghost use mathlib.Core.Path.{_≡_};
 ghost use Prim.Native.Nat.{_*_, _%_, _≤_, _<_};
 ghost use lib.ListN.{length};
@@ -24,7 +25,8 @@ fn times_front(
     out: &mut [f64],
 ) -> [usize; 4]
     requires { ⌜ Step limits la lb pa pb n (length (now work)) (length (now out)) ⌝ }
-    ensures { λ r. ⌜ Made (multiplied limits (lain pa la (now (work .entry))) (lain pb lb (now (work .entry)))) (2 * n) (now (work .entry)) (now (work .exit)) (now (out .exit)) r ⌝ }
+    ensures { λ r. ⌜ Made (multiplied limits (lain pa la (now (work .entry))) (lain pb lb (now (work .entry)))) (2 * n)
+        (now (work .entry)) (now (work .exit)) (now (out .exit)) r ⌝ }
 {
     let ea = pa + shape_words::places::count_of(la);
     let eb = pb + shape_words::places::count_of(lb);
@@ -44,7 +46,8 @@ fn times_to(
     out: &mut [f64],
 ) -> [usize; 4]
     requires { ⌜ Step limits la lb pa pb n (length (now work)) (length (now out)) ⌝ ∗ ⌜ to ≤ n ⌝ }
-    ensures { λ r. ⌜ Placed (multiplied limits (lain pa la (now (work .entry))) (lain pb lb (now (work .entry)))) to n (now (work .entry)) (now (work .exit)) r ⌝ }
+    ensures { λ r. ⌜ Placed (multiplied limits (lain pa la (now (work .entry))) (lain pb lb (now (work .entry)))) to n
+        (now (work .entry)) (now (work .exit)) r ⌝ }
 {
     let r = times_front(work, pa, la, pb, lb, n, limits, out);
     let z = shape_words::places::count_of(r);
@@ -71,7 +74,8 @@ fn take_bit(
     lr
 }
 
-// The power e of the base, to the front of `out`: each bit of the exponent below the highest is taken and the base is squared; the highest is taken into `out`.
+// The power e of the base, to the front of `out`: each bit of the exponent below the highest is taken and the base is
+// squared; the highest is taken into `out`.
 fn squarings(
     work: &mut [f64],
     la: [usize; 4],

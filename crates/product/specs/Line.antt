@@ -24,7 +24,10 @@ use Rattle.laws_exact.specs.Sits.{Sits, sits-more, sum-at, max-at}
 use Rattle.laws_exact.specs.Ways.{linear-is, line-two}
 use Rattle.laws_exact.specs.ProductKeeps.{product-sits, constant-sits}
 use Rattle.product.specs.Room.{Caps, Under, RaisesTo, Plain, Joins, Lies, Room, LineRoom, Whole, LineWhole, Put, Stands, Made}
-use Rattle.product.specs.Ways.{under-lengths, count-less, under-sits, sits-under, shape-under, shape-left, shape-right, grown-under, grown-in, grown-fits, ones-under, shape-one, put-stands, made-same, put-made, chosen-four, chosen-five, product-four, product-five, product-plain, raised-lengths, raised-full}
+use Rattle.product.specs.Ways.{under-lengths, count-less, under-sits, sits-under, shape-under, shape-left}
+use Rattle.product.specs.Ways.{shape-right, grown-under, grown-in, grown-fits, ones-under, shape-one, put-stands}
+use Rattle.product.specs.Ways.{made-same, put-made, chosen-four, chosen-five, product-four, product-five}
+use Rattle.product.specs.Ways.{product-plain, raised-lengths, raised-full}
 
 module _ {limits n : List ℕ} {p e s : ℕ} (w : List Float) (b : Lies limits n p e s) (h : s ≤ length w) where
   pub lies-full : length (part p e w) ≡ count n
@@ -39,7 +42,8 @@ record Grows (limits n r : List ℕ) (v stage : ℕ) : Type 0 where
   less : count (grown limits v n) ≤ count r
   some : 0 < stage
 
-module _ {limits la lb : List ℕ} (stage : ℕ) (xs ys : List Float) (ua : Under limits la) (ub : Under limits lb) (c : Way) (e : c ≡ chosen stage (block la xs) (block lb ys)) where
+module _ {limits la lb : List ℕ} (stage : ℕ) (xs ys : List Float) (ua : Under limits la) (ub : Under limits lb)
+    (c : Way) (e : c ≡ chosen stage (block la xs) (block lb ys)) where
   grows-four : c .kind ≡ 4 → Grows limits lb (sumShape limits la lb) (c .line .variable) stage
   grows-four k =
       let one : Block = block la xs in
@@ -63,7 +67,8 @@ module _ {limits la lb : List ℕ} (stage : ℕ) (xs ys : List Float) (ua : Unde
       rw i (record { var = l .var; less = count-less (sumShape limits la lb) (grown limits v la) g; some = f .some })
 
 -- a product's two blocks
-module _ {w : List Float} {mo pa ea : ℕ} {la : List ℕ} {pb eb : ℕ} {lb : List ℕ} {spare : ℕ} {limits : List ℕ} {stage : ℕ} (r : Room w pa ea la pb eb lb spare limits stage mo) where
+module _ {w : List Float} {mo pa ea : ℕ} {la : List ℕ} {pb eb : ℕ} {lb : List ℕ} {spare : ℕ} {limits : List ℕ}
+    {stage : ℕ} (r : Room w pa ea la pb eb lb spare limits stage mo) where
   pub room-full : (length (part pa ea w) ≡ count la) × (length (part pb eb w) ≡ count lb)
   room-full = (lies-full w (r .left) (r .within), lies-full w (r .right) (r .within))
 
@@ -112,20 +117,28 @@ module _ {w : List Float} {mo pa ea : ℕ} {la : List ℕ} {pb eb : ℕ} {lb : L
       }
 
 module _ (limits : List ℕ) (stage : ℕ) (a b : Block) {s : ℕ} {w w' out : List Float} {r : List ℕ} (c : Way) (e : c ≡ chosen stage a b) where
-  pub made-four : c .kind ≡ 4 → Made (linearProduct (λ x. productOf (stage - 1) limits x (constantBlock (c .line .c))) limits (c .line) b) s w w' out r → Made (productOf stage limits a b) s w w' out r
+  pub made-four : c .kind ≡ 4
+      → Made (linearProduct (λ x. productOf (stage - 1) limits x (constantBlock (c .line .c))) limits (c .line) b) s w
+      w' out r → Made (productOf stage limits a b) s w w' out r
   made-four k m =
       let h : chosen stage a b .kind ≡ 4 = sym (ap (λ (w : Way). w .kind) e) ∙ k in
       made-same (product-four limits a b stage h) (rw e at m)
 
-  pub made-five : c .kind ≡ 5 → Made (linearProduct (λ x. productOf (stage - 1) limits x (constantBlock (c .line .c))) limits (c .line) a) s w w' out r → Made (productOf stage limits a b) s w w' out r
+  pub made-five : c .kind ≡ 5
+      → Made (linearProduct (λ x. productOf (stage - 1) limits x (constantBlock (c .line .c))) limits (c .line) a) s w
+      w' out r → Made (productOf stage limits a b) s w w' out r
   made-five k m =
       let h : chosen stage a b .kind ≡ 5 = sym (ap (λ (w : Way). w .kind) e) ∙ k in
       made-same (product-five limits a b stage h) (rw e at m)
 
-  pub made-plain : {d : List Float} → (c .kind ≡ 4 → ⊥) → (c .kind ≡ 5 → ⊥) → Put (plainProduct limits (c .kind) (c .line .c) a b) d out r → w' ≡ w → Made (productOf stage limits a b) s w w' out r
+  pub made-plain : {d : List Float} → (c .kind ≡ 4 → ⊥) → (c .kind ≡ 5 → ⊥)
+      → Put (plainProduct limits (c .kind) (c .line .c) a b) d out r → w' ≡ w
+      → Made (productOf stage limits a b) s w w' out r
   made-plain h4 h5 o i =
       let f : productOf stage limits a b ≡ plainProduct limits (c .kind) (c .line .c) a b =
-      product-plain limits a b stage (λ h. h4 (ap (λ (w : Way). w .kind) e ∙ h)) (λ h. h5 (ap (λ (w : Way). w .kind) e ∙ h)) ∙ ap (λ (z : Way). plainProduct limits (z .kind) (z .line .c) a b) (sym e) in
+      product-plain limits a b stage (λ h. h4 (ap (λ (w : Way). w .kind) e ∙ h))
+      (λ h. h5 (ap (λ (w : Way). w .kind) e ∙ h))
+      ∙ ap (λ (z : Way). plainProduct limits (z .kind) (z .line .c) a b) (sym e) in
       made-same f (rw i (put-made o))
 
 -- the same where there is no work to leave alone
@@ -133,16 +146,22 @@ module _ (limits : List ℕ) (a b : Block) {out : List Float} {r : List ℕ} (c 
   as-made : {p : Block} → Stands p out r → Made p 0 [] [] out r
   as-made x = record { stands = x; below = below-same }
 
-  pub stands-four : c .kind ≡ 4 → Stands (linearProduct (λ x. productOf 0 limits x (constantBlock (c .line .c))) limits (c .line) b) out r → Stands (productOf 1 limits a b) out r
+  pub stands-four : c .kind ≡ 4
+      → Stands (linearProduct (λ x. productOf 0 limits x (constantBlock (c .line .c))) limits (c .line) b) out r
+      → Stands (productOf 1 limits a b) out r
   stands-four k x = made-four limits 1 a b c e k (as-made x) .stands
 
-  pub stands-five : c .kind ≡ 5 → Stands (linearProduct (λ x. productOf 0 limits x (constantBlock (c .line .c))) limits (c .line) a) out r → Stands (productOf 1 limits a b) out r
+  pub stands-five : c .kind ≡ 5
+      → Stands (linearProduct (λ x. productOf 0 limits x (constantBlock (c .line .c))) limits (c .line) a) out r
+      → Stands (productOf 1 limits a b) out r
   stands-five k x = made-five limits 1 a b c e k (as-made x) .stands
 
-  pub stands-plain : {d : List Float} → (c .kind ≡ 4 → ⊥) → (c .kind ≡ 5 → ⊥) → Put (plainProduct limits (c .kind) (c .line .c) a b) d out r → Stands (productOf 1 limits a b) out r
+  pub stands-plain : {d : List Float} → (c .kind ≡ 4 → ⊥) → (c .kind ≡ 5 → ⊥)
+      → Put (plainProduct limits (c .kind) (c .line .c) a b) d out r → Stands (productOf 1 limits a b) out r
   stands-plain h4 h5 o = made-plain limits 1 a b {s = 0} {w = []} {w' = []} c e h4 h5 o refl .stands
 
--- a linear product, step by step: r and n are what was computed; o1 the raised block; w1 where it was kept; w2 with the constant; w3 and o2 after the product; w4 where that was kept
+-- a linear product, step by step: r and n are what was computed; o1 the raised block; w1 where it was kept; w2 with the
+-- constant; w3 and o2 after the product; w4 where that was kept
 module _ {w : List Float} {mo p e : ℕ} {l : List ℕ} {v spare : ℕ} {limits : List ℕ} {stage : ℕ} (room : LineRoom w p e l v spare limits stage mo) where
   pub line-within : spare ≤ length w
   line-within = omega (arith, room .room)
@@ -150,30 +169,35 @@ module _ {w : List Float} {mo p e : ℕ} {l : List ℕ} {v spare : ℕ} {limits 
   pub line-raises : RaisesTo l v limits (length (part p e w)) mo
   line-raises = record { under = room .lies .under; caps = room .caps; var = room .var; full = lies-full w (room .lies) line-within; fits = room .fits }
 
-  pub line-none : (line : Linear) {r : List ℕ} {o o1 : List Float} → Put (raised limits (line .variable) (line .m) (block l (part p e w))) o o1 r → eq (line .c) zeroF ≡ true
+  pub line-none : (line : Linear) {r : List ℕ} {o o1 : List Float}
+      → Put (raised limits (line .variable) (line .m) (block l (part p e w))) o o1 r → eq (line .c) zeroF ≡ true
       → (f : Block → Block) → Made (linearProduct f limits line (block l (part p e w))) spare w w o1 r
   unfolding linearProduct
   line-none line h t f = rw t (put-made h)
 
 -- the raised block was kept, and the constant stored behind it
-pub record First (w : List Float) (mo p e : ℕ) (l : List ℕ) (v spare : ℕ) (limits : List ℕ) (stage : ℕ) (r : List ℕ) (n : ℕ) (m c : Float) (o o1 w1 w2 : List Float) : Type 0 where
+pub record First (w : List Float) (mo p e : ℕ) (l : List ℕ) (v spare : ℕ) (limits : List ℕ) (stage : ℕ) (r : List ℕ)
+    (n : ℕ) (m c : Float) (o o1 w1 w2 : List Float) : Type 0 where
   pub room : LineRoom w p e l v spare limits stage mo
   pub up : Put (raised limits v m (block l (part p e w))) o o1 r
   pub en : n ≡ count r
   pub kept : Kept spare (spare + n) (take n o1) w w1
   pub const : w2 ≡ set w1 (spare + n) c
 
-pub up-shape : (limits : List ℕ) (v : ℕ) (m : Float) (x : Block) {o o1 : List Float} {r : List ℕ} → Put (raised limits v m x) o o1 r → r ≡ grown limits v (x .lengths)
+pub up-shape : (limits : List ℕ) (v : ℕ) (m : Float) (x : Block) {o o1 : List Float} {r : List ℕ}
+    → Put (raised limits v m x) o o1 r → r ≡ grown limits v (x .lengths)
 up-shape limits v m x h = h .lengths ∙ raised-lengths limits v m x
 
-module _ {w : List Float} {mo p e : ℕ} {l : List ℕ} {v spare : ℕ} {limits : List ℕ} {stage : ℕ} (room : LineRoom w p e l v spare limits stage mo) {r : List ℕ} (er : r ≡ grown limits v l) where
+module _ {w : List Float} {mo p e : ℕ} {l : List ℕ} {v spare : ℕ} {limits : List ℕ} {stage : ℕ}
+    (room : LineRoom w p e l v spare limits stage mo) {r : List ℕ} (er : r ≡ grown limits v l) where
   pub up-lens : Lengths r
   up-lens = rw er (under-lengths (grown-under v (room .var) (room .lies .under)) (room .caps))
 
   pub up-wide : {n : ℕ} → n ≡ count r → (n ≤ mo) × (spare + (2 * n + 1) ≤ length w)
   up-wide k = (omega (arith, room .fits, ap count er), omega (arith, room .room, ap count er))
 
-module _ {w : List Float} {mo p e : ℕ} {l : List ℕ} {v spare : ℕ} {limits : List ℕ} {stage : ℕ} {r : List ℕ} {n : ℕ} {m c : Float} {o o1 w1 w2 : List Float} (f : First w mo p e l v spare limits stage r n m c o o1 w1 w2) where
+module _ {w : List Float} {mo p e : ℕ} {l : List ℕ} {v spare : ℕ} {limits : List ℕ} {stage : ℕ} {r : List ℕ} {n : ℕ}
+    {m c : Float} {o o1 w1 w2 : List Float} (f : First w mo p e l v spare limits stage r n m c o o1 w1 w2) where
   pub er : r ≡ grown limits v l
   er = up-shape limits v m (block l (part p e w)) (f .up)
 
@@ -210,7 +234,9 @@ module _ {w : List Float} {mo p e : ℕ} {l : List ℕ} {v spare : ℕ} {limits 
       }
 
   -- the operands of the product are the other and the constant
-  pub line-product : productOf (stage - 1) limits (block l (part p e w2)) (block ones (part (spare + n) (spare + n + 1) w2)) ≡ productOf (stage - 1) limits (block l (part p e w)) (constantBlock c)
+  pub line-product : productOf (stage - 1) limits (block l (part p e w2))
+      (block ones (part (spare + n) (spare + n + 1) w2))
+      ≡ productOf (stage - 1) limits (block l (part p e w)) (constantBlock c)
   line-product =
       let b : Below spare w w2 = below-then (f .kept .below) (below-less (omega arith) (k2 .below)) in
       let a1 : part p e w2 ≡ part p e w = below-part p e b (omega (arith, f .room .lies .ends)) (f .room .lies .below) in
@@ -223,11 +249,13 @@ module _ {w : List Float} {mo p e : ℕ} {l : List ℕ} {v spare : ℕ} {limits 
       sits-more grow-up (product-sits (stage - 1) x (constant-sits c x))
 
 -- then the product by the constant was made
-pub record Second (w : List Float) (mo p e : ℕ) (l : List ℕ) (v spare : ℕ) (limits : List ℕ) (stage : ℕ) (r : List ℕ) (n : ℕ) (m c : Float) (o o1 w1 w2 : List Float) (k : List ℕ) (w3 o2 : List Float) : Type 0 where
+pub record Second (w : List Float) (mo p e : ℕ) (l : List ℕ) (v spare : ℕ) (limits : List ℕ) (stage : ℕ) (r : List ℕ)
+    (n : ℕ) (m c : Float) (o o1 w1 w2 : List Float) (k : List ℕ) (w3 o2 : List Float) : Type 0 where
   pub first : First w mo p e l v spare limits stage r n m c o o1 w1 w2
   pub made : Made (productOf (stage - 1) limits (block l (part p e w2)) (block ones (part (spare + n) (spare + n + 1) w2))) (spare + n + 1) w2 w3 o2 k
 
-module _ {w : List Float} {mo p e : ℕ} {l : List ℕ} {v spare : ℕ} {limits : List ℕ} {stage : ℕ} {r : List ℕ} {n : ℕ} {m c : Float} {o o1 w1 w2 : List Float} {k : List ℕ} {w3 o2 : List Float}
+module _ {w : List Float} {mo p e : ℕ} {l : List ℕ} {v spare : ℕ} {limits : List ℕ} {stage : ℕ} {r : List ℕ} {n : ℕ}
+    {m c : Float} {o o1 w1 w2 : List Float} {k : List ℕ} {w3 o2 : List Float}
     (s : Second w mo p e l v spare limits stage r n m c o o1 w1 w2 k w3 o2) where
   m3 : Made (productOf (stage - 1) limits (block l (part p e w)) (constantBlock c)) (spare + n + 1) w2 w3 o2 k
   m3 = made-same (sym (line-product (s .first))) (s .made)
@@ -259,7 +287,8 @@ module _ {w : List Float} {mo p e : ℕ} {l : List ℕ} {v spare : ℕ} {limits 
     up-is : part spare (spare + n) w4 ≡ raised limits v m (block l (part p e w)) .places
     up-is =
         let h : length (raised limits v m (block l (part p e w)) .places) ≡ n = raised-full limits v m (block l (part p e w)) ∙ size (s .first) in
-        below-part spare (spare + n) keeps (omega arith) (le-refl _) ∙ (s .first .kept .holds ∙ (ap (λ (j : ℕ). take j o1) (sym h) ∙ put-stands (s .first .up) .front))
+        below-part spare (spare + n) keeps (omega arith) (le-refl _)
+        ∙ (s .first .kept .holds ∙ (ap (λ (j : ℕ). take j o1) (sym h) ∙ put-stands (s .first .up) .front))
 
     down-is : part (spare + n + 1) (spare + n + 1 + z) w4 ≡ productOf (stage - 1) limits (block l (part p e w)) (constantBlock c) .places
     down-is = k4 .holds ∙ (ap (λ (j : ℕ). take j o2) (ez ∙ (ap count (m3 .stands .lengths) ∙ sym (prod-sits (s .first) .full))) ∙ m3 .stands .front)
@@ -284,8 +313,12 @@ module _ {w : List Float} {mo p e : ℕ} {l : List ℕ} {v spare : ℕ} {limits 
     line-made line ev em ec t {j} {o3} h =
         let x = block l (part p e w) in
         let up : block r (part spare (spare + n) w4) ≡ raised limits v m x = rw (s .first .up .lengths, up-is) in
-        let down : block k (part (spare + n + 1) (spare + n + 1 + z) w4) ≡ productOf (stage - 1) limits x (constantBlock c) = rw (m3 .stands .lengths, down-is) in
-        let a : joinedBlock false (block r (part spare (spare + n) w4)) (block k (part (spare + n + 1) (spare + n + 1 + z) w4)) ≡ joinedBlock false (raised limits v m x) (productOf (stage - 1) limits x (constantBlock c)) = rw (up, down) in
+        let down : block k (part (spare + n + 1) (spare + n + 1 + z) w4)
+        ≡ productOf (stage - 1) limits x (constantBlock c) = rw (m3 .stands .lengths, down-is) in
+        let a : joinedBlock false (block r (part spare (spare + n) w4))
+        (block k (part (spare + n + 1) (spare + n + 1 + z) w4))
+        ≡ joinedBlock false (raised limits v m x) (productOf (stage - 1) limits x (constantBlock c)) =
+        rw (up, down) in
         rw (← ev, ← em, ← ec, t) (made-same (sym a) (record { stands = put-stands h; below = line-below }))
 
 -- ---- operands that no limit cuts, where the caller has them
@@ -318,7 +351,8 @@ module _ {la lb limits : List ℕ} (a b : List Float) {mo mw : ℕ} (t : Whole l
         }
 
 -- the block was kept at the front of the work
-module _ {n limits : List ℕ} {v mo mw : ℕ} (x : List Float) (t : LineWhole n v limits (length x) mo mw) {w w' : List Float} (l : length w ≡ mw) (h : Kept 0 (0 + length x) (take (length x) x) w w') where
+module _ {n limits : List ℕ} {v mo mw : ℕ} (x : List Float) (t : LineWhole n v limits (length x) mo mw)
+    {w w' : List Float} (l : length w ≡ mw) (h : Kept 0 (0 + length x) (take (length x) x) w w') where
   pub whole-room : LineRoom w' 0 (length x) n v (length x) limits 1 mo
   whole-room =
       record {
@@ -331,7 +365,8 @@ module _ {n limits : List ℕ} {v mo mw : ℕ} (x : List Float) (t : LineWhole n
         room = omega (arith, t .room, l, h .below .len);
       }
 
-  pub whole-line : (f : Block → Block) {s : ℕ} {w'' out : List Float} {r : List ℕ} → Made (f (block n (part 0 (length x) w'))) s w' w'' out r → Stands (f (block n x)) out r
+  pub whole-line : (f : Block → Block) {s : ℕ} {w'' out : List Float} {r : List ℕ}
+      → Made (f (block n (part 0 (length x) w'))) s w' w'' out r → Stands (f (block n x)) out r
   whole-line f m =
       let e : part 0 (length x) w' ≡ x = ap (λ (k : ℕ). part 0 k w') (sym (zero-add (length x))) ∙ (h .holds ∙ take-length x) in
       rw e at (m .stands)

@@ -22,8 +22,9 @@ use Rattle.model.specs.Product.{constantBlock, scaled, scaledAt, grown, raised,
 use Rattle.shape_words.specs.Lengths.{inside-is, is-inside}
 use Rattle.shape_words.specs.Places.{place-lt, place-index, index-inside}
 use Rattle.blocks.specs.Combine.{way-both}
-use Rattle.product.specs.Room.{linedAt, RaisesTo, Put, Stands}
+use Rattle.product.specs.Room.{RaisesTo, Put, Stands}
 use Rattle.product.specs.Ways.{count-less, grown-under, grown-in, put-stands, raises-whole}
+use Rattle.product_linear.specs.Raise.{linedAt}
 
 -- ---- the block
 
@@ -66,7 +67,8 @@ module _ {n : List ℕ} {v : ℕ} {limits : List ℕ} {ma mo : ℕ} (t : RaisesT
     unfolding joinedBlock
     lined-block big o =
         let less = count-less r n lined-in in
-        let both : table (count r) (placeJoined false up (scaled c x) r) ≡ joined false r up (scaled c x) = way-both false r up (scaled c x) (λ z. omega (arith, z)) (λ z. omega (arith, z)) in
+        let both : table (count r) (placeJoined false up (scaled c x) r) ≡ joined false r up (scaled c x) =
+        way-both false r up (scaled c x) (λ z. omega (arith, z)) (λ z. omega (arith, z)) in
         rw up-is (
           sym same-shape,
           o ∙ (table-same _ _ (count r) lined-place ∙ (both ∙ ap (λ (q : List ℕ). joined false q up (scaled c x)) (sym same-shape))),
@@ -79,7 +81,8 @@ neither true b h = (h, decide b (λ e. e ∙ h) (λ e. e))
 neither false b h = (refl, h)
 
 -- more than one place times a constant that is not one
-pub by-scale : (limits : List ℕ) (c : Float) (x : Block) → (count (x .lengths) ≡ 1 → ⊥) → eq c oneF ≡ false → productOf 0 limits x (constantBlock c) ≡ scaled c x
+pub by-scale : (limits : List ℕ) (c : Float) (x : Block) → (count (x .lengths) ≡ 1 → ⊥) → eq c oneF ≡ false
+    → productOf 0 limits x (constantBlock c) ≡ scaled c x
 unfolding productOf chosen plainProduct span
 by-scale limits c x n o = simp (ne-eqb _ _ n, o)
 
@@ -89,7 +92,8 @@ module _ (limits : List ℕ) (line : Linear) (x : Block) {d out : List Float} {r
   unfolding linearProduct
   line-raised z h = rw z (put-stands h)
 
-  pub line-scaled : eq (line .c) zeroF ≡ false → eq (line .c) oneF ≡ false → 1 < count (x .lengths) → Put (joinedBlock false (raised limits (line .variable) (line .m) x) (scaled (line .c) x)) d out r
+  pub line-scaled : eq (line .c) zeroF ≡ false → eq (line .c) oneF ≡ false → 1 < count (x .lengths)
+      → Put (joinedBlock false (raised limits (line .variable) (line .m) x) (scaled (line .c) x)) d out r
       → Stands (linearProduct (λ y. productOf 0 limits y (constantBlock (line .c))) limits line x) out r
   unfolding linearProduct
   line-scaled z o big h = rw (z, by-scale limits (line .c) x (λ q. omega (arith, q)) o) (put-stands h)

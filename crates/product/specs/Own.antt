@@ -1,4 +1,5 @@
--- A right factor that leaves the left operand's header as it is, and the two ways that then take one pass: by a constant, and by a linear factor.
+-- A right factor that leaves the left operand's header as it is, and the two ways that then take one pass: by a
+-- constant, and by a linear factor.
 use Prim.Native.Nat.{ℕ, _*_, _≤_, _<_}
 use mathlib.Core.List.{List}
 use mathlib.Core.Bool.{false, cond}
@@ -21,7 +22,7 @@ use Rattle.model.specs.Product.{scaledAt, chosen}
 use Rattle.shape_words.specs.Rules.{Good}
 use Rattle.shape_words.specs.Lengths.{Lengths}
 use Rattle.product_kept.specs.Kept.{Keeps}
-use Rattle.product.specs.Room.{linedAt}
+use Rattle.product_linear.specs.Raise.{linedAt}
 
 -- the way of two blocks is that by a constant or a linear factor on the right, c neither zero nor one
 pub record Light (a b : Block) (w : Way) : Type 0 where
@@ -30,7 +31,8 @@ pub record Light (a b : Block) (w : Way) : Type 0 where
   pub one : eq (w .line .c) oneF ≡ false
   pub kind : (w .kind ≡ 3 → ⊥) → w .kind ≡ 5
 
--- w and u the words, ma and mb the coefficients given, mo and ms the places lent: no refusal, and n places, more than one, under the left header
+-- w and u the words, ma and mb the coefficients given, mo and ms the places lent: no refusal, and n places, more than
+-- one, under the left header
 pub record Owns (w ma u mb mo ms n : ℕ) : Type 0 where
   pub gate : pairGate Product w ma u mb mo ms ≡ noRefusal
   pub told : announcedPair Product w u ≡ headerOf w

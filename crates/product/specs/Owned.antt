@@ -1,4 +1,5 @@
--- The entry's short way: the tests that `own` makes let no call pass that the gate refuses, and what is made then is what the entry owes.
+-- The entry's short way: the tests that `own` makes let no call pass that the gate refuses, and what is made then is
+-- what the entry owes.
 use Prim.Native.Nat.{ℕ, _+_, _*_, _%_, _^_, _≤_, _<_}
 use mathlib.Core.List.{List, _++_}
 use mathlib.Core.Bool.{Bool, true, _&&_}
@@ -37,7 +38,8 @@ use Rattle.product.specs.Short.{short-var, short-value}
 -- ---- the gate
 
 -- the gate lets it pass
-pub owns-it : (w ma u mb mo ms : ℕ) {x y : Header} {n m : ℕ} → x ≡ headerOf w → y ≡ headerOf u → goodWord w ≡ true → Keeps x y → eqb (u % 2 ^ 13) 0 ≡ true → n ≡ stored x → m ≡ stored y
+pub owns-it : (w ma u mb mo ms : ℕ) {x y : Header} {n m : ℕ} → x ≡ headerOf w → y ≡ headerOf u → goodWord w ≡ true
+    → Keeps x y → eqb (u % 2 ^ 13) 0 ≡ true → n ≡ stored x → m ≡ stored y
     → 1 < n → m ≤ 2 → n ≤ ma → m ≤ mb → n ≤ mo → 8 * n ≤ ms → Owns w ma u mb mo ms n
 unfolding pairGate goodWord
 owns-it w ma u mb mo ms {x} {y} {n} {m} ex ey g k z en em big few fa fb fo fs =
@@ -49,7 +51,17 @@ owns-it w ma u mb mo ms {x} {y} {n} {m} ex ey g k z en em big few fa fb fo fs =
     let t : announcedPair Product w u ≡ headerOf w = keeps-announced (gw .regular) kw in
     let most = gw .most in
     record {
-      gate = simp (g, gu, le-leb (stored (headerOf w)) ma (omega arith), le-leb (stored (headerOf u)) mb (omega arith), t, le-leb (stored (headerOf w)) 4096 most, le-leb (stored (headerOf w)) mo (omega arith), le-leb (8 * stored (headerOf w)) ms (omega arith));
+      gate =
+          simp (
+            g,
+            gu,
+            le-leb (stored (headerOf w)) ma (omega arith),
+            le-leb (stored (headerOf u)) mb (omega arith),
+            t,
+            le-leb (stored (headerOf w)) 4096 most,
+            le-leb (stored (headerOf w)) mo (omega arith),
+            le-leb (8 * stored (headerOf w)) ms (omega arith),
+          );
       told = t;
       keeps = kw;
       count = nw;
@@ -57,7 +69,8 @@ owns-it w ma u mb mo ms {x} {y} {n} {m} ex ey g k z en em big few fa fb fo fs =
     }
 
 -- the same from the tests that are made: g whether w is good, k whether the header is kept
-module _ (w ma u mb mo ms : ℕ) {x y : Header} (ex : x ≡ headerOf w) (ey : y ≡ headerOf u) {g k : Bool} (eg : g ≡ goodWord w) (ek : k ≡ true → Keeps x y) (h : ((g && k) && eqb (u % 2 ^ 13) 0) ≡ true) where
+module _ (w ma u mb mo ms : ℕ) {x y : Header} (ex : x ≡ headerOf w) (ey : y ≡ headerOf u) {g k : Bool}
+    (eg : g ≡ goodWord w) (ek : k ≡ true → Keeps x y) (h : ((g && k) && eqb (u % 2 ^ 13) 0) ≡ true) where
   good-left : goodWord w ≡ true
   good-left = sym eg ∙ and-left g k (and-left (g && k) (eqb (u % 2 ^ 13) 0) h)
 
@@ -70,7 +83,9 @@ module _ (w ma u mb mo ms : ℕ) {x y : Header} (ex : x ≡ headerOf w) (ey : y 
   pub tested-ruled : Ruled y
   tested-ruled = keeps-ruled (tested-good .regular .rules) kept
 
-  pub tested-owns : {n m : ℕ} → n ≡ stored x → m ≡ stored y → (((((ltb 1 n && leb m 2) && leb n ma) && leb m mb) && leb n mo) && leb (8 * n) ms) ≡ true → Owns w ma u mb mo ms n
+  pub tested-owns : {n m : ℕ} → n ≡ stored x → m ≡ stored y
+      → (((((ltb 1 n && leb m 2) && leb n ma) && leb m mb) && leb n mo) && leb (8 * n) ms) ≡ true
+      → Owns w ma u mb mo ms n
   tested-owns {n} {m} en em t =
       let t5 = and-left ((((ltb 1 n && leb m 2) && leb n ma) && leb m mb) && leb n mo) (leb (8 * n) ms) t in
       let t4 = and-left (((ltb 1 n && leb m 2) && leb n ma) && leb m mb) (leb n mo) t5 in
@@ -103,8 +118,17 @@ module _ {w ma u mb mo ms n : ℕ} (o : Owns w ma u mb mo ms n) where
       module _ {x : Header} (ex : x ≡ headerOf w) (a b : List Float) (ea : ma ≡ length a) (eb : mb ≡ length b) where
         pub owned-lens : Lengths (x .lengths) × (Lengths (y .lengths) × ((length (take n a) ≡ count (x .lengths)) × (length (take m b) ≡ count (y .lengths))))
         owned-lens =
-            let gx : Ruled x = rw ex (owned .good-a .regular .rules) in
-            (lengths-of gx, (lengths-of owned-right, (length-take-le n a (omega (arith, ea, owned-full-a)) ∙ (o .count ∙ ap stored (sym ex)), length-take-le m b (omega (arith, eb, owned-full-b)) ∙ em)))
+            let gx : Ruled x = rw ex (owned .good-a .regular .rules) in (
+              lengths-of gx,
+              (
+                lengths-of owned-right,
+                (
+                  length-take-le n a (omega (arith, ea, owned-full-a))
+                      ∙ (o .count ∙ ap stored (sym ex)),
+                  length-take-le m b (omega (arith, eb, owned-full-b)) ∙ em,
+                ),
+              ),
+            )
 
         pub owned-shortens : {c : Way} → Light (block (x .lengths) (take n a)) (block (y .lengths) (take m b)) c → Shortens w a u b mo ms c
         owned-shortens {c} l =
@@ -186,12 +210,15 @@ module _ {w u mo ms : ℕ} {a b : List Float} {c : Way} (s : Shortens w a u b mo
       let g : noRefusal ≡ pairGate Product w (length a) u (length b) (length out) (length scratch) = rw (← eo, ← es) (sym (s .owns .gate)) in
       done-answer g x (productPoly (held w a) (held u b)) refl (sym (pack-unpack w fit (ready .word-a)) ∙ ap wordOf (sym (ap (λ (p : Poly). p .head) made)))
 
-  pub short-out : (out scratch : List Float) → mo ≡ length out → ms ≡ length scratch → shortPlaces c (x .lengths) xs ++ drop (stored x) out ≡ productOut w a u b out scratch
+  pub short-out : (out scratch : List Float) → mo ≡ length out → ms ≡ length scratch
+      → shortPlaces c (x .lengths) xs ++ drop (stored x) out ≡ productOut w a u b out scratch
   unfolding productOut
   short-out out scratch eo es =
       let g : noRefusal ≡ pairGate Product w (length a) u (length b) (length out) (length scratch) = rw (← eo, ← es) (sym (s .owns .gate)) in
-      done-full g (announcedPair Product w u) (productPoly (held w a) (held u b)) refl out (sym (ap stored (s .owns .told))) (sym (ap (λ (p : Poly). p .coeffs) made)) short-length
+      done-full g (announcedPair Product w u) (productPoly (held w a) (held u b)) refl out
+      (sym (ap stored (s .owns .told))) (sym (ap (λ (p : Poly). p .coeffs) made)) short-length
 
-  pub short-scratch : (out scratch : List Float) → mo ≡ length out → ms ≡ length scratch → zeros (8 * stored x) ++ drop (8 * stored x) scratch ≡ productScratch w a u b out scratch
+  pub short-scratch : (out scratch : List Float) → mo ≡ length out → ms ≡ length scratch
+      → zeros (8 * stored x) ++ drop (8 * stored x) scratch ≡ productScratch w a u b out scratch
   unfolding productScratch leaves cleared
   short-scratch out scratch eo es = rw (← eo, ← es, s .owns .gate, s .owns .told)

@@ -4,39 +4,20 @@ use mathlib.Core.List.{List, _++_}
 use mathlib.Core.Bool.{cond}
 use mathlib.Core.Path.{_≡_}
 use lib.ListN.{length, take, drop}
-use lib.Ieee.{Float, add, mul, binary64}
+use lib.Ieee.{Float}
 use Rattle.lists.specs.Part.{Below}
 use Rattle.lists.specs.Four.{at, four}
 use Rattle.model.specs.declared.Way.{Way}
 use Rattle.model.specs.Header.{count}
 use Rattle.model.specs.Limits.{cutTo, sumShape, maxShape}
-use Rattle.model.specs.Refusals.{zeroF}
-use Rattle.model.specs.Places.{inside}
-use Rattle.model.specs.Poly.{Block, readAt}
+use Rattle.model.specs.Poly.{Block}
 use Rattle.model.specs.Linear.{noLinear, linear}
-use Rattle.model.specs.Product.{way, grown, raisedAt}
+use Rattle.model.specs.Product.{way, grown}
 use Rattle.shape_words.specs.Lengths.{Lengths}
-
--- for the crates above, which go by such rows too
 
 -- which way, where neither is a constant and a line is looked for
 abbrev pub lineWay : Block → Block → Way
 lineWay a b = cond (linear a .yes) (way 4 (linear a)) (cond (linear b .yes) (way 5 (linear b)) (way 6 noLinear))
-
--- under a linear factor, c and m, at an index of the result: what is shifted there added to +0.0, then c times the block, as far as it reaches
-abbrev pub linedAt : ℕ → Float → Float → Block → List ℕ → Float
-linedAt v c m b i =
-    cond (inside (b .lengths) i) (add binary64 (add binary64 zeroF (raisedAt v m b i)) (mul binary64 c (readAt b i))) (add binary64 zeroF (raisedAt v m b i))
-
--- r the lengths n with one row more in v, or as many
-pub record Raising (n : List ℕ) (v : ℕ) (r : List ℕ) (ma mt : ℕ) : Type 0 where
-  pub var : v < 4
-  pub from : Lengths n
-  pub to : Lengths r
-  pub other : (w : ℕ) → w < 4 → (w ≡ v → ⊥) → at r w ≡ at n w
-  pub one : at r v ≤ at n v + 1
-  pub room : count n ≤ ma
-  pub full : mt ≡ count r
 
 -- limits of 64 at most
 pub record Caps (l : List ℕ) : Type 0 where

@@ -25,11 +25,12 @@ use Rattle.model.specs.Product.{isConstant, isZero, constantBlock, scaled, scal
 use Rattle.product_kept.specs.Kept.{KeepsLength}
 use Rattle.laws_exact.specs.Sits.{Sits}
 use Rattle.laws_exact.specs.Ways.{linear-is, line-two}
-use Rattle.product.specs.Room.{linedAt, Caps, Raising, RaisesTo}
+use Rattle.product.specs.Room.{Caps, RaisesTo}
 use Rattle.product.specs.Ways.{sits-under, chosen-five, product-five, product-plain, plain-3}
 use Rattle.product.specs.Lined.{neither, by-scale, lined-block}
 use Rattle.product.specs.Times.{cut-none}
 use Rattle.product.specs.Own.{Light, ShortBlock, shortPlaces}
+use Rattle.product_linear.specs.Raise.{linedAt, Raising}
 
 -- a light factor is no zero
 not-zero : (a b : Block) (w : Way) → Light a b w → isConstant a ≡ false → isZero b ≡ false
@@ -47,7 +48,8 @@ not-zero a b w l na =
     (λ cb. simp (cb))
 
 -- what is made is the product
-module _ {limits la lb : List ℕ} {xs ys : List Float} {w : Way} (sa : Sits limits (block la xs)) (sb : Sits limits (block lb ys)) (caps : Caps limits) (big : 1 < count la)
+module _ {limits la lb : List ℕ} {xs ys : List Float} {w : Way} (sa : Sits limits (block la xs))
+    (sb : Sits limits (block lb ys)) (caps : Caps limits) (big : 1 < count la)
     (own : (k : ℕ) → k < 4 → KeepsLength (at limits k) (at la k) (at limits k) (at lb k)) (l : Light (block la xs) (block lb ys) w) where
   abbrev a : Block
   a = block la xs
@@ -86,7 +88,15 @@ module _ {limits la lb : List ℕ} {xs ys : List Float} {w : Way} (sa : Sits lim
     same-grown =
         let v : ℕ = w .line .variable in
         let q = own v short-var .own (sa .lo v short-var) (sa .hi v short-var) in
-        let e : min (at limits v) (at la v + 1) ≡ at la v = omega (arith, q, two-rows, sa .lo v short-var, sa .hi v short-var, own v short-var .fit (sa .lo v short-var) (sa .hi v short-var)) in
+        let e : min (at limits v) (at la v + 1) ≡ at la v =
+        omega (
+          arith,
+          q,
+          two-rows,
+          sa .lo v short-var,
+          sa .hi v short-var,
+          own v short-var .fit (sa .lo v short-var) (sa .hi v short-var),
+        ) in
         ap (set la v) e ∙ set-getD la v 0
 
     raises : RaisesTo la (w .line .variable) limits (count la) (count la)
@@ -99,10 +109,15 @@ module _ {limits la lb : List ℕ} {xs ys : List Float} {w : Way} (sa : Sits lim
         ∙ (ap (λ (x : Way). linearProduct (λ y. productOf 0 limits y (constantBlock (x .line .c))) limits (x .line) a) (sym (l .is))
         ∙ (rw (l .zero, by-scale limits (w .line .c) a (λ q. omega (arith, q)) (l .one))))
 
-    lined : joinedBlock false (raised limits (w .line .variable) (w .line .m) a) (scaled (w .line .c) a) ≡ block la (table (count la) (λ k. linedAt (w .line .variable) (w .line .c) (w .line .m) a (index la k)))
+    lined : joinedBlock false (raised limits (w .line .variable) (w .line .m) a) (scaled (w .line .c) a)
+        ≡ block la (table (count la) (λ k. linedAt (w .line .variable) (w .line .c) (w .line .m) a (index la k)))
     lined =
-        let j = lined-block raises (sym same-grown) (w .line .c) (w .line .m) xs big {o = table (count la) (λ k. linedAt (w .line .variable) (w .line .c) (w .line .m) a (index la k))} refl in
-        sym (rw (j .1) (ap (λ (z : List ℕ). block z (joinedBlock false (raised limits (w .line .variable) (w .line .m) a) (scaled (w .line .c) a) .places)) (j .0)))
+        let j =
+        lined-block raises (sym same-grown) (w .line .c) (w .line .m) xs big
+        {o = table (count la) (λ k. linedAt (w .line .variable) (w .line .c) (w .line .m) a (index la k))} refl in
+        sym (rw (j .1)
+        (ap (λ (z : List ℕ). block z (joinedBlock false (raised limits (w .line .variable) (w .line .m) a)
+        (scaled (w .line .c) a) .places)) (j .0)))
 
   pub short-value : multiplied limits a b ≡ block la (shortPlaces w la xs)
   short-value = whole ∙ decide (eqb (w .kind) 3)
@@ -110,10 +125,14 @@ module _ {limits la lb : List ℕ} {xs ys : List Float} {w : Way} (sa : Sits lim
       (λ e. by-line (eqb-false _ _ e) ∙ (lined (eqb-false _ _ e) ∙ rw e))
 
 -- a way that passed the tests is light
-pub light-tested : (a b : Block) (w : Way) → w ≡ chosen 1 a b → ((eqb (w .kind) 3 || eqb (w .kind) 5) && not (eq (w .line .c) zeroF || eq (w .line .c) oneF)) ≡ true → Light a b w
+pub light-tested : (a b : Block) (w : Way) → w ≡ chosen 1 a b
+    → ((eqb (w .kind) 3 || eqb (w .kind) 5) && not (eq (w .line .c) zeroF || eq (w .line .c) oneF)) ≡ true → Light a b w
 light-tested a b w e h =
     let t = and-left (eqb (w .kind) 3 || eqb (w .kind) 5) (not (eq (w .line .c) zeroF || eq (w .line .c) oneF)) h in
-    let n = neither (eq (w .line .c) zeroF) (eq (w .line .c) oneF) (not-true _ (and-right (eqb (w .kind) 3 || eqb (w .kind) 5) (not (eq (w .line .c) zeroF || eq (w .line .c) oneF)) h)) in
+    let n =
+    neither (eq (w .line .c) zeroF) (eq (w .line .c) oneF)
+    (not-true _ (and-right (eqb (w .kind) 3 || eqb (w .kind) 5)
+    (not (eq (w .line .c) zeroF || eq (w .line .c) oneF)) h)) in
     record {
       is = e;
       zero = n .0;
@@ -123,11 +142,21 @@ light-tested a b w e h =
 
 -- a linear factor that adds no row: the lengths stay
 pub short-raising : {w : Way} {n : List ℕ} {m o : ℕ} → ShortBlock w n m o → (w .kind ≡ 3 → ⊥) → Raising n (w .line .variable) n m o
-short-raising p k = record { var = p .var k; from = p .lens; to = p .lens; other = λ v h z. refl; one = omega arith; room = omega (arith, p .full); full = p .room }
+short-raising p k =
+    record {
+      var = p .var k;
+      from = p .lens;
+      to = p .lens;
+      other = λ v h z. refl;
+      one = omega arith;
+      room = omega (arith, p .full);
+      full = p .room;
+    }
 
 module _ (w : Way) (n : List ℕ) (xs : List Float) {o : List Float} where
   pub scaled-short : w .kind ≡ 3 → {m : ℕ} → m ≡ count n → o ≡ table m (scaledAt (w .line .c) xs) → o ≡ shortPlaces w n xs
   scaled-short k e h = rw (eq-eqb _ _ k, ← e) h
 
-  pub lined-short : (w .kind ≡ 3 → ⊥) → o ≡ table (count n) (λ k. linedAt (w .line .variable) (w .line .c) (w .line .m) (block n xs) (index n k)) → o ≡ shortPlaces w n xs
+  pub lined-short : (w .kind ≡ 3 → ⊥) → o ≡ table (count n)
+      (λ k. linedAt (w .line .variable) (w .line .c) (w .line .m) (block n xs) (index n k)) → o ≡ shortPlaces w n xs
   lined-short k h = rw (ne-eqb _ _ k) h

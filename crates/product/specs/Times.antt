@@ -1,4 +1,5 @@
--- The product of two operands: zero before the cut, the cut, the product, and what is past it; and what the entry shows.
+-- The product of two operands: zero before the cut, the cut, the product, and what is past it; and what the entry
+-- shows.
 use Prim.Native.Nat.{ℕ, _+_, _-_, _*_, _≤_, _<_, min}
 use mathlib.Core.List.{List, [], _++_, append-nil}
 use mathlib.Core.Bool.{Bool, true, false, _||_}
@@ -25,15 +26,16 @@ use Rattle.model.specs.Product.{isZero, constantBlock, productOf, multiplied, p
 use Rattle.shape_words.specs.Rules.{Ruled, ruled-at}
 use Rattle.shape_words.specs.Lengths.{Lengths, lengths-of, lengths-pos, count-pos, count-most}
 use Rattle.shape_words.specs.Places.{place-index}
+use Rattle.shape.specs.Cut.{cut-at}
 use Rattle.gates.specs.Gate.{PairReady}
-use Rattle.blocks.specs.Rows.{Inner}
+use Rattle.blocks.specs.Rows.{Inner, inner-of}
 use Rattle.blocks.specs.Same.{sameLengths, same-is, same-count, cut-all}
 use Rattle.blocks.specs.Two.{Two, Holds, cutPlaces, cut-is}
-use Rattle.laws_exact.specs.Sits.{Sits, cut-at}
+use Rattle.laws_exact.specs.Sits.{Sits}
 use Rattle.laws_exact.specs.Running.{multiplied-fits}
 use Rattle.laws_exact.specs.ProductKeeps.{product-keeps}
 use Rattle.product.specs.Room.{Under, Room, Times, Whole, Put, Stands, Made}
-use Rattle.product.specs.Ways.{under-lengths, inner-of, count-less, shape-under, shape-left, shape-right}
+use Rattle.product.specs.Ways.{under-lengths, count-less, shape-under, shape-left, shape-right}
 
 -- cutting changes nothing where all lies under the limits
 pub cut-none : {l : List ℕ} {b : Block} → Sits l b → cut l b ≡ b
@@ -56,17 +58,21 @@ module _ (limits : List ℕ) (a b : Block) where
   unfolding multiplied
   zero-put t p = rw t p
 
-  pub other-stands : {out : List Float} {r : List ℕ} → (isZero a || isZero b) ≡ false → Stands (productOf 1 limits (cut limits a) (cut limits b)) out r → Stands (multiplied limits a b) out r
+  pub other-stands : {out : List Float} {r : List ℕ} → (isZero a || isZero b) ≡ false
+      → Stands (productOf 1 limits (cut limits a) (cut limits b)) out r → Stands (multiplied limits a b) out r
   unfolding multiplied
   other-stands t p = rw t p
 
   -- blocks that are cut already
-  pub other-made : {s : ℕ} {w w' out : List Float} {r : List ℕ} → Sits limits a → Sits limits b → (isZero a || isZero b) ≡ false → Made (productOf 1 limits a b) s w w' out r → Made (multiplied limits a b) s w w' out r
+  pub other-made : {s : ℕ} {w w' out : List Float} {r : List ℕ} → Sits limits a → Sits limits b
+      → (isZero a || isZero b) ≡ false → Made (productOf 1 limits a b) s w w' out r
+      → Made (multiplied limits a b) s w w' out r
   unfolding multiplied
   other-made p q t m = rw (t, cut-none p, cut-none q) m
 
 -- a block stands at the front of n places, and the rest was cleared
-pub stands-padded : (n : ℕ) (p : Block) {out : List Float} {r : List ℕ} {z : ℕ} {zs : List Float} {k : ℕ} → Stands p out r → length out ≡ n → z ≤ n → z ≡ length (p .places)
+pub stands-padded : (n : ℕ) (p : Block) {out : List Float} {r : List ℕ} {z : ℕ} {zs : List Float} {k : ℕ}
+    → Stands p out r → length out ≡ n → z ≤ n → z ≡ length (p .places)
     → zs ≡ zeros k → k ≡ n - z → putMid z (n - z) out zs ≡ padded n (p .places)
 stands-padded n p {out} {z = z} {zs} h lo small f e ek =
     let m : z + (n - z) ≡ length out = omega arith in
@@ -144,8 +150,10 @@ module _ {la lb limits : List ℕ} {n ma mb mo mw : ℕ} (t : Times la lb limits
             room = λ h. omega (arith, z, ew, t .work, times-some);
           }
 
-      pub times-stands : (a b : List Float) {s : ℕ} {w' out : List Float} {r : List ℕ} → (isZero (block la a) || isZero (block lb b)) ≡ false → Holds n (cutPlaces la ca a) (cutPlaces lb cb b) w
-          → Made (productOf 1 limits (block ca (part 0 na w)) (block cb (part n (n + nb) w))) s w w' out r → Stands (multiplied limits (block la a) (block lb b)) out r
+      pub times-stands : (a b : List Float) {s : ℕ} {w' out : List Float} {r : List ℕ}
+          → (isZero (block la a) || isZero (block lb b)) ≡ false → Holds n (cutPlaces la ca a) (cutPlaces lb cb b) w
+          → Made (productOf 1 limits (block ca (part 0 na w)) (block cb (part n (n + nb) w))) s w w' out r
+          → Stands (multiplied limits (block la a) (block lb b)) out r
       times-stands a b z h m =
           let x0 : na - 0 ≡ length (cutPlaces la ca a) = omega (arith, ka, length-table (λ k. readAt (block la a) (index ca k)) (count ca)) in
           let y0 : n + nb - n ≡ length (cutPlaces lb cb b) = omega (arith, kb, length-table (λ k. readAt (block lb b) (index cb k)) (count cb)) in
@@ -172,7 +180,8 @@ module _ {la lb limits : List ℕ} {n ma mb mo mw : ℕ} (t : Times la lb limits
             room = omega (arith, z, t .work);
           }
 
-      pub whole-stands : (a b : List Float) {out : List Float} {r : List ℕ} → length a ≡ ma → length b ≡ mb → (isZero (block la a) || isZero (block lb b)) ≡ false
+      pub whole-stands : (a b : List Float) {out : List Float} {r : List ℕ} → length a ≡ ma → length b ≡ mb
+          → (isZero (block la a) || isZero (block lb b)) ≡ false
           → Stands (productOf 1 limits (block ca a) (block cb b)) out r → Stands (multiplied limits (block la a) (block lb b)) out r
       whole-stands a b ka kb z h =
           let p : block ca a ≡ cut limits (block la a) = ap (block ca) (sym (cut-all la ca a (same-is la ca sa) (ka ∙ t .full-a))) ∙ cut-is limits la a ea in
@@ -195,16 +204,27 @@ module _ {la lb limits : List ℕ} {n ma mb mo mw : ℕ} (t : Times la lb limits
     pub into-small : {z : ℕ} → z ≡ count r → z ≤ n
     into-small e =
         let s = times-sits a b in
-        omega (arith, e, ap count (h .lengths), t .all, count-less (sumShape limits (cutTo limits la) (cutTo limits lb)) (multiplied limits (block la a) (block lb b) .lengths) (s .hi))
+        omega (
+          arith,
+          e,
+          ap count (h .lengths),
+          t .all,
+          count-less (sumShape limits (cutTo limits la) (cutTo limits lb)) (multiplied limits (block la a) (block lb b) .lengths) (s .hi),
+        )
 
     -- the rest was cleared
-    pub into-padded : {z : ℕ} {zs : List Float} {k : ℕ} → length out ≡ n → z ≡ count r → zs ≡ zeros k → k ≡ n - z → putMid z (n - z) out zs ≡ padded n (multiplied limits (block la a) (block lb b) .places)
-    into-padded lo ez = stands-padded n (multiplied limits (block la a) (block lb b)) h lo (into-small ez) (ez ∙ (ap count (h .lengths) ∙ sym (times-sits a b .full)))
+    pub into-padded : {z : ℕ} {zs : List Float} {k : ℕ} → length out ≡ n → z ≡ count r → zs ≡ zeros k → k ≡ n - z
+        → putMid z (n - z) out zs ≡ padded n (multiplied limits (block la a) (block lb b) .places)
+    into-padded lo ez =
+        stands-padded n (multiplied limits (block la a) (block lb b)) h lo (into-small ez)
+        (ez ∙ (ap count (h .lengths) ∙ sym (times-sits a b .full)))
 
 -- ---- the entry
 
 -- the announced lengths
-product-lengths : (a b : Header) → sumShape (announced Product a b .limits) (cutTo (announced Product a b .limits) (a .lengths)) (cutTo (announced Product a b .limits) (b .lengths)) ≡ announced Product a b .lengths
+product-lengths : (a b : Header) → sumShape (announced Product a b .limits)
+    (cutTo (announced Product a b .limits) (a .lengths)) (cutTo (announced Product a b .limits) (b .lengths))
+    ≡ announced Product a b .lengths
 unfolding announced paired sumShape cutTo
 product-lengths a b = refl
 
@@ -233,7 +253,8 @@ module _ {w u ma mb mo ms : ℕ} (g : PairReady Product w ma u mb mo ms) where
   entry-ruled a b = product-keeps (held w a) (held u b) (g .good-a .regular) (g .good-b .regular) .regular .rules
 
 -- the value
-module _ (w : ℕ) (a : List Float) (u : ℕ) (b : List Float) {x y h : Header} (ex : x ≡ headerOf w) (ey : y ≡ headerOf u) (eh : h ≡ announced Product x y) {na nb : ℕ} (ea : na ≡ stored x) (eb : nb ≡ stored y) where
+module _ (w : ℕ) (a : List Float) (u : ℕ) (b : List Float) {x y h : Header} (ex : x ≡ headerOf w) (ey : y ≡ headerOf u)
+    (eh : h ≡ announced Product x y) {na nb : ℕ} (ea : na ≡ stored x) (eb : nb ≡ stored y) where
   pub entry-head : {r : List ℕ} → r ≡ multiplied (h .limits) (block (x .lengths) (take na a)) (block (y .lengths) (take nb b)) .lengths
       → header (h .vars) (h .limits) r ≡ productPoly (held w a) (held u b) .head
   unfolding productPoly

@@ -4,15 +4,14 @@ use mathlib.Core.List.{List, [], _∷_, _++_}
 use mathlib.Core.Bool.{Bool, true, false, _&&_, cond}
 use mathlib.Core.Path.{_≡_, refl, sym, ap, _∙_}
 use native.Mathlib.Omega.{arith}
-use native.Mathlib.Nat.{le-trans, le-refl, mul-le-mul}
+use native.Mathlib.Nat.{le-trans, le-refl}
 use lib.Dec.{eqb, lit<}
-use lib.ListN.{length, take, drop, set, length-append, length-take, length-drop}
-use lib.Seq.{take-at, drop-at, drop-drop, length-take-le}
-use borrow.Rule.Slice.PartMut.{putMid}
+use lib.ListN.{length, drop, set}
+use lib.Seq.{take-at}
 use lib.Ieee.{Float, eq}
 use borrow.Author.Tests.{eq-eqb, ne-eqb, eqb-false}
 use Rattle.lists.specs.Table.{table, length-table}
-use Rattle.lists.specs.Part.{below-same, Kept}
+use Rattle.lists.specs.Part.{below-same}
 use Rattle.lists.specs.Four.{at, four, at-four, each, long, one-changed, at-same, at-other}
 use Rattle.model.specs.declared.Linear.{Linear}
 use Rattle.model.specs.declared.Way.{Way}
@@ -26,12 +25,13 @@ use Rattle.model.specs.Linear.{noLinear, linear}
 use Rattle.model.specs.Add.{joined, joinedBlock}
 use Rattle.model.specs.General.{general}
 use Rattle.model.specs.Product.{isConstant, isOne, way, justC, chosen, scaled, grown, raised, raisedAt, constantBlock, plainProduct, linearProduct, productOf}
-use Rattle.shape_words.specs.Lengths.{Lengths, count-is}
-use Rattle.blocks.specs.Rows.{Inner}
+use Rattle.shape_words.specs.Lengths.{Lengths}
+use Rattle.blocks.specs.Rows.{count-inner, inner-of}
 use Rattle.product_general.specs.Rows.{Multiplying}
 use Rattle.blocks.specs.Combine.{Combining}
 use Rattle.laws_exact.specs.Sits.{Sits, sum-at}
-use Rattle.product.specs.Room.{lineWay, Caps, Under, RaisesTo, Raising, Plain, Joins, Put, Stands, Made}
+use Rattle.product.specs.Room.{lineWay, Caps, Under, RaisesTo, Plain, Joins, Put, Stands, Made}
+use Rattle.product_linear.specs.Raise.{Raising}
 
 -- ---- lengths
 
@@ -51,12 +51,6 @@ under-lengths {l} {n} u c =
 
 pub lengths-most : {n : List ℕ} → Lengths n → (k : ℕ) → k < 4 → at n k ≤ 64
 lengths-most {n} g = each (λ k. at n k ≤ 64) (g .m0) (g .m1) (g .m2) (g .m3)
-
-pub inner-of : {n c : List ℕ} → ((k : ℕ) → k < 4 → at c k ≤ at n k) → Inner n c
-inner-of h = record { c0 = h 0 (lit< tt); c1 = h 1 (lit< tt); c2 = h 2 (lit< tt); c3 = h 3 (lit< tt) }
-
-pub count-inner : {n c : List ℕ} → Inner n c → count c ≤ count n
-count-inner {n} {c} i = rw (count-is n, count-is c) (mul-le-mul (i .c0) (mul-le-mul (i .c1) (mul-le-mul (i .c2) (i .c3))))
 
 pub count-less : (n c : List ℕ) → ((k : ℕ) → k < 4 → at c k ≤ at n k) → count c ≤ count n
 count-less n c h = count-inner (inner-of h)
@@ -157,33 +151,22 @@ pub put-made : {p : Block} {d out w : List Float} {s : ℕ} {r : List ℕ} → P
 put-made w = record { stands = put-stands w; below = below-same }
 
 -- the front of a buffer became xs
-pub put-front : {p : Block} {d out xs : List Float} {r : List ℕ} (z : ℕ) → r ≡ p .lengths → xs ≡ p .places → length xs ≡ z → out ≡ xs ++ drop z d → Put p d out r
+pub put-front : {p : Block} {d out xs : List Float} {r : List ℕ} (z : ℕ) → r ≡ p .lengths → xs ≡ p .places
+    → length xs ≡ z → out ≡ xs ++ drop z d → Put p d out r
 put-front {p} {d} {out} {xs} z e x l o = record { lengths = e; is = o ∙ (rw (← l, ← x)) }
 
 pub put-zero : (out : List Float) → 0 < length out → Put (constantBlock zeroF) out (set out 0 zeroF) ones
 put-zero [] h = absurd (omega arith)
 put-zero (x ∷ out) h = record { lengths = refl; is = refl }
 
--- a part of a buffer became xs
-pub kept-mid : (p n : ℕ) (w ys : List Float) {xs : List Float} (k : ℕ) → xs ≡ take k ys → k ≡ n → n ≤ length ys → p + n ≤ length w → {q : ℕ} → q ≡ n → Kept p (p + n) (take n ys) w (putMid p q w xs)
-kept-mid p n w ys {xs} k e f g h {q} e' =
-    let l : length xs ≡ n = ap length e ∙ (rw f (length-take-le n ys g)) in
-    let lp : length (take p w) ≡ p = length-take-le p w (omega arith) in
-    let rest : List Float = drop q (drop p w) in
-    let d : drop p (take p w ++ (xs ++ rest)) ≡ xs ++ rest = drop-at (take p w) (xs ++ rest) p lp in
-    let m : p + n - p ≡ n = omega arith in
-    record {
-      below = record { len = simp (length-append, length-take, length-drop) (omega (arith, l)); head = take-at (take p w) (xs ++ rest) p lp };
-      holds = ap (λ (j : ℕ). take j (drop p (take p w ++ (xs ++ rest)))) m ∙ (ap (take n) d ∙ (take-at xs rest n l ∙ (e ∙ ap (λ (j : ℕ). take j ys) f)));
-      above = sym (drop-drop n p (take p w ++ (xs ++ rest))) ∙ (ap (drop n) d ∙ (drop-at xs rest n l ∙ (drop-drop q p w ∙ ap (λ (j : ℕ). drop (p + j) w) e')));
-    }
-
 -- ---- which way
 
 module _ (stage : ℕ) (a b : Block) (na nb : ℕ) where
   pub choose-is : na ≡ count (a .lengths) → nb ≡ count (b .lengths)
       → chosen stage a b
-      ≡ cond (eqb na 1 && eq (first (a .places)) oneF) (way 0 noLinear) (cond (eqb nb 1 && eq (first (b .places)) oneF) (way 1 noLinear) (cond (eqb na 1) (way 2 (justC (first (a .places)))) (cond (eqb nb 1) (way 3 (justC (first (b .places))))
+      ≡ cond (eqb na 1 && eq (first (a .places)) oneF) (way 0 noLinear)
+      (cond (eqb nb 1 && eq (first (b .places)) oneF) (way 1 noLinear)
+      (cond (eqb na 1) (way 2 (justC (first (a .places)))) (cond (eqb nb 1) (way 3 (justC (first (b .places))))
       (cond (eqb stage 0) (way 6 noLinear) (lineWay a b)))))
   unfolding chosen
   choose-is e f = rw (e, f)
@@ -198,8 +181,13 @@ pos-of : (n : ℕ) → eqb n 0 ≡ false → 0 < n
 pos-of n e = let h = eqb-false n 0 e in omega arith
 
 chain-four : (stage : ℕ) (b1 b2 b3 b4 b5 : Bool) (l6 l7 l2 l3 : Linear) (b6 b7 : Bool) → eqb stage 0 ≡ b5 → l6 .yes ≡ b6
-    → cond b1 (way 0 noLinear) (cond b2 (way 1 noLinear) (cond b3 (way 2 l2) (cond b4 (way 3 l3) (cond b5 (way 6 noLinear) (cond b6 (way 4 l6) (cond b7 (way 5 l7) (way 6 noLinear))))))) .kind ≡ 4
-    → Lined stage l6 (cond b1 (way 0 noLinear) (cond b2 (way 1 noLinear) (cond b3 (way 2 l2) (cond b4 (way 3 l3) (cond b5 (way 6 noLinear) (cond b6 (way 4 l6) (cond b7 (way 5 l7) (way 6 noLinear)))))))) 4
+    → cond b1 (way 0 noLinear) (cond b2 (way 1 noLinear)
+    (cond b3 (way 2 l2)
+    (cond b4 (way 3 l3) (cond b5 (way 6 noLinear) (cond b6 (way 4 l6) (cond b7 (way 5 l7) (way 6 noLinear)))))))
+    .kind ≡ 4
+    → Lined stage l6 (cond b1 (way 0 noLinear)
+    (cond b2 (way 1 noLinear) (cond b3 (way 2 l2)
+    (cond b4 (way 3 l3) (cond b5 (way 6 noLinear) (cond b6 (way 4 l6) (cond b7 (way 5 l7) (way 6 noLinear)))))))) 4
 chain-four stage true b2 b3 b4 b5 l6 l7 l2 l3 b6 b7 e f h = absurd (omega (arith, h))
 chain-four stage false true b3 b4 b5 l6 l7 l2 l3 b6 b7 e f h = absurd (omega (arith, h))
 chain-four stage false false true b4 b5 l6 l7 l2 l3 b6 b7 e f h = absurd (omega (arith, h))
@@ -210,8 +198,13 @@ chain-four stage false false false false false l6 l7 l2 l3 false true e f h = ab
 chain-four stage false false false false false l6 l7 l2 l3 false false e f h = absurd (omega (arith, h))
 
 chain-five : (stage : ℕ) (b1 b2 b3 b4 b5 : Bool) (l6 l7 l2 l3 : Linear) (b6 b7 : Bool) → eqb stage 0 ≡ b5 → l7 .yes ≡ b7
-    → cond b1 (way 0 noLinear) (cond b2 (way 1 noLinear) (cond b3 (way 2 l2) (cond b4 (way 3 l3) (cond b5 (way 6 noLinear) (cond b6 (way 4 l6) (cond b7 (way 5 l7) (way 6 noLinear))))))) .kind ≡ 5
-    → Lined stage l7 (cond b1 (way 0 noLinear) (cond b2 (way 1 noLinear) (cond b3 (way 2 l2) (cond b4 (way 3 l3) (cond b5 (way 6 noLinear) (cond b6 (way 4 l6) (cond b7 (way 5 l7) (way 6 noLinear)))))))) 5
+    → cond b1 (way 0 noLinear) (cond b2 (way 1 noLinear)
+    (cond b3 (way 2 l2)
+    (cond b4 (way 3 l3) (cond b5 (way 6 noLinear) (cond b6 (way 4 l6) (cond b7 (way 5 l7) (way 6 noLinear)))))))
+    .kind ≡ 5
+    → Lined stage l7 (cond b1 (way 0 noLinear)
+    (cond b2 (way 1 noLinear) (cond b3 (way 2 l2)
+    (cond b4 (way 3 l3) (cond b5 (way 6 noLinear) (cond b6 (way 4 l6) (cond b7 (way 5 l7) (way 6 noLinear)))))))) 5
 chain-five stage true b2 b3 b4 b5 l6 l7 l2 l3 b6 b7 e f h = absurd (omega (arith, h))
 chain-five stage false true b3 b4 b5 l6 l7 l2 l3 b6 b7 e f h = absurd (omega (arith, h))
 chain-five stage false false true b4 b5 l6 l7 l2 l3 b6 b7 e f h = absurd (omega (arith, h))
@@ -224,11 +217,15 @@ chain-five stage false false false false false l6 l7 l2 l3 false false e f h = a
 module _ (stage : ℕ) (a b : Block) where
   pub chosen-four : chosen stage a b .kind ≡ 4 → Lined stage (linear a) (chosen stage a b) 4
   unfolding chosen
-  chosen-four h = chain-four stage (isOne a) (isOne b) (isConstant a) (isConstant b) (eqb stage 0) (linear a) (linear b) (justC (first (a .places))) (justC (first (b .places))) (linear a .yes) (linear b .yes) refl refl h
+  chosen-four h =
+      chain-four stage (isOne a) (isOne b) (isConstant a) (isConstant b) (eqb stage 0) (linear a) (linear b)
+      (justC (first (a .places))) (justC (first (b .places))) (linear a .yes) (linear b .yes) refl refl h
 
   pub chosen-five : chosen stage a b .kind ≡ 5 → Lined stage (linear b) (chosen stage a b) 5
   unfolding chosen
-  chosen-five h = chain-five stage (isOne a) (isOne b) (isConstant a) (isConstant b) (eqb stage 0) (linear a) (linear b) (justC (first (a .places))) (justC (first (b .places))) (linear a .yes) (linear b .yes) refl refl h
+  chosen-five h =
+      chain-five stage (isOne a) (isOne b) (isConstant a) (isConstant b) (eqb stage 0) (linear a) (linear b)
+      (justC (first (a .places))) (justC (first (b .places))) (linear a .yes) (linear b .yes) refl refl h
 
 -- ---- what a way makes
 
@@ -236,14 +233,18 @@ module _ (limits : List ℕ) (a b : Block) where
   abbrev pub byC : ℕ → Float → Block → Block
   byC s c x = productOf s limits x (constantBlock c)
 
-  pub product-four : (stage : ℕ) → chosen stage a b .kind ≡ 4 → productOf stage limits a b ≡ linearProduct (byC (stage - 1) (chosen stage a b .line .c)) limits (chosen stage a b .line) b
+  pub product-four : (stage : ℕ) → chosen stage a b .kind ≡ 4
+      → productOf stage limits a b ≡ linearProduct (byC (stage - 1) (chosen stage a b .line .c)) limits
+      (chosen stage a b .line) b
   unfolding productOf
   product-four zero h = absurd (omega (arith, chosen-four 0 a b h .some))
   product-four (suc s) h =
       let e : suc s - 1 ≡ s = omega arith in
       rw (e, eq-eqb _ _ h)
 
-  pub product-five : (stage : ℕ) → chosen stage a b .kind ≡ 5 → productOf stage limits a b ≡ linearProduct (byC (stage - 1) (chosen stage a b .line .c)) limits (chosen stage a b .line) a
+  pub product-five : (stage : ℕ) → chosen stage a b .kind ≡ 5
+      → productOf stage limits a b ≡ linearProduct (byC (stage - 1) (chosen stage a b .line .c)) limits
+      (chosen stage a b .line) a
   unfolding productOf
   product-five zero h = absurd (omega (arith, chosen-five 0 a b h .some))
   product-five (suc s) h =
@@ -251,7 +252,8 @@ module _ (limits : List ℕ) (a b : Block) where
       let n : eqb (chosen (suc s) a b .kind) 4 ≡ false = ap (λ (k : ℕ). eqb k 4) h in
       rw (e, n, eq-eqb _ _ h)
 
-  pub product-plain : (stage : ℕ) → (chosen stage a b .kind ≡ 4 → ⊥) → (chosen stage a b .kind ≡ 5 → ⊥) → productOf stage limits a b ≡ plainProduct limits (chosen stage a b .kind) (chosen stage a b .line .c) a b
+  pub product-plain : (stage : ℕ) → (chosen stage a b .kind ≡ 4 → ⊥) → (chosen stage a b .kind ≡ 5 → ⊥)
+      → productOf stage limits a b ≡ plainProduct limits (chosen stage a b .kind) (chosen stage a b .line .c) a b
   unfolding productOf
   product-plain zero h k = refl
   product-plain (suc s) h k = rw (ne-eqb _ _ h, ne-eqb _ _ k)
@@ -274,7 +276,8 @@ module _ (limits : List ℕ) (c : Float) (a b : Block) where
   plain-3 k e = rw e
 
   pub plain-6 : (k : ℕ) → (k ≡ 0 → ⊥) → (k ≡ 1 → ⊥) → (k ≡ 2 → ⊥) → (k ≡ 3 → ⊥)
-      → plainProduct limits k c a b ≡ block (sumShape limits (a .lengths) (b .lengths)) (general (a .lengths) (b .lengths) (sumShape limits (a .lengths) (b .lengths)) (a .places) (b .places))
+      → plainProduct limits k c a b ≡ block (sumShape limits (a .lengths) (b .lengths))
+      (general (a .lengths) (b .lengths) (sumShape limits (a .lengths) (b .lengths)) (a .places) (b .places))
   unfolding plainProduct
   plain-6 k e0 e1 e2 e3 = rw (ne-eqb _ _ e0, ne-eqb _ _ e1, ne-eqb _ _ e2, ne-eqb _ _ e3)
 
@@ -315,7 +318,16 @@ module _ {n m : List ℕ} {ma mb mo : ℕ} (j : Joins n m ma mb mo) {r : List �
   joins-whole =
       let g = j .left in
       let h = j .right in
-      rw e (record { p0 = omega arith; p1 = omega arith; p2 = omega arith; p3 = omega arith; m0 = omega arith; m1 = omega arith; m2 = omega arith; m3 = omega arith })
+      rw e (record {
+        p0 = omega arith;
+        p1 = omega arith;
+        p2 = omega arith;
+        p3 = omega arith;
+        m0 = omega arith;
+        m1 = omega arith;
+        m2 = omega arith;
+        m3 = omega arith;
+      })
 
   pub joins-fits : {z : ℕ} → z ≡ count r → z ≤ mo
   joins-fits z = omega (arith, z, ap count e, j .fits)
@@ -352,7 +364,8 @@ module _ {n : List ℕ} {v : ℕ} {limits : List ℕ} {ma mo : ℕ} (t : RaisesT
       full = k;
     }
 
-pub raised-is : (limits n : List ℕ) (v : ℕ) (m : Float) (a : List Float) {r : List ℕ} {o : List Float} → r ≡ grown limits v n → o ≡ table (count r) (λ k. raisedAt v m (block n a) (index r k))
+pub raised-is : (limits n : List ℕ) (v : ℕ) (m : Float) (a : List Float) {r : List ℕ} {o : List Float}
+    → r ≡ grown limits v n → o ≡ table (count r) (λ k. raisedAt v m (block n a) (index r k))
     → (r ≡ raised limits v m (block n a) .lengths) × (o ≡ raised limits v m (block n a) .places)
 unfolding raised
 raised-is limits n v m a e o = (e, o ∙ (rw e))

@@ -16,7 +16,9 @@ one-left : (a b : ℕ) → a * b ≡ 1 → a ≡ 1
 one-left zero b h = absurd (omega (arith, zero-mul b))
 one-left (suc zero) b h = refl
 one-left (suc (suc a)) zero h = absurd (omega (arith, mul-zero (suc (suc a))))
-one-left (suc (suc a)) (suc b) h = let m : suc (suc a) * 1 ≤ suc (suc a) * suc b = mul-le-mul-left (suc (suc a)) (omega arith) in absurd (omega (arith, mul-one (suc (suc a))))
+one-left (suc (suc a)) (suc b) h = let m : suc (suc a) * 1 ≤ suc (suc a) * suc b =
+    mul-le-mul-left (suc (suc a)) (omega arith) in
+    absurd (omega (arith, mul-one (suc (suc a))))
 
 both : (x y : Bool) → (x ≡ true → y ≡ true) → (y ≡ true → x ≡ true) → x ≡ y
 both true y f g = sym (f refl)

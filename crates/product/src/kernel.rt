@@ -1,5 +1,7 @@
-// The product of two blocks, with its shortcuts. `product` and `linear_product` call each other; the stage falls at the product by a constant.
-// The blocks lie in a lent buffer, used as a stack: what lies below `spare` stays as it was. The result goes to the front of `out`.
+// The product of two blocks, with its shortcuts. `product` and `linear_product` call each other; the stage falls at the
+// product by a constant.
+// The blocks lie in a lent buffer, used as a stack: what lies below `spare` stays as it was. The result goes to the
+// front of `out`.
 use model::Linear;
 use model::Way;
 use product_linear::line_rows;
@@ -17,9 +19,11 @@ ghost use Rattle.model.specs.Places.{index};
 ghost use Rattle.model.specs.Refusals.{zeroF, padded};
 ghost use Rattle.model.specs.Poly.{block};
 ghost use Rattle.model.specs.Add.{joinedBlock};
-ghost use Rattle.model.specs.Product.{isZero, justC, constantBlock, scaled, grown, raisedAt, raised, chosen, plainProduct, linearProduct, productOf, multiplied};
+ghost use Rattle.model.specs.Product.{isZero, justC, constantBlock, scaled, grown, raisedAt, raised, chosen};
+ghost use Rattle.model.specs.Product.{plainProduct, linearProduct, productOf, multiplied};
 ghost use Rattle.shape_words.specs.Lengths.{Lengths};
-ghost use Rattle.product.specs.Room.{lineWay, Raising, RaisesTo, linedAt, Plain, Joins, Room, LineRoom, Whole, LineWhole, Times, Put, Stands, Made};
+ghost use Rattle.product_linear.specs.Raise.{Raising, linedAt};
+ghost use Rattle.product.specs.Room.{lineWay, RaisesTo, Plain, Joins, Room, LineRoom, Whole, LineWhole, Times, Put, Stands, Made};
 
 // A constant alone.
 fn just(c: f64) -> Linear
@@ -219,7 +223,10 @@ pub fn product(
     out: &mut [f64],
 ) -> [usize; 4]
     requires { ⌜ Room (now work) pa ea la pb eb lb spare limits stage (length (now out)) ⌝ }
-    ensures { λ r. ⌜ Made (productOf stage limits (block la (part pa ea (now (work .entry)))) (block lb (part pb eb (now (work .entry))))) spare (now (work .entry)) (now (work .exit)) (now (out .exit)) r ⌝ }
+    ensures { λ r.
+        ⌜ Made (productOf stage limits (block la (part pa ea (now (work .entry))))
+        (block lb (part pb eb (now (work .entry))))) spare (now (work .entry))
+        (now (work .exit)) (now (out .exit)) r ⌝ }
 {
     let w = choose(&work[pa..ea], la, &work[pb..eb], lb, stage);
     let kind = w.kind;
@@ -247,7 +254,9 @@ fn linear_product(
     out: &mut [f64],
 ) -> [usize; 4]
     requires { ⌜ LineRoom (now work) p e n (line .variable) spare limits stage (length (now out)) ⌝ }
-    ensures { λ r. ⌜ Made (linearProduct (λ x. productOf (stage - 1) limits x (constantBlock (line .c))) limits line (block n (part p e (now (work .entry))))) spare (now (work .entry)) (now (work .exit)) (now (out .exit)) r ⌝ }
+    ensures { λ r.
+        ⌜ Made (linearProduct (λ x. productOf (stage - 1) limits x (constantBlock (line .c))) limits line
+        (block n (part p e (now (work .entry))))) spare (now (work .entry)) (now (work .exit)) (now (out .exit)) r ⌝ }
 {
     let r = raise_to(&work[p..e], n, line, limits, out);
     let c = line.c;
@@ -298,7 +307,10 @@ pub fn times(
     out: &mut [f64],
 ) -> [usize; 4]
     requires { ⌜ Room (now work) pa ea la pb eb lb spare limits 1 (length (now out)) ⌝ }
-    ensures { λ r. ⌜ Made (multiplied limits (block la (part pa ea (now (work .entry)))) (block lb (part pb eb (now (work .entry))))) spare (now (work .entry)) (now (work .exit)) (now (out .exit)) r ⌝ }
+    ensures { λ r.
+        ⌜ Made (multiplied limits (block la (part pa ea (now (work .entry))))
+        (block lb (part pb eb (now (work .entry))))) spare (now (work .entry))
+        (now (work .exit)) (now (out .exit)) r ⌝ }
 {
     if is_zero(&work[pa..ea], la) | is_zero(&work[pb..eb], lb) {
         return zero_to(out);
@@ -306,7 +318,8 @@ pub fn times(
     product(work, pa, ea, la, pb, eb, lb, spare, limits, 1, out)
 }
 
-// The block with the lengths n times c, and m times it, shifted up by one in v; r are the lengths of the result, no less than n.
+// The block with the lengths n times c, and m times it, shifted up by one in v; r are the lengths of the result, no
+// less than n.
 fn line_up(a: &[f64], n: [usize; 4], v: usize, c: f64, m: f64, r: [usize; 4], to: &mut [f64])
     requires { ⌜ Raising n v r (length (now a)) (length (now to)) ⌝ ∗ ⌜ at n v ≤ at r v ⌝ }
     ensures { λ _. ⌜ now (to .exit) ≡ table (count r) (λ k. linedAt v c m (block n (now (a .entry))) (index r k)) ⌝ }
@@ -325,7 +338,9 @@ fn line_to(
     out: &mut [f64],
 ) -> [usize; 4]
     requires { ⌜ RaisesTo n (line .variable) limits (length (now a)) (length (now out)) ⌝ ∗ ⌜ 1 < count n ⌝ }
-    ensures { λ r. ⌜ Put (joinedBlock false (raised limits (line .variable) (line .m) (block n (now (a .entry)))) (scaled (line .c) (block n (now (a .entry))))) (now (out .entry)) (now (out .exit)) r ⌝ }
+    ensures { λ r.
+        ⌜ Put (joinedBlock false (raised limits (line .variable) (line .m) (block n (now (a .entry))))
+        (scaled (line .c) (block n (now (a .entry))))) (now (out .entry)) (now (out .exit)) r ⌝ }
 {
     let v = line.variable;
     let r = grown_to(limits, v, n);
@@ -384,7 +399,8 @@ fn product_whole(
     plain(a, la, b, lb, kind, c, limits, out)
 }
 
-// The product of two operands with the lengths la and lb, to the front of `out`: zero is tested before the cut. n is the announced count.
+// The product of two operands with the lengths la and lb, to the front of `out`: zero is tested before the cut. n is
+// the announced count.
 fn multiply_front(
     a: &[f64],
     la: [usize; 4],

@@ -1,5 +1,5 @@
-// A right factor that leaves the left operand's header as it is (crate kept_headers): no limit cuts, the left operand's word is the answer's, and a
-// constant or a linear factor takes one pass.
+// A right factor that leaves the left operand's header as it is (crate kept_headers): no limit cuts, the left operand's
+// word is the answer's, and a constant or a linear factor takes one pass.
 use crate::kernel::choose;
 use gates::stored_of;
 use model::Answer;
@@ -48,7 +48,8 @@ fn light_way(a: &[f64], la: [usize; 4], b: &[f64], lb: [usize; 4]) -> Way
     long_way()
 }
 
-// How many places the answer has, if a product by the right factor has the left operand's header, more places than one, and room; else 0.
+// How many places the answer has, if a product by the right factor has the left operand's header, more places than one,
+// and room; else 0.
 fn own_count(ah: u64, am: usize, bh: u64, bm: usize, lent: usize, scratch: usize) -> usize
     ensures { λ r. ⌜ ((r ≡ 0 → ⊥) → Owns ah am bh bm lent scratch r) ⌝ }
 {
@@ -102,7 +103,8 @@ fn short_into(w: Way, a: &[f64], n: [usize; 4], to: &mut [f64])
 pub fn multiply_short(w: Way, ah: u64, a: &[f64], out: &mut [f64], scratch: &mut [f64]) -> Answer
     requires { ⌜ ShortRoom w (headerOf ah) (length (now a)) (length (now out)) (length (now scratch)) ⌝ }
     ensures answer { λ r. ⌜ r ≡ Done ah ⌝ }
-    ensures written { λ r. ⌜ now (out .exit) ≡ shortPlaces w (headerOf ah .lengths) (take (stored (headerOf ah)) (now (a .entry))) ++ drop (stored (headerOf ah)) (now (out .entry)) ⌝ }
+    ensures written { λ r. ⌜ now (out .exit) ≡ shortPlaces w (headerOf ah .lengths) (take (stored (headerOf ah)) (now (a .entry)))
+        ++ drop (stored (headerOf ah)) (now (out .entry)) ⌝ }
     ensures cleared { λ r. ⌜ now (scratch .exit) ≡ zeros (8 * stored (headerOf ah)) ++ drop (8 * stored (headerOf ah)) (now (scratch .entry)) ⌝ }
 {
     let x = header_of(ah);

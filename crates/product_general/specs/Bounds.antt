@@ -44,7 +44,8 @@ pub turn : {nx ny k a b j : ℕ} → 0 < ny → a ≡ lo ny k → b ≡ min (k +
 turn p ea eb h l = record { below = omega arith; left = omega arith; right = omega arith }
 
 -- the rows that are multiplied lie in their blocks
-module _ {lx sx ly sy r sr : List ℕ} (g : Strided lx sx ly sy r sr) {v k j : ℕ} {nx ny nr : ℕ} (p : Pairing lx ly r v k nx ny nr) (t : Turn (at lx v) (at ly v) k j) where
+module _ {lx sx ly sy r sr : List ℕ} (g : Strided lx sx ly sy r sr) {v k j : ℕ} {nx ny nr : ℕ}
+    (p : Pairing lx ly r v k nx ny nr) (t : Turn (at lx v) (at ly v) k j) where
   pub left-in : j * at sx v + at sx v ≤ nx
   left-in = row-in lx (p .some) (t .left) (stride-at lx (g .by-x) (p .some)) (p .room-x)
 
@@ -54,7 +55,8 @@ module _ {lx sx ly sy r sr : List ℕ} (g : Strided lx sx ly sy r sr) {v k j : �
 pub length-on : (p : ℕ) (xs : List Float) → length (fromOn xs p) ≡ length xs - p
 length-on p xs = simp (length-take, length-drop) (omega arith)
 
-pub rowing-next : {lx sx ly sy r sr : List ℕ} (g : Strided lx sx ly sy r sr) {v k j nr mr : ℕ} (xs ys : List Float) (p : Pairing lx ly r v k (length xs) (length ys) nr) → Turn (at lx v) (at ly v) k j → mr ≡ inRow r v
+pub rowing-next : {lx sx ly sy r sr : List ℕ} (g : Strided lx sx ly sy r sr) {v k j nr mr : ℕ} (xs ys : List Float)
+    (p : Pairing lx ly r v k (length xs) (length ys) nr) → Turn (at lx v) (at ly v) k j → mr ≡ inRow r v
     → Rowing lx ly r (v + 1) (length (fromOn xs (j * at sx v))) (length (fromOn ys ((k - j) * at sy v))) mr
 rowing-next {lx} {sx} {ly} {sy} g {v} {k} {j} xs ys p t e =
     let h = p .some in
@@ -66,7 +68,8 @@ rowing-next {lx} {sx} {ly} {sy} g {v} {k} {j} xs ys p t e =
     }
 
 -- the row k of the result
-module _ {lx sx ly sy r sr : List ℕ} (g : Strided lx sx ly sy r sr) {v nx ny nr : ℕ} (p : Rowing lx ly r v nx ny nr) (m : Several r v) {k : ℕ} (h : k < at r v) where
+module _ {lx sx ly sy r sr : List ℕ} (g : Strided lx sx ly sy r sr) {v nx ny nr : ℕ} (p : Rowing lx ly r v nx ny nr)
+    (m : Several r v) {k : ℕ} (h : k < at r v) where
   pub result-in : k * at sr v + at sr v ≤ nr
   result-in = let f = p .full in row-in r (m .some) h (stride-at r (g .by-r) (m .some)) (omega arith)
 

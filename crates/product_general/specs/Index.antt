@@ -1,4 +1,5 @@
--- The index of a place of a sub-block: of p = k * s + q, where s places lie in a row of the variable v, and q is one of them.
+-- The index of a place of a sub-block: of p = k * s + q, where s places lie in a row of the variable v, and q is one of
+-- them.
 use Prim.Native.Nat.{ℕ, _+_, _-_, _*_, _/_, _%_, _<_}
 use mathlib.Core.List.{List}
 use mathlib.Core.Path.{_≡_, sym, ap, _∙_}
@@ -15,7 +16,9 @@ inRow r v = span r (4 - (v + 1)) (v + 1)
 
 module _ (k : ℕ) {n : ℕ} (q : ℕ) (h : 0 < n) where
   pub row-div : (k * n + q) / n ≡ k + q / n
-  row-div = let e : k * n + q ≡ q + k * n = omega arith in let f : q / n + k ≡ k + q / n = omega arith in ap (λ (x : ℕ). x / n) e ∙ (add-mul-div-right q k h ∙ f)
+  row-div = let e : k * n + q ≡ q + k * n = omega arith in
+      let f : q / n + k ≡ k + q / n = omega arith in
+      ap (λ (x : ℕ). x / n) e ∙ (add-mul-div-right q k h ∙ f)
 
   pub row-mod : (k * n + q) % n ≡ q % n
   row-mod = let e : k * n + q ≡ q + k * n = omega arith in ap (λ (x : ℕ). x % n) e ∙ add-mul-mod-self-right q k n
@@ -67,7 +70,8 @@ module _ (r : List ℕ) (g : Lengths r) (k q : ℕ) where
       record { here = ap (λ (x : ℕ). x % at r 3) e ∙ mod-eq-of-lt h; after = λ w p m. absurd (omega arith) }
 
   -- the numbers after v
-  after-of : (v p : ℕ) → (v < 1 → at (index r p) 1 ≡ at (index r q) 1) → (v < 2 → at (index r p) 2 ≡ at (index r q) 2) → (v < 3 → at (index r p) 3 ≡ at (index r q) 3)
+  after-of : (v p : ℕ) → (v < 1 → at (index r p) 1 ≡ at (index r q) 1) → (v < 2 → at (index r p) 2 ≡ at (index r q) 2)
+      → (v < 3 → at (index r p) 3 ≡ at (index r q) 3)
       → (w : ℕ) → v < w → w < 4 → at (index r p) w ≡ at (index r q) w
   after-of v p a b d w h l = each (λ w. v < w → at (index r p) w ≡ at (index r q) w) (λ h. absurd (omega arith)) a b d w l h
 

@@ -1,8 +1,9 @@
--- Two long variables: a plane, whose rows are made of pairs of lines. xs has rows of tx places, the first nx of them a line; ys rows of ty, and ny.
+-- Two long variables: a plane, whose rows are made of pairs of lines. xs has rows of tx places, the first nx of them a
+-- line; ys rows of ty, and ny.
 use Prim.Native.Nat.{ℕ, suc, _+_, _-_, _*_, _/_, _%_, _≤_, _<_, min}
 use mathlib.Core.List.{List, _++_}
-use mathlib.Core.Bool.{true, false}
-use mathlib.Core.Path.{_≡_, refl, sym, ap, _∙_}
+use mathlib.Core.Bool.{true}
+use mathlib.Core.Path.{_≡_, sym, ap, _∙_}
 use native.Mathlib.Omega.{arith}
 use native.Mathlib.Nat.{mul-one, suc-mul, mul-le-mul-right, le-refl, div-add-mod', mod-lt, div-lt-iff-lt-mul, mod-eq-of-lt, div-eq-of-lt}
 use lib.ListN.{length, getD, take, drop, length-take, length-drop}
@@ -17,15 +18,16 @@ use Rattle.model.specs.Header.{span}
 use Rattle.model.specs.Places.{index, strides}
 use Rattle.model.specs.General.{lo, steps, line, alone, productAt}
 use Rattle.shape_words.specs.Lengths.{Lengths, lengths-pos}
-use Rattle.blocks.specs.Fill.{filled-row, filled-rest, filled-all}
+use Rattle.lists.specs.Fill.{filled-row, filled-rest, filled-all}
 use Rattle.product_general.specs.Index.{inRow, row-div, row-mod, split-at}
 use Rattle.product_general.specs.Product.{span-more, span-pos, row-in, first-in, stride-at, alone-one, product-line, product-rows}
-use Rattle.product_general.specs.Rows.{Strided, Rowing, Several, TwoLong, placeOf, rowsOf}
+use Rattle.product_general.specs.Rows.{Strided, Rowing, Several, TwoLong, rowsOf}
 use Rattle.product_lines.specs.Added.{lineAdded}
 use Rattle.product_general.specs.Pairs.{fromOn, rows-line}
 use Rattle.product_general.specs.Bounds.{most, line-size, turn}
 
--- the lines of the pairs from a up to b of the row k are there; n, m and r are the lengths of the buffers and of the row
+-- the lines of the pairs from a up to b of the row k are there; n, m and r are the lengths of the buffers and of the
+-- row
 pub record Lining (tx nx ty ny k a b n m r : ℕ) : Type 0 where
   pub below : b ≤ k + 1
   pub small : k < 64
@@ -69,7 +71,9 @@ pub row-there : (s : ℕ) {k h r : ℕ} → k < h → r ≡ h * s → k * s + s 
 row-there s {k} {h} l e = let c : suc k * s ≤ h * s = mul-le-mul-right s l in omega (arith, c, suc-mul k s)
 
 -- the row k, from the pairs that it has
-pub lining-of : {mx tx nx my ty ny h s n m r : ℕ} (p : Planing mx tx nx my ty ny h s n m r) {k a b e : ℕ} → k < h → a ≡ lo my k → b ≡ min (k + 1) mx → e ≡ s → (out : List Float) → Lining tx nx ty ny k a b n m (length (take e (drop (k * s) out)))
+pub lining-of : {mx tx nx my ty ny h s n m r : ℕ} (p : Planing mx tx nx my ty ny h s n m r) {k a b e : ℕ} → k < h
+    → a ≡ lo my k → b ≡ min (k + 1) mx → e ≡ s → (out : List Float)
+    → Lining tx nx ty ny k a b n m (length (take e (drop (k * s) out)))
 lining-of {mx} {my = my} {s = s} p {k} {a} {b} {e} l ea eb ee out =
     let u = p .many in
     let z = p .size in
@@ -102,7 +106,9 @@ module _ {lx sx ly sy r sr : List ℕ} (g : Strided lx sx ly sy r sr) {v nx ny n
       }
 
 module _ (xs : List Float) (mx tx nx : ℕ) (ys : List Float) (my ty ny s : ℕ) where
-  row-made : (k : ℕ) {a b : ℕ} {old out row : List Float} → Filled (k * s) (planeAt xs mx tx nx ys my ty ny s old) old out → a ≡ lo my k → b ≡ min (k + 1) mx → k * s + s ≤ length old
+  row-made : (k : ℕ) {a b : ℕ} {old out row : List Float}
+      → Filled (k * s) (planeAt xs mx tx nx ys my ty ny s old) old out → a ≡ lo my k → b ≡ min (k + 1) mx
+      → k * s + s ≤ length old
       → row ≡ linesOf xs tx nx ys ty ny k a b (take s (drop (k * s) out)) → row ≡ table s (λ q. planeAt xs mx tx nx ys my ty ny s old (k * s + q))
   unfolding linesOf
   row-made k {a} {b} {old} {out} {row} f ea eb l e =
@@ -115,20 +121,27 @@ module _ (xs : List Float) (mx tx nx : ℕ) (ys : List Float) (my ty ny s : ℕ)
       ∙ table-same _ _ s (λ q l. rw (o q l, d q l, m q l, ea, eb)))
 
   -- a turn of the loop over k, as the row that was lent comes back
-  pub plane-next : (k : ℕ) {a b e : ℕ} {old out row : List Float} → Filled (k * s) (planeAt xs mx tx nx ys my ty ny s old) old out → a ≡ lo my k → b ≡ min (k + 1) mx → e ≡ s → k * s + s ≤ length old
-      → row ≡ linesOf xs tx nx ys ty ny k a b (take e (drop (k * s) out)) → Filled ((k + 1) * s) (planeAt xs mx tx nx ys my ty ny s old) old (putMid (k * s) e out row)
+  pub plane-next : (k : ℕ) {a b e : ℕ} {old out row : List Float}
+      → Filled (k * s) (planeAt xs mx tx nx ys my ty ny s old) old out → a ≡ lo my k → b ≡ min (k + 1) mx → e ≡ s
+      → k * s + s ≤ length old
+      → row ≡ linesOf xs tx nx ys ty ny k a b (take e (drop (k * s) out))
+      → Filled ((k + 1) * s) (planeAt xs mx tx nx ys my ty ny s old) old (putMid (k * s) e out row)
   plane-next k {a} {b} {e} {old} {out} {row} f ea eb ee l h =
-      let d : row ≡ linesOf xs tx nx ys ty ny k a b (take s (drop (k * s) out)) = h ∙ ap (λ (i : ℕ). linesOf xs tx nx ys ty ny k a b (take i (drop (k * s) out))) ee in
-      let p : putMid (k * s) e out row ≡ take (k * s) out ++ (row ++ drop (k * s + s) out) = rw ee (ap (λ (l : List Float). take (k * s) out ++ (row ++ l)) (drop-drop s (k * s) out)) in
+      let d : row ≡ linesOf xs tx nx ys ty ny k a b (take s (drop (k * s) out)) =
+      h ∙ ap (λ (i : ℕ). linesOf xs tx nx ys ty ny k a b (take i (drop (k * s) out))) ee in
+      let p : putMid (k * s) e out row ≡ take (k * s) out ++ (row ++ drop (k * s + s) out) =
+      rw ee (ap (λ (l : List Float). take (k * s) out ++ (row ++ l)) (drop-drop s (k * s) out)) in
       let t : k * s + s ≡ (k + 1) * s = omega arith in
       rw (p, ← t) (filled-row s f (row-made k f ea eb l d) l)
 
-  pub plane-end : (k : ℕ) {old out : List Float} → Filled (k * s) (planeAt xs mx tx nx ys my ty ny s old) old out → length old ≡ k * s → out ≡ planeOf xs mx tx nx ys my ty ny s old
+  pub plane-end : (k : ℕ) {old out : List Float} → Filled (k * s) (planeAt xs mx tx nx ys my ty ny s old) old out
+      → length old ≡ k * s → out ≡ planeOf xs mx tx nx ys my ty ny s old
   unfolding planeOf
   plane-end k f e = filled-all f (omega arith) (omega arith)
 
 -- one pair, of the whole of both: one long variable is left
-pub rows-lined : (lx ly r : List ℕ) (v : ℕ) (xs ys old : List Float) {new : List Float} → Lengths r → v < 4 → alone r (4 - (v + 1)) v ≡ true → length old ≡ span r (4 - v) v
+pub rows-lined : (lx ly r : List ℕ) (v : ℕ) (xs ys old : List Float) {new : List Float} → Lengths r → v < 4
+    → alone r (4 - (v + 1)) v ≡ true → length old ≡ span r (4 - v) v
     → new ≡ linesOf xs 0 (at lx v) ys 0 (at ly v) 0 0 1 old → new ≡ rowsOf lx ly r v xs ys old
 unfolding linesOf walk
 rows-lined lx ly r v xs ys old g h t n e = rows-line lx ly r v xs ys old g h t n e
@@ -136,7 +149,8 @@ rows-lined lx ly r v xs ys old g h t n e = rows-line lx ly r v xs ys old g h t n
 -- a plane is what the variables from v on make, where the one after v is the last long one
 module _ (lx ly r : List ℕ) (g : Lengths r) {v : ℕ} (m : Several r v) (z : TwoLong r v) where
   place-made : (xs ys : List Float) (acc : Float) (p : ℕ) → p < span r (4 - v) v
-      → walk (lineAt xs (inRow lx v) (at lx (v + 1)) ys (inRow ly v) (at ly (v + 1)) (p / inRow r v) (p % inRow r v)) (steps (at lx v) (at ly v) (p / inRow r v)) (lo (at ly v) (p / inRow r v)) acc
+      → walk (lineAt xs (inRow lx v) (at lx (v + 1)) ys (inRow ly v) (at ly (v + 1)) (p / inRow r v) (p % inRow r v))
+      (steps (at lx v) (at ly v) (p / inRow r v)) (lo (at ly v) (p / inRow r v)) acc
       ≡ productAt lx ly r (index r p) (4 - v) v xs ys acc
   place-made xs ys acc p l =
       let w = z .next in
@@ -156,7 +170,8 @@ module _ (lx ly r : List ℕ) (g : Lengths r) {v : ℕ} (m : Several r v) (z : T
       let j : at (index r (p % s)) (v + 1) ≡ p % s = ap (λ (x : ℕ). at (index r x) (v + 1)) (sym u) ∙ split-at r g (p % s) 0 (v + 1) w n (omega arith) .here in
       let b : at i (v + 1) ≡ p % s = ap (λ (x : ℕ). at (index r x) (v + 1)) (sym f) ∙ (d .after (v + 1) (omega arith) w ∙ j) in
       sym (product-rows lx ly r i v xs ys acc (m .some) (m .more)
-      ∙ (walk-same _ (lineAt xs (inRow lx v) (at lx (v + 1)) ys (inRow ly v) (at ly (v + 1)) (at i v) (at i (v + 1))) (steps (at lx v) (at ly v) (at i v)) (lo (at ly v) (at i v)) acc
+      ∙ (walk-same _ (lineAt xs (inRow lx v) (at lx (v + 1)) ys (inRow ly v) (at ly (v + 1)) (at i v) (at i (v + 1)))
+      (steps (at lx v) (at ly v) (at i v)) (lo (at ly v) (at i v)) acc
       (λ j a c y. product-line lx ly r i (v + 1) _ _ y w t) ∙ rw (h, b)))
 
   pub rows-plane : (xs ys old : List Float) {tx ty s : ℕ} {new : List Float} → tx ≡ inRow lx v → ty ≡ inRow ly v → s ≡ inRow r v → length old ≡ span r (4 - v) v

@@ -89,15 +89,20 @@ module _ (lx ly r i : List ℕ) (v : ℕ) (xs ys : List Float) (acc : Float) whe
   unfolding productAt
   product-end h = ap (λ (w : ℕ). productAt lx ly r i (4 - w) w xs ys acc) h
 
-  pub product-line : v < 4 → alone r (4 - (v + 1)) v ≡ true → productAt lx ly r i (4 - v) v xs ys acc ≡ add binary64 acc (line xs ys (at lx v) (at ly v) (at i v))
+  pub product-line : v < 4 → alone r (4 - (v + 1)) v ≡ true
+      → productAt lx ly r i (4 - v) v xs ys acc ≡ add binary64 acc (line xs ys (at lx v) (at ly v) (at i v))
   unfolding productAt
   product-line h t = ap (λ (n : ℕ). productAt lx ly r i n v xs ys acc) (left h) ∙ rw t
 
   pub product-rows : v < 4 → alone r (4 - (v + 1)) v ≡ false
-      → productAt lx ly r i (4 - v) v xs ys acc ≡ walk (stepAt lx ly r i v (at i v) (inRow lx v) (inRow ly v) xs ys) (steps (at lx v) (at ly v) (at i v)) (lo (at ly v) (at i v)) acc
+      → productAt lx ly r i (4 - v) v xs ys acc
+      ≡ walk (stepAt lx ly r i v (at i v) (inRow lx v) (inRow ly v) xs ys) (steps (at lx v) (at ly v) (at i v))
+      (lo (at ly v) (at i v)) acc
   unfolding productAt
   product-rows h t =
       ap (λ (n : ℕ). productAt lx ly r i n v xs ys acc) (left h)
       ∙ (rw t (sym (ap
-      (λ (w : ℕ). walk (λ j a. productAt lx ly r i (4 - (v + 1)) w (drop (j * span lx (4 - (v + 1)) w) xs) (drop ((at i v - j) * span ly (4 - (v + 1)) w) ys) a) (steps (at lx v) (at ly v) (at i v)) (lo (at ly v) (at i v)) acc)
+      (λ (w : ℕ). walk (λ j a. productAt lx ly r i (4 - (v + 1)) w (drop (j * span lx (4 - (v + 1)) w) xs)
+      (drop ((at i v - j) * span ly (4 - (v + 1)) w) ys) a) (steps (at lx v) (at ly v) (at i v))
+      (lo (at ly v) (at i v)) acc)
       (add-one v))))

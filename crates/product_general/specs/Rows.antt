@@ -1,4 +1,5 @@
--- What the functions that go through the rows ask and make: lx, ly and r the lengths of the left, the right and the result; sx, sy and sr their strides.
+-- What the functions that go through the rows ask and make: lx, ly and r the lengths of the left, the right and the
+-- result; sx, sy and sr their strides.
 use Prim.Native.Nat.{ℕ, _+_, _-_, _≤_, _<_}
 use mathlib.Core.List.{List}
 use mathlib.Core.Bool.{true, false}

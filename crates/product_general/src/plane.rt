@@ -1,11 +1,12 @@
-// Two long variables: a plane, whose rows are made of pairs of lines. It takes plain numbers in place of the lengths and strides: most calls
-// of a product are made here.
+// Two long variables: a plane, whose rows are made of pairs of lines. It takes plain numbers in place of the lengths
+// and strides: most calls of a product are made here.
 ghost use mathlib.Core.Path.{_≡_};
 ghost use lib.ListN.{length};
 ghost use Rattle.product_general.specs.Plane.{Lining, Planing, linesOf, planeOf};
 ghost use Rattle.product_general.specs.Rows.{Strided, Rowing, Several, TwoLong, rowsOf};
 
-// What each pair of lines, for j from a up to b, adds to the row k, j ascending. tx and ty are the places in a row, nx and ny those of a line.
+// What each pair of lines, for j from a up to b, adds to the row k, j ascending. tx and ty are the places in a row, nx
+// and ny those of a line.
 pub fn each_line(
     xs: &[f64],
     tx: usize,

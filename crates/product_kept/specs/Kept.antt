@@ -52,7 +52,10 @@ keeps-all {x} {y} e a b c d ve k0 k1 k2 k3 h =
     let h1 = and-left (e && a) b h2 in
     record {
       vars = ve (and-left e a h1);
-      var = each (λ k. KeepsLength (limit x k) (len x k) (limit y k) (len y k)) (k0 (and-right e a h1)) (k1 (and-right (e && a) b h2)) (k2 (and-right ((e && a) && b) c h3)) (k3 (and-right (((e && a) && b) && c) d h));
+      var =
+          each (λ k. KeepsLength (limit x k) (len x k) (limit y k) (len y k)) (k0 (and-right e a h1))
+          (k1 (and-right (e && a) b h2)) (k2 (and-right ((e && a) && b) c h3))
+          (k3 (and-right (((e && a) && b) && c) d h));
     }
 
 module _ {x y : Header} (r : Ruled x) (h : Keeps x y) where
@@ -83,13 +86,15 @@ same-limit v k l = decide (ltb k v) (λ e. rw e (omega arith)) (λ e. rw e)
 keeps-limits : {x y : Header} → Regular x → Keeps x y → minDegreesP1 x y ≡ x .limits
 unfolding minDegreesP1
 keeps-limits {x} {y} r h =
-    four-same (λ k. minLimit (x .vars) (y .vars) k (limit x k) (limit y k)) (limit x) (λ k l. rw (← h .vars, h .var k l .same) (same-limit (x .vars) k (limit x k))) ∙ sym (r .ls)
+    four-same (λ k. minLimit (x .vars) (y .vars) k (limit x k) (limit y k)) (limit x)
+    (λ k l. rw (← h .vars, h .var k l .same) (same-limit (x .vars) k (limit x k))) ∙ sym (r .ls)
 
 pub keeps-announced : {x y : Header} → Regular x → Keeps x y → announced Product x y ≡ x
 unfolding announced paired
 keeps-announced {x} {y} r h =
     let f : List ℕ → Header = λ l. header (max (x .vars) (y .vars)) l (four (λ k. min (at l k) (min (at l k) (len x k) + min (at l k) (len y k) - 1))) in
     let ne : four (λ k. min (limit x k) (min (limit x k) (len x k) + min (limit x k) (len y k) - 1)) ≡ x .lengths =
-    four-same (λ k. min (limit x k) (min (limit x k) (len x k) + min (limit x k) (len y k) - 1)) (len x) (λ k l. let g = ruled-at (r .rules) k l in h .var k l .own (g .pos) (g .fit)) ∙ sym (r .ns) in
+    four-same (λ k. min (limit x k) (min (limit x k) (len x k) + min (limit x k) (len y k) - 1)) (len x)
+    (λ k l. let g = ruled-at (r .rules) k l in h .var k l .own (g .pos) (g .fit)) ∙ sym (r .ns) in
     let ve : max (x .vars) (y .vars) ≡ x .vars = rw (← h .vars) (omega arith) in
     ap f (keeps-limits r h) ∙ (ap (λ (n : List ℕ). header (max (x .vars) (y .vars)) (x .limits) n) ne ∙ ap (λ (v : ℕ). header v (x .limits) (x .lengths)) ve)

@@ -1,5 +1,5 @@
-// A right factor that leaves the left operand's header as it is: the same variables and limits, and in each variable one row, or all rows of the
-// left operand stored.
+// A right factor that leaves the left operand's header as it is: the same variables and limits, and in each variable
+// one row, or all rows of the left operand stored.
 use model::Header;
 ghost use mathlib.Core.Path.{_≡_};
 ghost use mathlib.Core.Bool.{true};

@@ -1,3 +1,4 @@
 pub mod Rows
 pub mod Raised
 pub mod Lined
+pub mod Raise

@@ -15,12 +15,13 @@ use borrow.Rule.Slice.PartMut.{putMid}
 use Rattle.lists.specs.Test.{decide}
 use Rattle.lists.specs.Table.{table, table-same, length-table, Filled}
 use Rattle.model.specs.Refusals.{zeroF, zeros}
-use Rattle.blocks.specs.Fill.{filled-row}
+use Rattle.lists.specs.Fill.{filled-row}
 use Rattle.product_linear.specs.Rows.{raisedRow, raisedFlat, Rows}
 
 -- ---- one row
 
-pub row-start : (m : Float) (s : ℕ) (a d : List Float) {z : List Float} {k : ℕ} → z ≡ zeros k → k ≡ s → s ≤ length d → Filled s (raisedRow m s a) (z ++ drop s d) (z ++ drop s d)
+pub row-start : (m : Float) (s : ℕ) (a d : List Float) {z : List Float} {k : ℕ} → z ≡ zeros k → k ≡ s → s ≤ length d
+    → Filled s (raisedRow m s a) (z ++ drop s d) (z ++ drop s d)
 row-start m s a d {z} {k} e f h =
     let l : length z ≡ s = ap length e ∙ (length-table (λ j. zeroF) k ∙ f) in
     let t : z ≡ table s (raisedRow m s a) = e ∙ (ap zeros f ∙ table-same (λ j. zeroF) (raisedRow m s a) s (λ j g. simp (lt-ltb _ _ g))) in
@@ -42,7 +43,13 @@ pub along-first : {width step : ℕ} → Along width step 0 0
 along-first = record { turns = 0; is-from = omega arith; is-at = omega arith }
 
 pub along-next : {width step from at : ℕ} → Along width step from at → Along width step (from + width) (at + step)
-along-next {width} {step} a = record { turns = a .turns + 1; is-from = ap (λ (x : ℕ). x + width) (a .is-from) ∙ omega arith; is-at = ap (λ (x : ℕ). x + step) (a .is-at) ∙ omega arith }
+along-next {width} {step} a =
+    record {
+      turns = a .turns + 1;
+      is-from = ap (λ (x : ℕ). x + width) (a .is-from)
+          ∙ omega arith;
+      is-at = ap (λ (x : ℕ). x + step) (a .is-at) ∙ omega arith;
+    }
 
 less-of : (x y s : ℕ) → x * s < y * s → x < y
 less-of x y s g = decide (ltb x y) (λ e. ltb-true x y e) (λ e. absurd (omega (arith, g, mul-le-mul-right s (ltb-false x y e))))
@@ -57,7 +64,8 @@ module _ {s width step ma mt : ℕ} (q : Rows s width step ma mt) {from at' : �
       (omega (arith, x, a .is-from, q .room), omega (arith, y, a .is-at, q .full))
 
   -- what was written to it
-  pub row-is : (m : Float) (xs : List Float) {row o : List Float} {z k : ℕ} → row ≡ take z (drop from xs) → z ≡ width → o ≡ table k (raisedRow m s row) → k ≡ step
+  pub row-is : (m : Float) (xs : List Float) {row o : List Float} {z k : ℕ} → row ≡ take z (drop from xs) → z ≡ width
+      → o ≡ table k (raisedRow m s row) → k ≡ step
       → o ≡ table step (λ j. raisedFlat m s width step xs (at' + j))
   row-is m xs {row} {o} {z} er ez eo ek =
       eo ∙ (ap (λ (x : ℕ). table x (raisedRow m s row)) ek ∙ table-same (raisedRow m s row) (λ j. raisedFlat m s width step xs (at' + j)) step (λ j g.
@@ -68,11 +76,13 @@ module _ {s width step ma mt : ℕ} (q : Rows s width step ma mt) {from at' : �
       (λ e. let e' : ltb ((at' + j) % step) s ≡ true = ap (λ (x : ℕ). ltb x s) r ∙ e in simp (e, e'))
       (λ e.
       let b : j - s < z = omega (arith, ltb-false j s e, q .most, ez, g) in
-      let y : getD row (j - s) nan ≡ getD (drop from xs) (j - s) nan = ap (λ (l : List Float). getD l (j - s) nan) er ∙ getD-take z (drop from xs) (j - s) nan b in
+      let y : getD row (j - s) nan ≡ getD (drop from xs) (j - s) nan =
+      ap (λ (l : List Float). getD l (j - s) nan) er ∙ getD-take z (drop from xs) (j - s) nan b in
       rw (r, e) (ap (λ (x : Float). mul binary64 x m) (y ∙ ap (λ (x : ℕ). getD (drop x xs) (j - s) nan) f)))))
 
 -- one row more
-pub rows-more : (w q : ℕ) {at' : ℕ} {f : ℕ → Float} {d out row : List Float} → Filled at' f d out → row ≡ table w (λ k. f (at' + k)) → at' + w ≤ length d → q ≡ w → Filled (at' + w) f d (putMid at' q out row)
+pub rows-more : (w q : ℕ) {at' : ℕ} {f : ℕ → Float} {d out row : List Float} → Filled at' f d out
+    → row ≡ table w (λ k. f (at' + k)) → at' + w ≤ length d → q ≡ w → Filled (at' + w) f d (putMid at' q out row)
 rows-more w q {at'} {f} {d} {out} {row} e r h eq =
     let k : drop q (drop at' out) ≡ drop (at' + w) out = drop-drop q at' out ∙ ap (λ (j : ℕ). drop (at' + j) out) eq in
     rw k (filled-row w e r h)

@@ -16,8 +16,9 @@ raisedRow m s a k = cond (ltb k s) zeroF (mul binary64 (getD a (k - s) nan) m)
 abbrev pub raisedFlat : Float → ℕ → ℕ → ℕ → List Float → ℕ → Float
 raisedFlat m s width step a p = raisedRow m s (drop (p / step * width) a) (p % step)
 
--- under a linear factor, c and m: what is shifted there added to +0.0, then c times the row, as far as its `width` places reach. First the three parts
--- of such a row: up to s, where +0.0 is shifted to; up to the width, where a is shifted and b stays; past it
+-- under a linear factor, c and m: what is shifted there added to +0.0, then c times the row, as far as its `width`
+-- places reach. First the three parts of such a row: up to s, where +0.0 is shifted to; up to the width, where a is
+-- shifted and b stays; past it
 abbrev pub linedFirst : Float → List Float → ℕ → Float
 linedFirst c a k = add binary64 (add binary64 zeroF zeroF) (mul binary64 c (getD a k nan))
 

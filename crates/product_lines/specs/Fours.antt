@@ -11,8 +11,7 @@ use Rattle.lists.specs.Table.{Filled, filled-more}
 use Rattle.lists.specs.Walk.{walk, walk-split, Walked, walked-none, walked-more, walked-end}
 use Rattle.model.specs.Refusals.{zeroF}
 use Rattle.model.specs.General.{lo, steps, term, line}
-use Rattle.product_lines.specs.Added.{lineAdded}
-use Rattle.product_lines.specs.Added.{line-more}
+use Rattle.product_lines.specs.Added.{lineAdded, line-more}
 
 -- every place that the terms from a up to b of the place k read is there; nx and ny are the lengths of the lists
 pub record Summing (k a b nx ny : ℕ) : Type 0 where
@@ -105,9 +104,12 @@ pub record Lines (xs ys : List Float) (n m k : ℕ) (z : List Float) : Type 0 wh
   pub z3 : getD z 3 nan ≡ line xs ys n m (k + 3)
 
 -- a line by its first and last term
-pub line-by : (xs ys : List Float) (n m k : ℕ) {f t : ℕ} {z : Float} → f ≡ lo m k → t ≡ min (k + 1) n → z ≡ walk (term xs ys k) (t - f) f zeroF → z ≡ line xs ys n m k
+pub line-by : (xs ys : List Float) (n m k : ℕ) {f t : ℕ} {z : Float} → f ≡ lo m k → t ≡ min (k + 1) n
+    → z ≡ walk (term xs ys k) (t - f) f zeroF → z ≡ line xs ys n m k
 unfolding line
-line-by xs ys n m k {f} {t} ef et e = e ∙ (ap (λ (j : ℕ). walk (term xs ys k) (j - f) f zeroF) et ∙ ap (λ (j : ℕ). walk (term xs ys k) (min (k + 1) n - j) j zeroF) ef)
+line-by xs ys n m k {f} {t} ef et e =
+    e ∙ (ap (λ (j : ℕ). walk (term xs ys k) (j - f) f zeroF) et
+    ∙ ap (λ (j : ℕ). walk (term xs ys k) (min (k + 1) n - j) j zeroF) ef)
 
 -- what a loop over the shared terms has come to: from a on to j, each place from its own start
 pub record Walking (xs ys : List Float) (k a j : ℕ) (o0 o1 o2 o3 s0 s1 s2 s3 : Float) : Type 0 where
@@ -118,7 +120,12 @@ pub record Walking (xs ys : List Float) (k a j : ℕ) (o0 o1 o2 o3 s0 s1 s2 s3 :
 
 pub walking-none : (xs ys : List Float) (k a : ℕ) (o0 o1 o2 o3 : Float) → Walking xs ys k a a o0 o1 o2 o3 o0 o1 o2 o3
 walking-none xs ys k a o0 o1 o2 o3 =
-    record { w0 = walked-none (term xs ys k) a o0; w1 = walked-none (term xs ys (k + 1)) a o1; w2 = walked-none (term xs ys (k + 2)) a o2; w3 = walked-none (term xs ys (k + 3)) a o3 }
+    record {
+      w0 = walked-none (term xs ys k) a o0;
+      w1 = walked-none (term xs ys (k + 1)) a o1;
+      w2 = walked-none (term xs ys (k + 2)) a o2;
+      w3 = walked-none (term xs ys (k + 3)) a o3;
+    }
 
 -- one term more, and two: p is where it stands on the left, q and q' where on the right
 module _ (xs ys : List Float) (h : ℕ) {a j p q : ℕ} {o s : Float} (w : Walked (term xs ys h) a j o s) where
@@ -126,7 +133,8 @@ module _ (xs ys : List Float) (h : ℕ) {a j p q : ℕ} {o s : Float} (w : Walke
   term-more e d = walked-more w (rw (e, d))
 
   term-two : {p' q' : ℕ} → p ≡ j → q ≡ h - j → p' ≡ j + 1 → q' ≡ h - (j + 1)
-      → Walked (term xs ys h) a (j + 2) o (add binary64 (add binary64 s (mul binary64 (getD xs p nan) (getD ys q nan))) (mul binary64 (getD xs p' nan) (getD ys q' nan)))
+      → Walked (term xs ys h) a (j + 2) o (add binary64 (add binary64 s (mul binary64 (getD xs p nan) (getD ys q nan)))
+      (mul binary64 (getD xs p' nan) (getD ys q' nan)))
   term-two e d e' d' = let i : j + 1 + 1 ≡ j + 2 = omega arith in rw (← i) (walked-more (term-more e d) (rw (e', d')))
 
 module _ {xs ys : List Float} {k a j : ℕ} {o0 o1 o2 o3 s0 s1 s2 s3 : Float} (w : Walking xs ys k a j o0 o1 o2 o3 s0 s1 s2 s3) where
@@ -156,7 +164,8 @@ module _ {xs ys : List Float} {k a j : ℕ} {o0 o1 o2 o3 s0 s1 s2 s3 : Float} (w
         w3 = term-two xs ys (k + 3) (w .w3) refl (omega arith) refl (omega arith);
       }
 
-pub walking-end : {xs ys : List Float} {k a j b : ℕ} (s : List Float) {s0 s1 s2 s3 : Float} → Walking xs ys k a j (getD s 0 nan) (getD s 1 nan) (getD s 2 nan) (getD s 3 nan) s0 s1 s2 s3 → j ≡ a + (b - a)
+pub walking-end : {xs ys : List Float} {k a j b : ℕ} (s : List Float) {s0 s1 s2 s3 : Float}
+    → Walking xs ys k a j (getD s 0 nan) (getD s 1 nan) (getD s 2 nan) (getD s 3 nan) s0 s1 s2 s3 → j ≡ a + (b - a)
     → Walks xs ys k a b s (s0 ∷ s1 ∷ s2 ∷ s3 ∷ [])
 walking-end {a = a} {b = b} s w e =
     record { z0 = walked-end (b - a) (w .w0) e; z1 = walked-end (b - a) (w .w1) e; z2 = walked-end (b - a) (w .w2) e; z3 = walked-end (b - a) (w .w3) e }
@@ -166,7 +175,8 @@ one-step : (f : ℕ → Float → Float) (j : ℕ) (y : Float) → walk f (j + 1
 unfolding walk
 one-step f j y = let e : j + 1 - j ≡ 1 = omega arith in ap (λ (n : ℕ). walk f n j y) e
 
-pub walking-last : {xs ys : List Float} {k a j b : ℕ} (s : List Float) {s0 s1 s2 s3 : Float} {z : List Float} → Walking xs ys k a j (getD s 0 nan) (getD s 1 nan) (getD s 2 nan) (getD s 3 nan) s0 s1 s2 s3
+pub walking-last : {xs ys : List Float} {k a j b : ℕ} (s : List Float) {s0 s1 s2 s3 : Float} {z : List Float}
+    → Walking xs ys k a j (getD s 0 nan) (getD s 1 nan) (getD s 2 nan) (getD s 3 nan) s0 s1 s2 s3
     → Walks xs ys k j (j + 1) (s0 ∷ s1 ∷ s2 ∷ s3 ∷ []) z → j + 1 ≡ a + (b - a) → Walks xs ys k a b s z
 walking-last {xs} {ys} {k} {a} {j} {b} s w z e =
     record {
@@ -178,7 +188,8 @@ walking-last {xs} {ys} {k} {a} {j} {b} s w z e =
 
 -- a line in three parts: up to a, from a to b, from b on
 module _ (xs ys : List Float) (n m k : ℕ) where
-  parts : {a b : ℕ} {x y z : Float} → lo m k ≤ a → a ≤ b → b ≤ min (k + 1) n → x ≡ walk (term xs ys k) (a - lo m k) (lo m k) zeroF → y ≡ walk (term xs ys k) (b - a) a x
+  parts : {a b : ℕ} {x y z : Float} → lo m k ≤ a → a ≤ b → b ≤ min (k + 1) n
+      → x ≡ walk (term xs ys k) (a - lo m k) (lo m k) zeroF → y ≡ walk (term xs ys k) (b - a) a x
       → z ≡ walk (term xs ys k) (min (k + 1) n - b) b y → z ≡ line xs ys n m k
   unfolding line
   parts {a} {b} {x} {y} {z} p q r ex ey ez =
@@ -205,7 +216,8 @@ module _ {n m k a b nx ny : ℕ} (s : Sharing n m k a b nx ny) where
   pub shared-in : Abreast k a b nx ny
   shared-in = record { ordered = s .shared; below = omega arith; left = omega arith; right = omega arith; small = s .small }
 
-  part-of : (xs ys : List Float) (h : ℕ) {f t : ℕ} {x y z : Float} → k ≤ h → h ≤ k + 3 → f ≡ lo m h → t ≡ min (h + 1) n → x ≡ walk (term xs ys h) (a - f) f zeroF → y ≡ walk (term xs ys h) (b - a) a x
+  part-of : (xs ys : List Float) (h : ℕ) {f t : ℕ} {x y z : Float} → k ≤ h → h ≤ k + 3 → f ≡ lo m h → t ≡ min (h + 1) n
+      → x ≡ walk (term xs ys h) (a - f) f zeroF → y ≡ walk (term xs ys h) (b - a) a x
       → z ≡ walk (term xs ys h) (t - b) b y → z ≡ line xs ys n m h
   part-of xs ys h {f} {t} {x} {y} {z} p q ef et ex ey ez =
       parts xs ys n m h (omega arith) (s .shared) (omega arith)
@@ -246,15 +258,19 @@ module _ (xs ys : List Float) (k : ℕ) (s : List Float) where
       record {
         z0 = walked-end 1 (term-more xs ys k (start k (getD s 0 nan)) refl (omega arith)) (omega arith);
         z1 = walked-end 2 (term-two xs ys (k + 1) (start (k + 1) (getD s 1 nan)) refl (omega arith) refl (omega arith)) (omega arith);
-        z2 = walked-end 3 (term-more xs ys (k + 2) (term-two xs ys (k + 2) (start (k + 2) (getD s 2 nan)) refl (omega arith) refl (omega arith)) refl (omega arith)) (omega arith);
+        z2 =
+            walked-end 3 (term-more xs ys (k + 2) (term-two xs ys (k + 2) (start (k + 2) (getD s 2 nan)) refl
+            (omega arith) refl (omega arith)) refl (omega arith)) (omega arith);
         z3 =
-            walked-end 4 (term-two xs ys (k + 3) (term-two xs ys (k + 3) (start (k + 3) (getD s 3 nan)) refl (omega arith) refl (omega arith)) refl (omega arith) (omega arith) (omega arith))
+            walked-end 4 (term-two xs ys (k + 3) (term-two xs ys (k + 3) (start (k + 3) (getD s 3 nan)) refl
+            (omega arith) refl (omega arith)) refl (omega arith) (omega arith) (omega arith))
             (omega arith);
       }
 
 -- lines of which all terms from the first place on are there
 module _ (xs ys : List Float) (k : ℕ) {s z : List Float} (w : Walks xs ys k 0 k (zeroF ∷ zeroF ∷ zeroF ∷ zeroF ∷ []) s) (e : Ends xs ys k s z) where
-  whole : (n m h i : ℕ) {y x : Float} → h + 1 ≡ k + i → h < n → h < m → y ≡ walk (term xs ys h) (k - 0) 0 zeroF → x ≡ walk (term xs ys h) i k y → x ≡ line xs ys n m h
+  whole : (n m h i : ℕ) {y x : Float} → h + 1 ≡ k + i → h < n → h < m → y ≡ walk (term xs ys h) (k - 0) 0 zeroF
+      → x ≡ walk (term xs ys h) i k y → x ≡ line xs ys n m h
   whole n m h i {y} {x} d p q ey ex =
       let f : ℕ → Float → Float = term xs ys h in
       let l : lo m h ≡ 0 = omega arith in
@@ -279,10 +295,12 @@ abbrev pub putFour : List Float → ℕ → List Float → List Float
 putFour out k z = put (put (put (put out k (getD z 0 nan)) (k + 1) (getD z 1 nan)) (k + 2) (getD z 2 nan)) (k + 3) (getD z 3 nan)
 
 module _ (xs ys : List Float) (n m : ℕ) where
-  put-more : {i j : ℕ} {old out : List Float} {z : Float} → Filled i (lineAdded xs ys n m old) old out → i < length old → z ≡ line xs ys n m i → i + 1 ≡ j → Filled j (lineAdded xs ys n m old) old (put out i z)
+  put-more : {i j : ℕ} {old out : List Float} {z : Float} → Filled i (lineAdded xs ys n m old) old out → i < length old
+      → z ≡ line xs ys n m i → i + 1 ≡ j → Filled j (lineAdded xs ys n m old) old (put out i z)
   put-more f h e q = rw (← q) (filled-more f (line-more xs ys n m f h e) h)
 
   pub four-more : {k : ℕ} {old out z : List Float} → Filled k (lineAdded xs ys n m old) old out → k + 3 < length old → Lines xs ys n m k z
       → Filled (k + 4) (lineAdded xs ys n m old) old (putFour out k z)
   four-more f h l =
-      put-more (put-more (put-more (put-more f (omega arith) (l .z0) (omega arith)) (omega arith) (l .z1) (omega arith)) (omega arith) (l .z2) (omega arith)) (omega arith) (l .z3) (omega arith)
+      put-more (put-more (put-more (put-more f (omega arith) (l .z0) (omega arith)) (omega arith) (l .z1) (omega arith))
+      (omega arith) (l .z2) (omega arith)) (omega arith) (l .z3) (omega arith)

@@ -1,4 +1,5 @@
-// One long variable: the places of a line, four at once where they share terms. The order of each place's sum is its own.
+// One long variable: the places of a line, four at once where they share terms. The order of each place's sum is its
+// own.
 ghost use mathlib.Core.Path.{_≡_};
 ghost use Prim.Native.Nat.{ℕ, _+_, _-_, _≤_, _<_, min};
 ghost use lib.ListN.{length};
@@ -62,8 +63,8 @@ fn four_more(xs: &[f64], ys: &[f64], k: usize, j: usize, s: [f64; 4]) -> [f64; 4
     [z0, z1, z2, z3]
 }
 
-// Four places from k on, each with its terms for j from a up to b. Two j a turn: the compiler then puts the places side by side, where with
-// one it works along j.
+// Four places from k on, each with its terms for j from a up to b. Two j a turn: the compiler then puts the places side
+// by side, where with one it works along j.
 fn four_on(xs: &[f64], ys: &[f64], k: usize, a: usize, b: usize, s: [f64; 4]) -> [f64; 4]
     requires { ⌜ Abreast k a b (length (now xs)) (length (now ys)) ⌝ }
     ensures { λ z. ⌜ Walks (now (xs .entry)) (now (ys .entry)) k a b s z ⌝ }

@@ -20,11 +20,14 @@ use Rattle.quotient.specs.Room.{Divides}
 use Rattle.quotient.specs.Into.{into-lengths}
 
 -- the announced lengths
-quotient-lengths : (a b : Header) → announced Quotient a b .lengths ≡ quotientShape (announced Quotient a b .limits) (cutTo (announced Quotient a b .limits) (a .lengths)) (cutTo (announced Quotient a b .limits) (b .lengths))
+quotient-lengths : (a b : Header) → announced Quotient a b .lengths
+    ≡ quotientShape (announced Quotient a b .limits) (cutTo (announced Quotient a b .limits) (a .lengths))
+    (cutTo (announced Quotient a b .limits) (b .lengths))
 unfolding announced paired quotientShape cutTo
 quotient-lengths a b = refl
 
-module _ {w u ma mb mo ms : ℕ} (g : PairReady Quotient w ma u mb mo ms) {x y h : Header} (ex : x ≡ headerOf w) (ey : y ≡ headerOf u) (eh : h ≡ announced Quotient x y) where
+module _ {w u ma mb mo ms : ℕ} (g : PairReady Quotient w ma u mb mo ms) {x y h : Header} (ex : x ≡ headerOf w)
+    (ey : y ≡ headerOf u) (eh : h ≡ announced Quotient x y) where
   pub entry-ruled : Ruled h
   entry-ruled = rw (eh, ex, ey) (g .announced .regular .rules)
 
@@ -56,6 +59,7 @@ module _ {w u ma mb mo ms : ℕ} (g : PairReady Quotient w ma u mb mo ms) {x y h
         e ∙ rw (eh, ea, eb, ex, ey)
 
     -- the value
-    pub entry-places : {o : List Float} → o ≡ divided (h .limits) (block (x .lengths) (take na a)) (block (y .lengths) (take nb b)) .places → o ≡ quotientPoly (held w a) (held u b) .coeffs
+    pub entry-places : {o : List Float} → o ≡ divided (h .limits) (block (x .lengths) (take na a))
+        (block (y .lengths) (take nb b)) .places → o ≡ quotientPoly (held w a) (held u b) .coeffs
     unfolding quotientPoly
     entry-places e = e ∙ rw (eh, ea, eb, ex, ey)

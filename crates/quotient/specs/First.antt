@@ -39,7 +39,8 @@ quotientNext x y r q = quotientAt x y r (index r (length q)) q
 -- one row more
 pub first-more : (lx : List ℕ) (xs : List Float) (ly r : List ℕ) (ys : List Float) (g : Lengths r) {k : ℕ} → k < at r 0
     → let before = grow (k * inRow r 0) (quotientNext (block lx xs) (block ly ys) r) [] in
-    grow ((k + 1) * inRow r 0) (quotientNext (block lx xs) (block ly ys) r) [] ≡ before ++ levelOf ly r ys 1 (table (inRow r 0) (firstAt lx xs ly r k before ys))
+    grow ((k + 1) * inRow r 0) (quotientNext (block lx xs) (block ly ys) r) [] ≡ before
+    ++ levelOf ly r ys 1 (table (inRow r 0) (firstAt lx xs ly r k before ys))
 unfolding levelOf quotientAt
 first-more lx xs ly r ys g {k} l =
     let s : ℕ = inRow r 0 in
@@ -121,7 +122,8 @@ module _ {lx r : List ℕ} {k mr : ℕ} (xs : List Float) (t : Adding lx r k (le
       let p : getD (drop (k * inRow lx 0) xs) (place n (index r i)) nan ≡ getD xs (place lx j) nan =
       getD-drop (k * inRow lx 0) xs (place n (index r i)) nan ∙ ap (λ (x : ℕ). getD xs x nan) (row-place lx (index r i) j m (o .here) (o .after)) in
       ap (λ (x : List ℕ). joinAt false z (block n (drop (k * inRow lx 0) xs)) x) (index-row r i)
-      ∙ (ap (λ (x : Bool). cond x (add binary64 z (getD (drop (k * inRow lx 0) xs) (place n (index r i)) nan)) z) (row-inside lx (index r i) j m (o .here) (o .after) h)
+      ∙ (ap (λ (x : Bool). cond x (add binary64 z (getD (drop (k * inRow lx 0) xs) (place n (index r i)) nan)) z)
+      (row-inside lx (index r i) j m (o .here) (o .after) h)
       ∙ ap (λ (x : Float). cond (inside lx j) (add binary64 z x) z) p)
 
   -- all of it
@@ -132,15 +134,19 @@ module _ {lx r : List ℕ} {k mr : ℕ} (xs : List Float) (t : Adding lx r k (le
       let i : n ≡ inRow lx 0 = e ∙ row-count lx in
       let p : fromOn xs (k * n) ≡ drop (k * inRow lx 0) xs = part-to-end xs (k * n) ∙ ap (λ (m : ℕ). drop (k * m) xs) i in
       a ∙ (ap (λ (m : ℕ). table m (λ i. joinAt false (getD old i nan) (block (rowLengths lx) (fromOn xs (k * n))) (index (rowLengths r) i))) (row-count r)
-      ∙ table-same _ _ (inRow r 0) (λ i l. ap (λ (x : List Float). joinAt false (getD old i nan) (block (rowLengths lx) x) (index (rowLengths r) i)) p ∙ row-joined h i (getD old i nan) l))
+      ∙ table-same _ _ (inRow r 0)
+      (λ i l. ap (λ (x : List Float). joinAt false (getD old i nan) (block (rowLengths lx) x)
+      (index (rowLengths r) i)) p ∙ row-joined h i (getD old i nan) l))
 
   -- none of it
-  pub row-kept : at lx 0 ≤ k → (old : List Float) → length old ≡ mr → old ≡ table (inRow r 0) (λ i. joinAt false (getD old i nan) (block lx xs) (index r (k * inRow r 0 + i)))
+  pub row-kept : at lx 0 ≤ k → (old : List Float) → length old ≡ mr
+      → old ≡ table (inRow r 0) (λ i. joinAt false (getD old i nan) (block lx xs) (index r (k * inRow r 0 + i)))
   unfolding joinAt
   row-kept h old e =
       sym (table-all nan old) ∙ (ap (λ (m : ℕ). table m (λ i. getD old i nan)) (e ∙ t .row)
       ∙ table-same _ _ (inRow r 0) (λ i l.
       let o = split-at r (t .result) k i 0 (omega arith) (t .turn) l in
       let out : inside lx (index r (k * inRow r 0 + i)) ≡ false =
-      decide (inside lx (index r (k * inRow r 0 + i))) (λ u. absurd (let w = inside-is lx (index r (k * inRow r 0 + i)) u .i0 in omega (arith, o .here))) (λ u. u) in
+      decide (inside lx (index r (k * inRow r 0 + i)))
+      (λ u. absurd (let w = inside-is lx (index r (k * inRow r 0 + i)) u .i0 in omega (arith, o .here))) (λ u. u) in
       rw out))

@@ -30,7 +30,8 @@ use Rattle.quotient.specs.First.{firstAt, quotientNext, first-more}
 use Rattle.quotient_levels.specs.Levels.{level-stride, level-top, level-in}
 
 -- the row k, gathered
-module _ {lx ly sy r sr : List ℕ} (g : Dividing ly sy r sr) {nx k p q b f mr : ℕ} (d : First lx r nx q) (w : List Float) (t : RowRoom ly r 0 k p (p + count r) q b f (length w) mr) where
+module _ {lx ly sy r sr : List ℕ} (g : Dividing ly sy r sr) {nx k p q b f mr : ℕ} (d : First lx r nx q) (w : List Float)
+    (t : RowRoom ly r 0 k p (p + count r) q b f (length w) mr) where
   pub first-fits : nx ≤ length w
   first-fits = let a = t .apart in let m = t .room in omega (arith, d .below)
 
@@ -50,7 +51,8 @@ module _ {lx ly sy r sr : List ℕ} (g : Dividing ly sy r sr) {nx k p q b f mr :
 
   pub first-gathered : {row1 row2 row3 row4 : List Float}
       → row1 ≡ table (inRow r 0) (takenAt ly r 0 k (part q (q + k * at sr 0) w) (part b f w)) → row2 ≡ table (length row1) (negatedAt row1)
-      → row3 ≡ table (inRow r 0) (λ i. joinAt false (getD row2 i nan) (block lx (take nx w)) (index r (k * inRow r 0 + i))) → row4 ≡ take (length (part p (p + at sr 0) w)) row3
+      → row3 ≡ table (inRow r 0) (λ i. joinAt false (getD row2 i nan) (block lx (take nx w))
+      (index r (k * inRow r 0 + i))) → row4 ≡ take (length (part p (p + at sr 0) w)) row3
       → Laid p (table (inRow r 0) (firstAt lx (take nx w) ly r k (part q (q + k * inRow r 0) w) (part b f w))) (length w) w (putMid p (p + at sr 0 - p) w row4)
   first-gathered {row1} {row2} {row3} {row4} e1 e2 e3 e4 =
       let s : ℕ = inRow r 0 in
@@ -68,7 +70,8 @@ module _ {lx ly sy r sr : List ℕ} (g : Dividing ly sy r sr) {nx k p q b f mr :
       let em : m ≡ s = omega (arith, first-stride) in
       let a = t .room in
       let n : length (part p (p + at sr 0) w) ≡ s = length-part p (p + at sr 0) w (omega arith) (omega (arith, first-stride)) ∙ em in
-      let x4 : row4 ≡ table s (firstAt lx (take nx w) ly r k (done s) (part b f w)) = e4 ∙ (take-all (length (part p (p + at sr 0) w)) row3 (omega (arith, n)) ∙ x3) in
+      let x4 : row4 ≡ table s (firstAt lx (take nx w) ly r k (done s) (part b f w)) =
+      e4 ∙ (take-all (length (part p (p + at sr 0) w)) row3 (omega (arith, n)) ∙ x3) in
       let n4 : length row4 ≡ m = ap length x4 ∙ (length-table _ s ∙ sym em) in
       rw (← x4) (laid-mid p m w row4 n4 (omega (arith, em)))
 
@@ -93,7 +96,8 @@ module _ {ly sy r sr : List ℕ} (g : Dividing ly sy r sr) {p q b f mw mr : ℕ}
         row = omega (arith, t .row);
       }
 
-module _ {lx ly sy r sr : List ℕ} (g : Dividing ly sy r sr) {nx p q b f mr : ℕ} (d : First lx r nx q) (w : List Float) (t : Room ly r 0 p (p + count r) q b f (length w) mr) where
+module _ {lx ly sy r sr : List ℕ} (g : Dividing ly sy r sr) {nx p q b f mr : ℕ} (d : First lx r nx q) (w : List Float)
+    (t : Room ly r 0 p (p + count r) q b f (length w) mr) where
   pub firsts-more : {k : ℕ} {w1 w2 w3 : List Float} → k < at r 0 → Laid q (firstsLaid lx nx ly r b f w k) p w w1
       → Laid p (table (inRow r 0) (firstAt lx (take nx w1) ly r k (part q (q + k * inRow r 0) w1) (part b f w1))) (length w1) w1 w2
       → Laid (q + k * at sr 0) (levelOf ly r (part b f w2) 1 (part p (p + at sr 0) w2)) (p + at sr 0) w2 w3
@@ -128,7 +132,8 @@ module _ {lx ly sy r sr : List ℕ} (g : Dividing ly sy r sr) {nx p q b f mr : �
   unfolding grow
   firsts-none = let z : 0 * inRow r 0 ≡ 0 = omega arith in rw z laid-none
 
-  pub firsts-all : {k : ℕ} {w' : List Float} → k ≡ at r 0 → Laid q (firstsLaid lx nx ly r b f w k) p w w' → Laid q (recurred (block lx (take nx w)) (block ly (part b f w)) r) p w w'
+  pub firsts-all : {k : ℕ} {w' : List Float} → k ≡ at r 0 → Laid q (firstsLaid lx nx ly r b f w k) p w w'
+      → Laid q (recurred (block lx (take nx w)) (block ly (part b f w)) r) p w w'
   unfolding recurred
   firsts-all {k} ek a =
       let z : k * inRow r 0 ≡ count r = rw ek (sym (span-more r (omega arith))) in

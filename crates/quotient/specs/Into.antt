@@ -36,7 +36,8 @@ inner-by h = record { c0 = h 0 (lit< tt); c1 = h 1 (lit< tt); c2 = h 2 (lit< tt)
 
 count-in : {n c : List ℕ} → Inner n c → count c ≤ count n
 count-in {n} {c} i =
-    count-under {t = header 0 [] c} {a = header 0 [] n} (record { vars = refl; limits = refl; most = each (λ k. at c k ≤ at n k) (i .c0) (i .c1) (i .c2) (i .c3) })
+    count-under {t = header 0 [] c} {a = header 0 [] n}
+    (record { vars = refl; limits = refl; most = each (λ k. at c k ≤ at n k) (i .c0) (i .c1) (i .c2) (i .c3) })
 
 -- ---- the recurrence
 
@@ -64,7 +65,8 @@ module _ {lx ly r : List ℕ} {nx ny mw mo : ℕ} (t : Recurring lx ly r nx ny m
         row = omega arith;
       }
 
-  pub recur-is : {w w' o : List Float} {n : ℕ} (xs ys : List Float) → length w ≡ mw → Laid (2 * mo) (recurred (block lx xs) (block ly ys) r) (3 * mo) w w' → n ≡ mo
+  pub recur-is : {w w' o : List Float} {n : ℕ} (xs ys : List Float) → length w ≡ mw
+      → Laid (2 * mo) (recurred (block lx xs) (block ly ys) r) (3 * mo) w w' → n ≡ mo
       → o ≡ take n (part (2 * mo) (3 * mo) w') → o ≡ recurred (block lx xs) (block ly ys) r
   recur-is {w} {w'} {o} {n} xs ys l a en e =
       let f : List Float = recurred (block lx xs) (block ly ys) r in
@@ -86,9 +88,12 @@ pick false x z = refl
 constant-is : (l : List ℕ) (x y : Block) (c : Float) → count (y .lengths) ≡ 1 → first (y .places) ≡ c
     → cond (eq c oneF) (x .places) (table (count (x .lengths)) (dividedAt c (x .places))) ≡ quotientOf l x y .places
 unfolding quotientOf
-constant-is l x y c n e = rw (← e) (simp (eq-eqb _ _ n) (pick (eq (first (y .places)) oneF) x (block (x .lengths) (table (count (x .lengths)) (dividedAt (first (y .places)) (x .places))))))
+constant-is l x y c n e =
+    rw (← e) (simp (eq-eqb _ _ n) (pick (eq (first (y .places)) oneF) x
+    (block (x .lengths) (table (count (x .lengths)) (dividedAt (first (y .places)) (x .places))))))
 
-recurred-is : (l r : List ℕ) (x y : Block) → (count (y .lengths) ≡ 1 → ⊥) → r ≡ quotientShape l (x .lengths) (y .lengths) → recurred x y r ≡ quotientOf l x y .places
+recurred-is : (l r : List ℕ) (x y : Block) → (count (y .lengths) ≡ 1 → ⊥)
+    → r ≡ quotientShape l (x .lengths) (y .lengths) → recurred x y r ≡ quotientOf l x y .places
 unfolding quotientOf
 recurred-is l r x y n s = rw s (simp (ne-eqb _ _ n))
 
@@ -120,7 +125,8 @@ cut-at l n {c} e p g k h =
     let o = lengths-pos g k h in
     record { lo = omega arith; hi = omega arith; less = omega arith }
 
-module _ {la lb limits r : List ℕ} {ma mb mo mw : ℕ} (t : Divides la lb limits r ma mb mo mw) {ca cb : List ℕ} (ea : ca ≡ cutTo limits la) (eb : cb ≡ cutTo limits lb) where
+module _ {la lb limits r : List ℕ} {ma mb mo mw : ℕ} (t : Divides la lb limits r ma mb mo mw) {ca cb : List ℕ}
+    (ea : ca ≡ cutTo limits la) (eb : cb ≡ cutTo limits lb) where
   left : (k : ℕ) → k < 4 → Cut (at limits k) (at la k) (at ca k)
   left = cut-at limits la ea (t .positive) (t .left)
 
@@ -189,7 +195,8 @@ module _ {la lb limits r : List ℕ} {ma mb mo mw : ℕ} (t : Divides la lb limi
   unfolding quotientOf
   loaded-lengths x y =
       decide (eqb (count cb) 1)
-      (λ e. rw e (of-both (λ (z : Block). z .lengths ≡ r) (eq (first y) oneF) {x = block ca x} (sym (same-shape (eqb-true _ _ e))) (sym (same-shape (eqb-true _ _ e)))))
+      (λ e. rw e (of-both (λ (z : Block). z .lengths ≡ r) (eq (first y) oneF) {x = block ca x}
+      (sym (same-shape (eqb-true _ _ e))) (sym (same-shape (eqb-true _ _ e)))))
       (λ e. rw e (sym (t .shape ∙ rw (← ea, ← eb))))
 
   module _ {na nb : ℕ} (ka : na ≡ count ca) (kb : nb ≡ count cb) where
@@ -210,7 +217,8 @@ module _ {la lb limits r : List ℕ} {ma mb mo mw : ℕ} (t : Divides la lb limi
     same-count e = t .out ∙ (ap count (same-shape (sym kb ∙ e)) ∙ sym ka)
 
     -- what lies in the work, divided
-    pub loaded-is : (w : List Float) {o : List Float} → length w ≡ mw → o ≡ loadedQuotient ca na cb nb r mo w → o ≡ quotientOf limits (block ca (take na w)) (block cb (part mo (mo + nb) w)) .places
+    pub loaded-is : (w : List Float) {o : List Float} → length w ≡ mw → o ≡ loadedQuotient ca na cb nb r mo w
+        → o ≡ quotientOf limits (block ca (take na w)) (block cb (part mo (mo + nb) w)) .places
     unfolding loadedQuotient
     loaded-is w {o} lw e =
         let x : List Float = take na w in
@@ -241,6 +249,7 @@ module _ {la lb limits r : List ℕ} {ma mb mo mw : ℕ} (t : Divides la lb limi
       into-loaded lw e = loaded-is w lw e ∙ rw (dividend, divisor)
 
 -- the true lengths are the announced ones
-pub into-lengths : {la lb limits r : List ℕ} {ma mb mo mw : ℕ} → Divides la lb limits r ma mb mo mw → (a b : List Float) → divided limits (block la a) (block lb b) .lengths ≡ r
+pub into-lengths : {la lb limits r : List ℕ} {ma mb mo mw : ℕ} → Divides la lb limits r ma mb mo mw → (a b : List Float)
+    → divided limits (block la a) (block lb b) .lengths ≡ r
 unfolding divided cut
 into-lengths {la} {lb} {limits} t a b = loaded-lengths t refl refl (cut limits (block la a) .places) (cut limits (block lb b) .places)

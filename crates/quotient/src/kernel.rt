@@ -1,5 +1,6 @@
 // The quotient of two blocks: by a constant, or by the recurrence, row by row, which recurses over the variables.
-// In the work lie the dividend, the divisor, the finished places, and behind these, used as a stack, what each level still has to divide.
+// In the work lie the dividend, the divisor, the finished places, and behind these, used as a stack, what each level
+// still has to divide.
 ghost use mathlib.Core.Path.{_≡_};
 ghost use Prim.Native.Nat.{_+_, _*_, _<_};
 ghost use mathlib.Core.Bool.{false, cond};
@@ -36,7 +37,9 @@ fn divide_by(c: f64, a: &[f64], to: &mut [f64])
 // The row k, with what the dividend stores in it added.
 fn add_dividend(xs: &[f64], lx: [usize; 4], r: [usize; 4], k: usize, row: &mut [f64])
     requires { ⌜ Adding lx r k (length (now xs)) (length (now row)) ⌝ }
-    ensures { λ _. ⌜ now (row .exit) ≡ table (inRow r 0) (λ i. joinAt false (getD (now (row .entry)) i nan) (block lx (now (xs .entry))) (index r (k * inRow r 0 + i))) ⌝ }
+    ensures { λ _. ⌜ now (row .exit) ≡ table (inRow r 0)
+        (λ i. joinAt false (getD (now (row .entry)) i nan) (block lx (now (xs .entry)))
+        (index r (k * inRow r 0 + i))) ⌝ }
 {
     if lx[0] <= k {
         return;
@@ -47,7 +50,8 @@ fn add_dividend(xs: &[f64], lx: [usize; 4], r: [usize; 4], k: usize, row: &mut [
     blocks::join_block(false, &xs[from..], n, m, row);
 }
 
-// What the row k of the whole still has to divide: what the rows before it take, negated, then the dividend added. It goes to p.
+// What the row k of the whole still has to divide: what the rows before it take, negated, then the dividend added. It
+// goes to p.
 fn gather_first(
     work: &mut [f64],
     lx: [usize; 4],
@@ -64,7 +68,10 @@ fn gather_first(
     row: &mut [f64],
 )
     requires { ⌜ Dividing ly sy r sr ⌝ ∗ ⌜ First lx r nx q ⌝ ∗ ⌜ RowRoom ly r 0 k p (p + count r) q b f (length (now work)) (length (now row)) ⌝ }
-    ensures { λ _. ⌜ Laid p (table (inRow r 0) (firstAt lx (take nx (now (work .entry))) ly r k (part q (q + k * inRow r 0) (now (work .entry))) (part b f (now (work .entry))))) (length (now (work .entry))) (now (work .entry)) (now (work .exit)) ⌝ }
+    ensures { λ _.
+        ⌜ Laid p (table (inRow r 0) (firstAt lx (take nx (now (work .entry))) ly r k
+        (part q (q + k * inRow r 0) (now (work .entry))) (part b f (now (work .entry))))) (length (now (work .entry)))
+        (now (work .entry)) (now (work .exit)) ⌝ }
 {
     let s = sr[0];
     let end = q + k * s;
@@ -90,7 +97,9 @@ fn each_first(
     row: &mut [f64],
 )
     requires { ⌜ Dividing ly sy r sr ⌝ ∗ ⌜ First lx r nx q ⌝ ∗ ⌜ Room ly r 0 p (p + count r) q b f (length (now work)) (length (now row)) ⌝ }
-    ensures { λ _. ⌜ Laid q (recurred (block lx (take nx (now (work .entry)))) (block ly (part b f (now (work .entry)))) r) p (now (work .entry)) (now (work .exit)) ⌝ }
+    ensures { λ _.
+        ⌜ Laid q (recurred (block lx (take nx (now (work .entry)))) (block ly (part b f (now (work .entry)))) r) p
+        (now (work .entry)) (now (work .exit)) ⌝ }
 {
     let n = r[0];
     let s = sr[0];
@@ -115,7 +124,8 @@ pub fn recur(
     out: &mut [f64],
 )
     requires { ⌜ Recurring lx ly r nx ny (length (now work)) (length (now out)) ⌝ }
-    ensures { λ _. ⌜ now (out .exit) ≡ recurred (block lx (take nx (now (work .entry)))) (block ly (part (length (now (out .entry))) (length (now (out .entry)) + ny) (now (work .entry)))) r ⌝ }
+    ensures { λ _. ⌜ now (out .exit) ≡ recurred (block lx (take nx (now (work .entry))))
+        (block ly (part (length (now (out .entry))) (length (now (out .entry)) + ny) (now (work .entry)))) r ⌝ }
 {
     let n = out.len();
     let sy = shape_words::places::strides_of(ly);
@@ -138,8 +148,8 @@ fn divide_constant(c: f64, a: &[f64], to: &mut [f64])
     divide_by(c, a, to);
 }
 
-// The quotient of two operands that are loaded already, cut to the limits: the dividend, na places, at the front of the work, the divisor, nb places, from as many
-// places on as the quotient has, whose lengths are r.
+// The quotient of two operands that are loaded already, cut to the limits: the dividend, na places, at the front of the
+// work, the divisor, nb places, from as many places on as the quotient has, whose lengths are r.
 pub fn divide_loaded(
     work: &mut [f64],
     ca: [usize; 4],

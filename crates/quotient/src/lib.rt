@@ -7,7 +7,8 @@ use shape_words::word::pack;
 ghost use mathlib.Core.Path.{_≡_};
 ghost use Rattle.model.specs.Quotient.{quotientAnswer, quotientOut, quotientScratch};
 
-// a / b, cut to the smaller limits: refusals 1, 2, 5, 6. Division by zero, infinities and NaN go as IEEE 754 says and refuse nothing.
+// a / b, cut to the smaller limits: refusals 1, 2, 5, 6. Division by zero, infinities and NaN go as IEEE 754 says and
+// refuse nothing.
 pub fn divide(
     ah: u64,
     a: &[f64],

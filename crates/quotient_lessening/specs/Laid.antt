@@ -14,7 +14,7 @@ use borrow.Rule.Slice.PartMut.{putMid}
 use Rattle.lists.specs.Test.{decide}
 use Rattle.lists.specs.Table.{table, table-same, table-all, table-take, length-table}
 use Rattle.lists.specs.Part.{part}
-use Rattle.blocks.specs.Fill.{part-table}
+use Rattle.lists.specs.Fill.{part-table}
 
 pub record Laid (q : ℕ) (xs : List Float) (e : ℕ) (w w' : List Float) : Type 0 where
   pub len : length w' ≡ length w
@@ -57,7 +57,8 @@ laid-append {q} {e} {f} {m} {xs} {ys} {w} {w'} {w''} a n b h =
     }
 
 -- parts that hold the same places
-same-part : (f t : ℕ) (w w' : List Float) → f ≤ t → t ≤ length w → length w' ≡ length w → ((i : ℕ) → f ≤ i → i < t → getD w' i nan ≡ getD w i nan) → part f t w' ≡ part f t w
+same-part : (f t : ℕ) (w w' : List Float) → f ≤ t → t ≤ length w → length w' ≡ length w
+    → ((i : ℕ) → f ≤ i → i < t → getD w' i nan ≡ getD w i nan) → part f t w' ≡ part f t w
 same-part f t w w' h l n e =
     part-table nan w' f (t - f) (omega arith)
     ∙ (table-same _ _ (t - f) (λ i p. e (f + i) (omega arith) (omega arith)) ∙ sym (part-table nan w f (t - f) (omega arith)))
@@ -80,7 +81,8 @@ module _ {q e : ℕ} {xs w w' : List Float} (a : Laid q xs e w w') where
   laid-over f t h p l m = same-part f t w w' h m (a .len) (λ i k o. a .high i (omega arith) (omega arith))
 
 -- a loop that lays f into a buffer, one place a turn
-pub laid-more : (q i : ℕ) (f : ℕ → Float) {e : ℕ} {w w' : List Float} {x : Float} → Laid q (table i f) e w w' → x ≡ f i → q + i < length w → Laid q (table (i + 1) f) e w (set w' (q + i) x)
+pub laid-more : (q i : ℕ) (f : ℕ → Float) {e : ℕ} {w w' : List Float} {x : Float} → Laid q (table i f) e w w' → x ≡ f i
+    → q + i < length w → Laid q (table (i + 1) f) e w (set w' (q + i) x)
 unfolding table
 laid-more q i f {e} {w} {w'} {x} a p h =
     let n : length (table i f) ≡ i = length-table f i in

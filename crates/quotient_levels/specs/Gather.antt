@@ -68,7 +68,8 @@ module _ {ly sy r sr : List ℕ} (g : Dividing ly sy r sr) {v k p e q b f mr : �
       let s : ℕ = inRow r v in
       let fs = row-fits in
       let n : length row ≡ s = ap length h ∙ length-table _ s in
-      let same : table (length row) (λ i. add binary64 (neg (getD row i nan)) (getD w (p + k * at sr v + i) nan)) ≡ table s (leftAt ly r v k (part q (q + k * s) w) (part b f w) (part p e w)) =
+      let same : table (length row) (λ i. add binary64 (neg (getD row i nan)) (getD w (p + k * at sr v + i) nan))
+      ≡ table s (leftAt ly r v k (part q (q + k * s) w) (part b f w) (part p e w)) =
       ap (λ (m : ℕ). table m (λ i. add binary64 (neg (getD row i nan)) (getD w (p + k * at sr v + i) nan))) n
       ∙ table-same _ _ s (λ i l.
       let x : getD row i nan ≡ takenAt ly r v k (part q (q + k * s) w) (part b f w) i =

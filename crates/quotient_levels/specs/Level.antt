@@ -1,4 +1,5 @@
--- The sub-block of the variables from v on, row by row: the row k is the sub-block of the variables after v, of what the rows before leave of c.
+-- The sub-block of the variables from v on, row by row: the row k is the sub-block of the variables after v, of what
+-- the rows before leave of c.
 use Prim.Native.Nat.{ℕ, zero, suc, _+_, _-_, _*_, _≤_, _<_}
 use mathlib.Core.List.{List, [], _++_}
 use mathlib.Core.Path.{_≡_, refl, sym, ap, _∙_}
@@ -37,7 +38,8 @@ unfoldable pub levelOf : List ℕ → List ℕ → List Float → ℕ → List F
 levelOf ly r ys v c = grow (span r (4 - v) v) (levelAt ly r ys v c) []
 
 -- the numbers before v are not read
-taken-same : (ly r : List ℕ) (ys : List Float) (k i : List ℕ) (n v : ℕ) (q : List Float) → ((w : ℕ) → v ≤ w → w < v + suc n → at k w ≡ at i w) → taken ly r ys k n v q ≡ taken ly r ys i n v q
+taken-same : (ly r : List ℕ) (ys : List Float) (k i : List ℕ) (n v : ℕ) (q : List Float)
+    → ((w : ℕ) → v ≤ w → w < v + suc n → at k w ≡ at i w) → taken ly r ys k n v q ≡ taken ly r ys i n v q
 unfolding taken
 taken-same ly r ys k i n v q h =
     let e : at k v ≡ at i v = h v (omega arith) (omega arith) in
@@ -49,32 +51,39 @@ pub lessened-same : (ly r : List ℕ) (ys : List Float) (k i : List ℕ) (n v : 
 unfolding lessened
 lessened-same ly r ys k i zero v q c h = refl
 lessened-same ly r ys k i (suc n) v q c h =
-    ap (λ (x : ℕ). lessened ly r ys k n (suc v) (drop (x * span r n (suc v)) q) (add binary64 (neg (taken ly r ys k n v q)) c)) (h v (omega arith) (omega arith))
+    ap (λ (x : ℕ). lessened ly r ys k n (suc v) (drop (x * span r n (suc v)) q)
+    (add binary64 (neg (taken ly r ys k n v q)) c)) (h v (omega arith) (omega arith))
     ∙ (ap (λ (x : Float). lessened ly r ys k n (suc v) (drop (at i v * span r n (suc v)) q) (add binary64 (neg x) c)) (taken-same ly r ys k i n v q h)
     ∙ lessened-same ly r ys k i n (suc v) _ _ (λ w p l. h w (omega arith) (omega arith)))
 
 module _ (ly r : List ℕ) (ys : List Float) (v : ℕ) (h : v < 4) where
   -- one variable
   lessened-more : (i : List ℕ) (q : List Float) (c : Float)
-      → lessened ly r ys i (4 - v) v q c ≡ lessened ly r ys i (4 - (v + 1)) (v + 1) (drop (at i v * inRow r v) q) (add binary64 (neg (taken ly r ys i (4 - (v + 1)) v q)) c)
+      → lessened ly r ys i (4 - v) v q c ≡ lessened ly r ys i (4 - (v + 1)) (v + 1) (drop (at i v * inRow r v) q)
+      (add binary64 (neg (taken ly r ys i (4 - (v + 1)) v q)) c)
   unfolding lessened
   lessened-more i q c =
       let e : 4 - v ≡ suc (4 - (v + 1)) = omega arith in
       ap (λ (n : ℕ). lessened ly r ys i n v q c) e
-      ∙ ap (λ (w : ℕ). lessened ly r ys i (4 - (v + 1)) w (drop (at i v * span r (4 - (v + 1)) w) q) (add binary64 (neg (taken ly r ys i (4 - (v + 1)) v q)) c)) (sym (add-one v))
+      ∙ ap (λ (w : ℕ). lessened ly r ys i (4 - (v + 1)) w (drop (at i v * span r (4 - (v + 1)) w) q)
+      (add binary64 (neg (taken ly r ys i (4 - (v + 1)) v q)) c)) (sym (add-one v))
 
   module _ (g : Lengths r) {k : ℕ} (l : k < at r v) (before : List Float) (full : length before ≡ k * inRow r v) where
-    pub taken-row : (i : ℕ) (q : List Float) → i < inRow r v → taken ly r ys (index r (k * inRow r v + i)) (4 - (v + 1)) v (before ++ q) ≡ takenAt ly r v k before ys i
+    pub taken-row : (i : ℕ) (q : List Float) → i < inRow r v
+        → taken ly r ys (index r (k * inRow r v + i)) (4 - (v + 1)) v (before ++ q) ≡ takenAt ly r v k before ys i
     unfolding taken
     taken-row i q m =
         let n : ℕ = 4 - (v + 1) in
         let j : List ℕ = index r (k * inRow r v + i) in
         let s = split-at r g k i v h l m in
         let walkOf : ℕ → ℕ → Float =
-        λ x w. walk (λ y a. productAt r ly r j n w (drop (y * span r n w) (take (x * span r n w) (before ++ q))) (drop ((x - y) * span ly n w) ys) a) (x - lo (at ly v) x) (lo (at ly v) x) zeroF in
+        λ x w. walk (λ y a. productAt r ly r j n w (drop (y * span r n w) (take (x * span r n w) (before ++ q)))
+        (drop ((x - y) * span ly n w) ys) a) (x - lo (at ly v) x) (lo (at ly v) x) zeroF in
         let e : walkOf (at j v) (suc v) ≡ walkOf k (v + 1) = ap (λ (x : ℕ). walkOf x (suc v)) (s .here) ∙ ap (walkOf k) (sym (add-one v)) in
         e ∙ rw (take-at before q (k * inRow r v) full)
-        (walk-same _ _ (k - lo (at ly v) k) (lo (at ly v) k) zeroF (λ y a b x. product-same r ly r j (index r i) n (v + 1) _ _ x (λ w p t. s .after w (omega arith) (omega arith))))
+        (walk-same _ _ (k - lo (at ly v) k) (lo (at ly v) k) zeroF
+        (λ y a b x. product-same r ly r j (index r i) n (v + 1) _ _ x
+        (λ w p t. s .after w (omega arith) (omega arith))))
 
     -- the place i of the row k
     pub row-at : (q : List Float) (c : Float) → length q < inRow r v
@@ -114,7 +123,10 @@ lessened-zeros ly r ys i zero v c h = refl
 lessened-zeros ly r ys i (suc n) v c h =
     let z : at i v ≡ 0 = h v (omega arith) (omega arith) in
     let e : at i v - lo (at ly v) (at i v) ≡ 0 = omega arith in
-    let t : taken ly r ys i n v [] ≡ zeroF = ap (λ (x : ℕ). walk (λ j acc. productAt r ly r i n (suc v) (drop (j * span r n (suc v)) (take (at i v * span r n (suc v)) [])) (drop ((at i v - j) * span ly n (suc v)) ys) acc) x (lo (at ly v) (at i v)) zeroF) e in
+    let t : taken ly r ys i n v [] ≡ zeroF =
+    ap (λ (x : ℕ). walk (λ j acc. productAt r ly r i n (suc v)
+    (drop (j * span r n (suc v)) (take (at i v * span r n (suc v)) []))
+    (drop ((at i v - j) * span ly n (suc v)) ys) acc) x (lo (at ly v) (at i v)) zeroF) e in
     ap (λ (x : List Float). lessened ly r ys i n (suc v) x (add binary64 (neg (taken ly r ys i n v [])) c)) (drop-nil (at i v * span r n (suc v)))
     ∙ (ap (λ (x : Float). lessened ly r ys i n (suc v) [] (add binary64 (neg x) c)) t
     ∙ lessened-zeros ly r ys i n (suc v) (passed v c) (λ w p q. h w (omega arith) (omega arith)))

@@ -1,4 +1,5 @@
--- A sub-block whose rows are one place each: a place is what the places before it leave of c, then -0.0 added in each later variable, then divided.
+-- A sub-block whose rows are one place each: a place is what the places before it leave of c, then -0.0 added in each
+-- later variable, then divided.
 use Prim.Native.Nat.{ℕ, _+_, _-_, _*_, _≤_, _<_}
 use mathlib.Core.List.{List, [], _++_, append-nil}
 use mathlib.Core.Path.{_≡_, sym, ap, _∙_}
@@ -31,7 +32,8 @@ abbrev lineAt : List ℕ → ℕ → List Float → List Float → Float → ℕ
 lineAt ly v done ys c0 k =
     div binary64 (walk passed (4 - (v + 1)) (v + 1) (add binary64 (neg (walk (term done ys k) (k - lo (at ly v) k) (lo (at ly v) k) zeroF)) c0)) (getD ys 0 nan)
 
-line-at : {ly r : List ℕ} {v k : ℕ} (g : Single ly r v) → k < at r v → (done ys : List Float) → length done ≡ k → (c : List Float) → levelAt ly r ys v c done ≡ lineAt ly v done ys (getD c k nan) k
+line-at : {ly r : List ℕ} {v k : ℕ} (g : Single ly r v) → k < at r v → (done ys : List Float) → length done ≡ k
+    → (c : List Float) → levelAt ly r ys v c done ≡ lineAt ly v done ys (getD c k nan) k
 line-at {ly} {r} {v} {k} g l done ys n c =
     let s = g .some in
     let m : k * inRow r v + length {A = Float} [] ≡ length done = rw (g .one) (omega arith) in
@@ -93,7 +95,9 @@ module _ {ly r : List ℕ} {v p e q b f : ℕ} (w : List Float) (t : Line ly r v
         let e3 : getD w1 (p + k) nan ≡ getD c k nan = a .high (p + k) (omega arith) (omega arith) ∙ sym (part-at p e w k (omega arith)) in
         let e4 : getD w1 b nan ≡ getD ys 0 nan = a .low b (omega arith) ∙ sym (part-at b f w 0 (omega arith) ∙ ap (λ (x : ℕ). getD w x nan) (add-zero b)) in
         let ev : div binary64 y (getD w1 b nan) ≡ levelAt ly r ys v c done = rw (ey, ez, e1, e2, e3, e4, ei) (sym (line-at (t .single) l done ys nd c)) in
-        rw (grow-more k (levelAt ly r ys v c) [], ← ev) (laid-append a (omega arith) (laid-set w1 (q + k) (div binary64 y (getD w1 b nan)) e (omega arith)) (le-refl e))
+        rw (grow-more k (levelAt ly r ys v c) [], ← ev)
+        (laid-append a (omega arith) (laid-set w1 (q + k) (div binary64 y (getD w1 b nan)) e (omega arith))
+        (le-refl e))
 
   pub line-all : {k : ℕ} {w' : List Float} → k ≡ at r v → Laid q (lineLaid ly r v p e b f w k) e w w' → Laid q (levelOf ly r (part b f w) v (part p e w)) e w w'
   unfolding levelOf

@@ -22,7 +22,8 @@ pub record Taking (ly r : List ℕ) (v k mb my mr : ℕ) : Type 0 where
   pub room : span ly (4 - v) v ≤ my
   pub full : mr ≡ inRow r v
 
--- the sub-block of the variables from v on: its c lies from p up to e, its result goes to q, the divisor lies from b up to f
+-- the sub-block of the variables from v on: its c lies from p up to e, its result goes to q, the divisor lies from b up
+-- to f
 pub record Room (ly r : List ℕ) (v p e q b f mw mr : ℕ) : Type 0 where
   pub some : v < 4
   pub divisor : f ≡ b + count ly

@@ -4,12 +4,13 @@ use mathlib.Core.List.{List, [], _∷_}
 use mathlib.Core.Path.{_≡_, refl, sym, ap, _∙_}
 use native.Mathlib.Omega.{arith}
 use native.Mathlib.Nat.{mul-le-mul-right, suc-mul, zero-mul}
-use lib.ListN.{length, getD, set, length-take, length-drop}
+use lib.ListN.{length, getD, set}
 use lib.Seq.{getD-drop}
 use lib.Ieee.{Float, nan, add, mul, binary64}
 use Rattle.lists.specs.Four.{at, each, at-four}
 use Rattle.lists.specs.Table.{table, table-same, table-at}
 use Rattle.lists.specs.Walk.{walk, walk-same}
+use Rattle.lists.specs.Part.{one-place}
 use Rattle.model.specs.Header.{span}
 use Rattle.model.specs.Places.{index}
 use Rattle.model.specs.Refusals.{zeroF, zeros}
@@ -21,17 +22,16 @@ use Rattle.product_general.specs.Index.{inRow}
 use Rattle.product_general.specs.Product.{stepAt, stride-at, row-in, first-in}
 use Rattle.product_general.specs.Rows.{Strided, Rowing}
 use Rattle.product_general.specs.Pairs.{Paired, paired-end, fromOn}
+use Rattle.product_general.specs.Bounds.{length-on}
 use Rattle.product_lines.specs.Fours.{Summing}
 use Rattle.quotient_levels.specs.Room.{Dividing, Taking, Single}
 use Rattle.quotient_levels.specs.Level.{takenAt}
 
 -- ---- row by row
 
-length-on : (p : ℕ) (xs : List Float) → length (fromOn xs p) ≡ length xs - p
-length-on p xs = simp (length-take, length-drop) (omega arith)
-
 -- a turn of the loop: the rows that are multiplied lie in their blocks
-module _ {ly sy r sr : List ℕ} (g : Strided r sr ly sy r sr) {v k j mr : ℕ} (done ys : List Float) (t : Taking ly r v k (length done) (length ys) mr) (a : lo (at ly v) k ≤ j) (h : j < k) where
+module _ {ly sy r sr : List ℕ} (g : Strided r sr ly sy r sr) {v k j mr : ℕ} (done ys : List Float)
+    (t : Taking ly r v k (length done) (length ys) mr) (a : lo (at ly v) k ≤ j) (h : j < k) where
   reach : k - j < at ly v
   reach = let p = lengths-pos (g .right) v (t .some) in omega arith
 
@@ -54,7 +54,8 @@ module _ {ly sy r sr : List ℕ} (g : Strided r sr ly sy r sr) {v k j mr : ℕ} 
 
 -- all rows before the row k
 pub taken-end : (ly r : List ℕ) (v k : ℕ) (done ys : List Float) {tx ty a j n : ℕ} {old row : List Float}
-    → Paired (inRow r v) (λ q. stepAt r ly r (index r q) v k tx ty done ys) a j old row → old ≡ zeros n → n ≡ inRow r v → tx ≡ inRow r v → ty ≡ inRow ly v → a ≡ lo (at ly v) k → j ≡ a + (k - a)
+    → Paired (inRow r v) (λ q. stepAt r ly r (index r q) v k tx ty done ys) a j old row → old ≡ zeros n → n ≡ inRow r v
+    → tx ≡ inRow r v → ty ≡ inRow ly v → a ≡ lo (at ly v) k → j ≡ a + (k - a)
     → row ≡ table (inRow r v) (takenAt ly r v k done ys)
 taken-end ly r v k done ys {tx} {ty} {a} {j} {n} {old} {row} p z m ex ey ea e =
     let o : (q : ℕ) → q < inRow r v → getD old q nan ≡ zeroF = λ q l. ap (λ (x : List Float). getD x q nan) z ∙ table-at nan (λ i. zeroF) n q (omega arith) in
@@ -63,7 +64,8 @@ taken-end ly r v k done ys {tx} {ty} {a} {j} {n} {old} {row} p z m ex ey ea e =
 -- ---- a row of one place
 
 -- through lengths of 1 a product is one term
-product-ones : (lx ly r i : List ℕ) (n v : ℕ) (xs ys : List Float) (acc : Float) → ((w : ℕ) → v ≤ w → w < v + n → (at lx w ≡ 1) × (at ly w ≡ 1) × (at r w ≡ 1) × (at i w ≡ 0))
+product-ones : (lx ly r i : List ℕ) (n v : ℕ) (xs ys : List Float) (acc : Float)
+    → ((w : ℕ) → v ≤ w → w < v + n → (at lx w ≡ 1) × (at ly w ≡ 1) × (at r w ≡ 1) × (at i w ≡ 0))
     → productAt lx ly r i n v xs ys acc ≡ add binary64 acc (mul binary64 (getD xs 0 nan) (getD ys 0 nan))
 unfolding productAt
 product-ones lx ly r i zero v xs ys acc h = refl
@@ -102,20 +104,23 @@ module _ {ly r : List ℕ} {v : ℕ} (g : Single ly r v) where
       let q = lengths-pos (g .right) v (g .some) in
       record { below = omega arith; left = h; right = omega (arith, first-in (g .right) (g .some) m) }
 
-one-place : (x : Float) (old : List Float) → length old ≡ 1 → set old 0 x ≡ x ∷ []
-one-place x [] h = absurd (omega arith)
-one-place x (y ∷ []) h = refl
-one-place x (y ∷ z ∷ old) h = absurd (omega arith)
-
-module _ {ly sy r sr : List ℕ} (g : Dividing ly sy r sr) {v k mr : ℕ} (done ys : List Float) (t : Taking ly r v k (length done) (length ys) mr) (e : at sr v ≡ 1) where
+module _ {ly sy r sr : List ℕ} (g : Dividing ly sy r sr) {v k mr : ℕ} (done ys : List Float)
+    (t : Taking ly r v k (length done) (length ys) mr) (e : at sr v ≡ 1) where
   single : Single ly r v
   single =
-      record { right = g .strided .right; result = g .strided .result; inner = g .inner; some = t .some; one = sym (stride-at r (g .strided .by-r) (t .some)) ∙ e }
+      record {
+        right = g .strided .right;
+        result = g .strided .result;
+        inner = g .inner;
+        some = t .some;
+        one = sym (stride-at r (g .strided .by-r) (t .some)) ∙ e;
+      }
 
   pub one-summing : {a : ℕ} → a ≡ lo (at ly v) k → Summing k a k (length done) (length ys)
   one-summing p = summing single p (let m : k * inRow r v ≡ k = rw (single .one) (omega arith) in omega (arith, t .before)) (t .room)
 
-  pub one-taken : (old : List Float) {a : ℕ} {z : Float} → length old ≡ mr → a ≡ lo (at ly v) k → z ≡ walk (term done ys k) (k - a) a zeroF → set old 0 z ≡ table (inRow r v) (takenAt ly r v k done ys)
+  pub one-taken : (old : List Float) {a : ℕ} {z : Float} → length old ≡ mr → a ≡ lo (at ly v) k
+      → z ≡ walk (term done ys k) (k - a) a zeroF → set old 0 z ≡ table (inRow r v) (takenAt ly r v k done ys)
   unfolding table
   one-taken old {a} {z} l p h =
       let f : ℕ → Float = takenAt ly r v k done ys in

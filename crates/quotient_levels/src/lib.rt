@@ -1,5 +1,7 @@
-// The quotient from a variable on: rows of the variables left, each lessened by what the rows before it take. It recurses over the variables.
-// In the work lie the divisor, the finished places, and behind these, used as a stack, what each level still has to divide.
+// The quotient from a variable on: rows of the variables left, each lessened by what the rows before it take. It
+// recurses over the variables.
+// In the work lie the divisor, the finished places, and behind these, used as a stack, what each level still has to
+// divide.
 ghost use mathlib.Core.Path.{_≡_};
 ghost use Prim.Native.Nat.{_+_, _-_, _*_, _<_};
 ghost use lib.ListN.{length};
@@ -13,7 +15,8 @@ ghost use Rattle.quotient_lessening.specs.Laid.{Laid};
 ghost use Rattle.quotient_levels.specs.Level.{takenAt, leftAt, levelOf, passed};
 ghost use Rattle.quotient_levels.specs.Room.{Dividing, Taking, Room, RowRoom, Line};
 
-// What the rows before the row k of the variable v take from each of its places: the row j times the divisor's row k - j, j ascending.
+// What the rows before the row k of the variable v take from each of its places: the row j times the divisor's row k -
+// j, j ascending.
 fn taken_by_rows(
     done: &[f64],
     ys: &[f64],
@@ -65,7 +68,8 @@ pub fn taken_row(
     taken_by_rows(done, ys, ly, sy, r, sr, v, k, row);
 }
 
-// What the row k of a level still has to divide: its c lies from p up to e, and the rows before it from q on. It goes to e.
+// What the row k of a level still has to divide: its c lies from p up to e, and the rows before it from q on. It goes
+// to e.
 fn gather(
     work: &mut [f64],
     p: usize,
@@ -82,7 +86,10 @@ fn gather(
     row: &mut [f64],
 )
     requires { ⌜ Dividing ly sy r sr ⌝ ∗ ⌜ RowRoom ly r v k p e q b f (length (now work)) (length (now row)) ⌝ }
-    ensures { λ _. ⌜ Laid e (table (inRow r v) (leftAt ly r v k (part q (q + k * inRow r v) (now (work .entry))) (part b f (now (work .entry))) (part p e (now (work .entry))))) (length (now (work .entry))) (now (work .entry)) (now (work .exit)) ⌝ }
+    ensures { λ _.
+        ⌜ Laid e (table (inRow r v) (leftAt ly r v k (part q (q + k * inRow r v) (now (work .entry)))
+        (part b f (now (work .entry))) (part p e (now (work .entry))))) (length (now (work .entry)))
+        (now (work .entry)) (now (work .exit)) ⌝ }
 {
     let at = k * sr[v];
     let end = q + at;
@@ -161,7 +168,8 @@ fn each_row(
     }
 }
 
-// The sub-block of the variables from v on: what lies from p up to e, divided by the divisor, which lies from b up to f, goes to q.
+// The sub-block of the variables from v on: what lies from p up to e, divided by the divisor, which lies from b up to
+// f, goes to q.
 pub fn level(
     work: &mut [f64],
     p: usize,

@@ -1,47 +1,24 @@
 -- Every constructor, `taylor_polynomial` and `coefficients_of_term` keep what an operation owes of its result.
 use Prim.Native.Nat.{ℕ, _<_}
 use mathlib.Core.List.{List, [], _∷_}
-use mathlib.Core.Path.{_≡_, refl, sym}
-use native.Mathlib.Omega.{arith}
+use mathlib.Core.Path.{refl, sym}
 use lib.Dec.{leb}
-use lib.ListN.{length}
 use lib.Ieee.{Float}
 use borrow.Author.Tests.{leb-true, leb-false}
 use Rattle.lists.specs.Test.{decide}
-use Rattle.lists.specs.Four.{at-four}
 use Rattle.lists.specs.Table.{length-table}
-use Rattle.model.specs.declared.Header.{Header}
 use Rattle.model.specs.declared.Family.the-variants.{Term, Order}
-use Rattle.model.specs.Header.{header, len, span, stored, ones, noHeader, zeroWith, varWith}
+use Rattle.model.specs.Header.{header, len, stored, noHeader, zeroWith, varWith}
 use Rattle.model.specs.Announced.{announced}
 use Rattle.model.specs.Refusals.{zeroF}
-use Rattle.model.specs.Poly.{Poly, poly}
+use Rattle.model.specs.Poly.{Poly}
 use Rattle.model.specs.Readings.{taylorPolynomial, coefficientsOfTerm, oneF}
-use Rattle.shape_words.specs.Rules.{GoodVar, Ruled, Regular, ruled-at}
-use Rattle.shape.specs.Under.{under-same}
-use Rattle.shape.specs.Keeps.{Keeps}
+use Rattle.shape_words.specs.Rules.{Ruled, Regular}
+use Rattle.shape.specs.Keeps.{Keeps, ones-keeps, full-keeps}
 use Rattle.model.specs.Constructed.{constant, variable}
 use lib.Seq.{length-take-le}
 use Rattle.readings_short.specs.Short.{zero-count, var-count}
 use Rattle.readings_row.specs.Term.{termHeader, term-regular, order-regular, term-past, term-row}
-
--- a header with all lengths 1
-ones-var : {v k l n : ℕ} → GoodVar v k l n → GoodVar v k l 1
-ones-var g = record { pos = omega arith; fit = omega arith; most = g .most; gone = g .gone }
-
-pub ones-keeps : {h : Header} (x : Float) → Regular h → Keeps h (poly (header (h .vars) (h .limits) ones) (x ∷ []))
-unfolding span
-ones-keeps {h} x r =
-    let g = r .rules in
-    record {
-      regular = record { rules = record { few = g .few; v0 = ones-var (g .v0); v1 = ones-var (g .v1); v2 = ones-var (g .v2); v3 = ones-var (g .v3) }; ls = r .ls; ns = refl };
-      under = record { vars = refl; limits = refl; most = λ k p. rw (at-four (λ k. 1) k p) (ruled-at g k p .pos) };
-      full = refl;
-    }
-
--- a header that is filled
-pub full-keeps : {h : Header} {a : List Float} → Regular h → length a ≡ stored h → Keeps h (poly h a)
-full-keeps {h} r e = record { regular = r; under = under-same h; full = e }
 
 -- constructors: their header is the announced one (without variables: `none-keeps`, crate shape)
 

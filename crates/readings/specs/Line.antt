@@ -67,7 +67,8 @@ stride-lt {n} g =
     (λ t. omega (arith, place-lt n (0 ∷ 0 ∷ 0 ∷ 1 ∷ []) (record { i0 = g .p0; i1 = g .p1; i2 = g .p2; i3 = omega arith })))
 
 -- the test of one variable, as `fits_in` answers it
-module _ (a : List Float) (n : List ℕ) (full : length a ≡ count n) {s : List ℕ} (e : s ≡ strides n) (v : ℕ) {r : Bool} (k : r ≡ (leb 2 (at n v) && zerosBut a (at s v) (length a))) where
+module _ (a : List Float) (n : List ℕ) (full : length a ≡ count n) {s : List ℕ} (e : s ≡ strides n) (v : ℕ) {r : Bool}
+    (k : r ≡ (leb 2 (at n v) && zerosBut a (at s v) (length a))) where
   pub fits-is : r ≡ linearIn (block n a) v
   unfolding linearIn
   fits-is = k ∙ (rw (e, full))

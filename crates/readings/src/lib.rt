@@ -18,7 +18,9 @@ ghost use Rattle.model.specs.Refusals.{zeroF};
 ghost use Rattle.model.specs.Gates.{withGate, varWithGate, varHeader, varGate};
 ghost use Rattle.model.specs.Answers.{answered, outAfter};
 ghost use Rattle.model.specs.Constructed.{constant, wholeF, variable};
-ghost use Rattle.model.specs.Readings.{oneF, coefficientAnswer, constantTermAnswer, evaluateAllOneAnswer, extractLinearAnswer, taylorPolynomialAnswer, taylorPolynomialOut, coefficientsOfTermAnswer, coefficientsOfTermOut};
+ghost use Rattle.model.specs.Readings.{oneF, coefficientAnswer, constantTermAnswer, evaluateAllOneAnswer};
+ghost use Rattle.model.specs.Readings.{extractLinearAnswer, taylorPolynomialAnswer, taylorPolynomialOut};
+ghost use Rattle.model.specs.Readings.{coefficientsOfTermAnswer, coefficientsOfTermOut};
 ghost use Rattle.model.specs.Tail.{tailAnswer};
 
 // +0.0, with no variables: refusal 5.
@@ -40,7 +42,8 @@ pub fn one(out: &mut [f64]) -> Answer
 // c, with no variables: refusal 5.
 pub fn from_u32(c: u32, out: &mut [f64]) -> Answer
     ensures answer { λ r. ⌜ r ≡ answered (withGate 0 ones (length (now (out .entry)))) (constant noHeader (wholeF c)) ⌝ }
-    ensures written { λ r. ⌜ now (out .exit) ≡ outAfter (withGate 0 ones (length (now (out .entry)))) noHeader (constant noHeader (wholeF c)) (now (out .entry)) ⌝ }
+    ensures written { λ r. ⌜ now (out .exit) ≡ outAfter (withGate 0 ones (length (now (out .entry)))) noHeader
+        (constant noHeader (wholeF c)) (now (out .entry)) ⌝ }
 {
     readings_short::constant_with(c as f64, 0, [1, 1, 1, 1], out)
 }
@@ -48,7 +51,8 @@ pub fn from_u32(c: u32, out: &mut [f64]) -> Answer
 // +0.0 under the first `vars` of the limits: refusals 1, 5.
 pub fn zero_with(vars: usize, limits: [usize; 4], out: &mut [f64]) -> Answer
     ensures answer { λ r. ⌜ r ≡ answered (withGate vars limits (length (now (out .entry)))) (constant (zeroWith vars limits) zeroF) ⌝ }
-    ensures written { λ r. ⌜ now (out .exit) ≡ outAfter (withGate vars limits (length (now (out .entry)))) (zeroWith vars limits) (constant (zeroWith vars limits) zeroF) (now (out .entry)) ⌝ }
+    ensures written { λ r. ⌜ now (out .exit) ≡ outAfter (withGate vars limits (length (now (out .entry)))) (zeroWith vars limits)
+        (constant (zeroWith vars limits) zeroF) (now (out .entry)) ⌝ }
 {
     readings_short::constant_with(0.0, vars, limits, out)
 }
@@ -56,7 +60,8 @@ pub fn zero_with(vars: usize, limits: [usize; 4], out: &mut [f64]) -> Answer
 // c under the first `vars` of the limits: refusals 1, 5.
 pub fn from_u32_with(c: u32, vars: usize, limits: [usize; 4], out: &mut [f64]) -> Answer
     ensures answer { λ r. ⌜ r ≡ answered (withGate vars limits (length (now (out .entry)))) (constant (zeroWith vars limits) (wholeF c)) ⌝ }
-    ensures written { λ r. ⌜ now (out .exit) ≡ outAfter (withGate vars limits (length (now (out .entry)))) (zeroWith vars limits) (constant (zeroWith vars limits) (wholeF c)) (now (out .entry)) ⌝ }
+    ensures written { λ r. ⌜ now (out .exit) ≡ outAfter (withGate vars limits (length (now (out .entry)))) (zeroWith vars limits)
+        (constant (zeroWith vars limits) (wholeF c)) (now (out .entry)) ⌝ }
 {
     readings_short::constant_with(c as f64, vars, limits, out)
 }
@@ -70,7 +75,8 @@ pub fn var_with_degrees_p1(
     out: &mut [f64],
 ) -> Answer
     ensures answer { λ r. ⌜ r ≡ answered (varWithGate v vars limits (length (now (out .entry)))) (variable (varWith v vars limits) x) ⌝ }
-    ensures written { λ r. ⌜ now (out .exit) ≡ outAfter (varWithGate v vars limits (length (now (out .entry)))) (varWith v vars limits) (variable (varWith v vars limits) x) (now (out .entry)) ⌝ }
+    ensures written { λ r. ⌜ now (out .exit) ≡ outAfter (varWithGate v vars limits (length (now (out .entry))))
+        (varWith v vars limits) (variable (varWith v vars limits) x) (now (out .entry)) ⌝ }
 {
     let refusal = gates::var_with_gate(v, vars, limits, out.len());
     if refusal.number != 0 {
@@ -82,7 +88,8 @@ pub fn var_with_degrees_p1(
 // x + v, every variable up to v under one limit: refusals 1, 3, 5.
 pub fn var(v: usize, x: f64, limit: usize, out: &mut [f64]) -> Answer
     ensures answer { λ r. ⌜ r ≡ answered (varGate v limit (length (now (out .entry)))) (variable (varHeader v limit) x) ⌝ }
-    ensures written { λ r. ⌜ now (out .exit) ≡ outAfter (varGate v limit (length (now (out .entry)))) (varHeader v limit) (variable (varHeader v limit) x) (now (out .entry)) ⌝ }
+    ensures written { λ r. ⌜ now (out .exit) ≡ outAfter (varGate v limit (length (now (out .entry)))) (varHeader v limit)
+        (variable (varHeader v limit) x) (now (out .entry)) ⌝ }
 {
     let refusal = gates::var_gate(v, limit, out.len());
     if refusal.number != 0 {
@@ -98,7 +105,8 @@ pub fn var(v: usize, x: f64, limit: usize, out: &mut [f64]) -> Answer
 // v itself, every variable up to it under one limit: refusals 1, 3, 5.
 pub fn var_at_zero(v: usize, limit: usize, out: &mut [f64]) -> Answer
     ensures answer { λ r. ⌜ r ≡ answered (varGate v limit (length (now (out .entry)))) (variable (varHeader v limit) zeroF) ⌝ }
-    ensures written { λ r. ⌜ now (out .exit) ≡ outAfter (varGate v limit (length (now (out .entry)))) (varHeader v limit) (variable (varHeader v limit) zeroF) (now (out .entry)) ⌝ }
+    ensures written { λ r. ⌜ now (out .exit) ≡ outAfter (varGate v limit (length (now (out .entry)))) (varHeader v limit)
+        (variable (varHeader v limit) zeroF) (now (out .entry)) ⌝ }
 {
     var(v, 0.0, limit, out)
 }

@@ -23,7 +23,7 @@ use Rattle.model.specs.Readings.{coefficientsOfTerm}
 use Rattle.shape_words.specs.Rules.{Ruled, Regular, ruled-at}
 use Rattle.shape_words.specs.Lengths.{lengths-of}
 use Rattle.shape.specs.Announced.{single-regular}
-use Rattle.blocks.specs.Fill.{table-add}
+use Rattle.lists.specs.Fill.{table-add}
 use Rattle.blocks.specs.Rows.{Cutting}
 use Rattle.readings_row.specs.Rows.{Picking}
 
@@ -51,7 +51,9 @@ pub order-regular : (v n : ℕ) {h : Header} → Ruled h → Regular (announced 
 unfolding announced
 order-regular v n g = single-regular (Order v n) g
 
-inner : (f : Family) (h : Header) → ((k : ℕ) → k < 4 → lengthAfter f k (limitAfter f k (limit h k)) 1 (len h k) 1 ≤ len h k) → (k : ℕ) → k < 4 → len (single f h) k ≤ len h k
+inner : (f : Family) (h : Header) → ((k : ℕ) → k < 4
+    → lengthAfter f k (limitAfter f k (limit h k)) 1 (len h k) 1 ≤ len h k) → (k : ℕ) → k < 4
+    → len (single f h) k ≤ len h k
 unfolding single
 inner f h g k p = rw (at-four (λ k. lengthAfter f k (limitAfter f k (limit h k)) 1 (len h k) 1) k p) (g k p)
 
@@ -64,7 +66,8 @@ unfolding announced
 order-inner v n h = inner (Order v n) h (λ k p. of-both (λ (x : ℕ). x ≤ len h k) (eqb k v) (omega arith) (le-refl (len h k)))
 
 -- what `load` asks, m and l the lengths of its buffers
-pub order-cutting : (v n : ℕ) {h r : Header} {m l : ℕ} → Ruled h → r ≡ announced (Order v n) h noHeader → m ≡ stored h → l ≡ stored r → Cutting (h .lengths) (r .lengths) m l
+pub order-cutting : (v n : ℕ) {h r : Header} {m l : ℕ} → Ruled h → r ≡ announced (Order v n) h noHeader → m ≡ stored h
+    → l ≡ stored r → Cutting (h .lengths) (r .lengths) m l
 order-cutting v n {h} {r} g e p q =
     let i : (k : ℕ) → k < 4 → len r k ≤ len h k = rw e (order-inner v n h) in
     let k : Ruled r = rw e (order-regular v n g .rules) in
@@ -110,6 +113,7 @@ module _ (v d : ℕ) (p : Poly) where
   term-past e l = rw (e, le-leb _ _ l)
 
   -- a stored row
-  pub term-row : {r : Header} → r ≡ termHeader → d < len (p .head) v → coefficientsOfTerm v d p ≡ poly r (table (stored r) (λ k. readAt (blockOf p) (set (index (r .lengths) k) v d)))
+  pub term-row : {r : Header} → r ≡ termHeader → d < len (p .head) v
+      → coefficientsOfTerm v d p ≡ poly r (table (stored r) (λ k. readAt (blockOf p) (set (index (r .lengths) k) v d)))
   unfolding coefficientsOfTerm
   term-row e l = rw (e, lt-leb _ _ l)

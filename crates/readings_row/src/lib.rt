@@ -12,7 +12,8 @@ ghost use Rattle.model.specs.Readings.{coefficientsOfTerm};
 ghost use Rattle.readings_row.specs.Rows.{Picking};
 ghost use Rattle.readings_row.specs.Term.{Termed};
 
-// The row `order` of the variable v of a block with the lengths n, which stores it; c are the lengths of what is written.
+// The row `order` of the variable v of a block with the lengths n, which stores it; c are the lengths of what is
+// written.
 pub fn pick(a: &[f64], n: [usize; 4], c: [usize; 4], v: usize, order: usize, to: &mut [f64])
     requires { ⌜ Picking n c v order (length (now a)) (length (now to)) ⌝ }
     ensures { λ _. ⌜ now (to .exit) ≡ table (count c) (λ k. readAt (block n (now (a .entry))) (set (index c k) v order)) ⌝ }
@@ -39,7 +40,8 @@ fn shortest(h: Header) -> Header
     }
 }
 
-// The row `order` of the variable v, with +0.0 past it: h is the header of `a`, r the announced one; answers the true one.
+// The row `order` of the variable v, with +0.0 past it: h is the header of `a`, r the announced one; answers the true
+// one.
 pub fn take_term(a: &[f64], h: Header, r: Header, v: usize, order: usize, to: &mut [f64]) -> Header
     requires { ⌜ Termed h r v (length (now a)) (length (now to)) ⌝ }
     ensures head { λ x. ⌜ x ≡ coefficientsOfTerm v order (poly h (now (a .entry))) .head ⌝ }

@@ -29,7 +29,8 @@ pub fn write_short(h: Header, x: f64, out: &mut [f64]) -> Answer
 // A constant that carries the first `vars` of the limits.
 pub fn constant_with(x: f64, vars: usize, limits: [usize; 4], out: &mut [f64]) -> Answer
     ensures answer { λ r. ⌜ r ≡ answered (withGate vars limits (length (now (out .entry)))) (constant (zeroWith vars limits) x) ⌝ }
-    ensures written { λ r. ⌜ now (out .exit) ≡ outAfter (withGate vars limits (length (now (out .entry)))) (zeroWith vars limits) (constant (zeroWith vars limits) x) (now (out .entry)) ⌝ }
+    ensures written { λ r. ⌜ now (out .exit) ≡ outAfter (withGate vars limits (length (now (out .entry)))) (zeroWith vars limits)
+        (constant (zeroWith vars limits) x) (now (out .entry)) ⌝ }
 {
     let refusal = gates::with_gate(vars, limits, out.len());
     if refusal.number != 0 {

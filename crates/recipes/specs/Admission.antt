@@ -1,6 +1,6 @@
 -- Why a run is refused before its first step, and what an admitted run shows at its end.
 use Prim.Native.Nat.{ℕ, suc, _+_, _-_, _*_, _≤_, _<_}
-use mathlib.Core.Bool.{Bool, true, false, _&&_}
+use mathlib.Core.Bool.{true, false, _&&_}
 use mathlib.Core.List.{List, [], _∷_, _++_}
 use mathlib.Core.Path.{_≡_, refl, sym, ap, _∙_}
 use native.Mathlib.Omega.{arith}
@@ -78,7 +78,8 @@ module _ {hs : List ℕ} {cs : List Float} {ss known : List ℕ} {mp ms : ℕ} (
   admitted-exactly e = record { none = g .none; full = g .full; pool = g .pool; room = omega (arith, e); noted = g .noted; many = g .many }
 
 -- the words of the steps, then what was there
-pub words-end : (k n : ℕ) (known ws words : List ℕ) {new : List ℕ} → take n (drop k known) ≡ ws → k + n ≤ length known → new ≡ over (part k (k + n) known) words → new ≡ ws ++ drop n words
+pub words-end : (k n : ℕ) (known ws words : List ℕ) {new : List ℕ} → take n (drop k known) ≡ ws → k + n ≤ length known
+    → new ≡ over (part k (k + n) known) words → new ≡ ws ++ drop n words
 words-end k n known ws words e l f =
     let m : k + n - k ≡ n = omega arith in
     let p : part k (k + n) known ≡ ws = ap (λ (z : ℕ). take z (drop k known)) m ∙ e in
@@ -86,6 +87,7 @@ words-end k n known ws words e l f =
     f ∙ rw (p, len)
 
 -- the scratch was used, and then cleared
-pub scratch-end : {m : ℕ} (n : ℕ) (old used : List Float) {front : List Float} {k : ℕ} → m ≡ 8 * n → length used ≡ m → front ≡ zeros k → k ≡ m → front ++ drop m (used ++ drop m old) ≡ cleared n old
+pub scratch-end : {m : ℕ} (n : ℕ) (old used : List Float) {front : List Float} {k : ℕ} → m ≡ 8 * n → length used ≡ m
+    → front ≡ zeros k → k ≡ m → front ++ drop m (used ++ drop m old) ≡ cleared n old
 unfolding cleared
 scratch-end {m} n old used e l f j = rw (f, j, drop-at used (drop m old) m l, e)

@@ -1,5 +1,6 @@
--- What a run answers and leaves behind: everything as it was where it is refused, else each step's value and true header, and a clear scratch.
-use Prim.Native.Nat.{ℕ, _+_, _*_, _≤_}
+-- What a run answers and leaves behind: everything as it was where it is refused, else each step's value and true
+-- header, and a clear scratch.
+use Prim.Native.Nat.{ℕ, _+_, _≤_}
 use mathlib.Core.List.{List, map, _++_}
 use mathlib.Core.Path.{_≡_, sym, ap, _∙_}
 use lib.ListN.{length, drop}
@@ -57,7 +58,8 @@ module _ (hs : List ℕ) (cs : List Float) (ss : List ℕ) (pool : List Float) (
     unfolding runAnswer runBy
     yes-answer = rw (← refusal) (simp (eq-eqb (r .number) 0 z))
 
-    pub yes-pool : {p : List Float} → p ≡ laid (announcedSteps hs ss) (stepValues hs cs ss) ++ drop (total (announcedSteps hs ss)) pool → p ≡ runPool hs cs ss pool words scratch
+    pub yes-pool : {p : List Float} → p ≡ laid (announcedSteps hs ss) (stepValues hs cs ss)
+        ++ drop (total (announcedSteps hs ss)) pool → p ≡ runPool hs cs ss pool words scratch
     unfolding runPool
     yes-pool e = rw (← refusal) (e ∙ leaves-yes r _ pool z)
 

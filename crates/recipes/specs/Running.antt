@@ -1,18 +1,19 @@
 -- A run after i steps: which words, starts and pool stand, and what one step more makes of them.
 use Prim.Native.Nat.{ℕ, zero, suc, _+_, _-_, _*_, _≤_, _<_}
-use mathlib.Core.Bool.{Bool, true, false, _&&_, cond}
+use mathlib.Core.Bool.{Bool, true, false}
 use mathlib.Core.List.{List, [], _∷_, _++_, map, append-assoc, append-nil}
 use mathlib.Core.Path.{_≡_, refl, sym, ap, _∙_}
 use native.Mathlib.Omega.{arith}
 use native.Mathlib.Numerals.{add-one}
 use lib.Dec.{ltb, leb, eqb}
-use lib.ListN.{length, getD, set, take, drop, length-take, length-drop, length-set, length-map, take-append-drop, List·getD-append}
-use lib.Seq.{take-suc, take-add, take-all, take-take, length-take-le, drop-drop, drop-append-le, getD-at, getD-drop, getD-take, getD-set-same, getD-set-other, ext-getD}
+use lib.ListN.{length, getD, set, take, drop, length-drop, length-set, length-map, take-append-drop, List·getD-append}
+use lib.Seq.{take-suc, take-add, take-all, take-take, length-take-le, drop-drop, drop-append-le, getD-at, getD-drop}
+use lib.Seq.{getD-take, getD-set-same, getD-set-other, ext-getD}
 use lib.Ieee.{Float}
 use borrow.Author.Tests.{eqb-true, eqb-false, le-leb, ltb-true, le-ltb, lt-ltb, leb-true, leb-false}
 use Rattle.lists.specs.Test.{decide}
 use Rattle.lists.specs.Chain.{chain, chain-append, chain-cons, chain-none, chain-keeps, length-chain}
-use Rattle.lists.specs.Part.{part, Kept}
+use Rattle.lists.specs.Part.{Kept}
 use Rattle.model.specs.declared.Header.{Header}
 use Rattle.model_recipes.specs.declared.Step.{Step}
 use Rattle.model.specs.Header.{limit, stored, noHeader}
@@ -31,7 +32,7 @@ use Rattle.shape.specs.Keeps.{Keeps}
 use Rattle.shape.specs.Under.{count-under}
 use Rattle.recipes_kinds.specs.Known.{head-at, small-variable, step-regular}
 use Rattle.recipes_operands.specs.Lent.{Lent}
-use Rattle.recipes_steps.specs.Ready.{valueOf, Known, Ready, Placed}
+use Rattle.recipes_steps.specs.Ready.{valueOf}
 use Rattle.recipes_check.specs.Judging.{heads}
 use Rattle.recipes_check.specs.Judged.{accepts}
 use Rattle.recipes_laws.specs.Formed.{formed-tests, formed-right}
@@ -39,7 +40,7 @@ use Rattle.recipes_laws.specs.Exact.{length-known}
 use Rattle.recipes_laws.specs.EachKind.{by-kind}
 use Rattle.recipes_laws.specs.Follows.{length-inputs, follows-known}
 use Rattle.recipes_laws.specs.Ahead.{Clear, ahead-at, clear-at, ready-at, keeps-at, announced-at, length-announced, step-largest}
-use Rattle.recipes_laws.specs.Passed.{StepReady, inLimit}
+use Rattle.recipes_laws.specs.Passed.{StepReady}
 use Rattle.recipes.specs.Standing.{lyingAt, Named, StepIn, constant-value, Begun, total-more, At, at-lying, at-lies, at-later, at-new, input-at}
 
 -- ---- operands of a step that is right
@@ -91,7 +92,8 @@ map-at f (x ∷ l) (suc j) h = map-at f l j (omega arith)
 
 -- ---- values end to end
 
-laid-snoc : (xs : List Header) (ys : List Poly) (h : Header) (v : Poly) → length ys ≡ length xs → laid (xs ++ (h ∷ [])) (ys ++ (v ∷ [])) ≡ laid xs ys ++ padded (stored h) (v .coeffs)
+laid-snoc : (xs : List Header) (ys : List Poly) (h : Header) (v : Poly) → length ys ≡ length xs
+    → laid (xs ++ (h ∷ [])) (ys ++ (v ∷ [])) ≡ laid xs ys ++ padded (stored h) (v .coeffs)
 unfolding laid
 laid-snoc [] [] h v e = append-nil (padded (stored h) (v .coeffs))
 laid-snoc [] (y ∷ ys) h v e = absurd (omega (arith, e))
@@ -124,7 +126,8 @@ pub record Admitted (hs : List ℕ) (cs : List Float) (ss : List ℕ) (known : L
   pub many : 64 ≤ length known
 
 -- old the words and the pool as they came
-pub record Running (hs : List ℕ) (cs : List Float) (ss old-known : List ℕ) (old-pool : List Float) (i at : ℕ) (known starts : List ℕ) (pool : List Float) : Type 0 where
+pub record Running (hs : List ℕ) (cs : List Float) (ss old-known : List ℕ) (old-pool : List Float) (i at : ℕ)
+    (known starts : List ℕ) (pool : List Float) : Type 0 where
   pub most : i ≤ length ss
   pub offset : at ≡ total (take i (announcedSteps hs ss))
   pub len-known : length known ≡ length old-known
@@ -161,11 +164,13 @@ module _ {hs : List ℕ} {cs : List Float} {ss old-known : List ℕ} {mp ms : �
   unfolding announcedPlaces
   first-head q l =
       let e : take k (chain announcedStep (inputHeads hs) ss) ≡ inputHeads hs =
-      chain-keeps announcedStep (inputHeads hs) ss k (omega (arith, length-map hs headerOf)) ∙ take-all k (inputHeads hs) (omega (arith, length-map hs headerOf)) in
+      chain-keeps announcedStep (inputHeads hs) ss k (omega (arith, length-map hs headerOf))
+      ∙ take-all k (inputHeads hs) (omega (arith, length-map hs headerOf)) in
       sym (getD-take k (chain announcedStep (inputHeads hs) ss) q noHeader l) ∙ (ap (λ (x : List Header). headAt x q) e ∙ input-head hs cs q)
 
   -- ---- at the beginning
-  pub running-none : {starts : List ℕ} (pool : List Float) {old : List ℕ} → Begun hs k old starts → 64 ≤ length old → Running hs cs ss old-known pool 0 0 old-known starts pool
+  pub running-none : {starts : List ℕ} (pool : List Float) {old : List ℕ} → Begun hs k old starts → 64 ≤ length old
+      → Running hs cs ss old-known pool 0 0 old-known starts pool
   unfolding total values chain laid
   running-none {starts} pool b l =
       record {
@@ -183,7 +188,8 @@ module _ {hs : List ℕ} {cs : List Float} {ss old-known : List ℕ} {mp ms : �
       }
 
   -- ---- one step more
-  module _ {old-pool : List Float} {i at : ℕ} {known starts : List ℕ} {pool : List Float} (r : Running hs cs ss old-known old-pool i at known starts pool) (l : i < length ss) where
+  module _ {old-pool : List Float} {i at : ℕ} {known starts : List ℕ} {pool : List Float}
+      (r : Running hs cs ss old-known old-pool i at known starts pool) (l : i < length ss) where
     abbrev w : ℕ
     w = getD ss i 0
 
@@ -269,7 +275,11 @@ module _ {hs : List ℕ} {cs : List Float} {ss old-known : List ℕ} {mp ms : �
               known = record { some = omega arith; most = few-kinds w (k + i) formed-at; var = λ h t. small-variable w; below = number-below };
               fits = rw er (ready-now .room .fits);
             });
-            placed = rw (ha, hb) (record { left = at-lies (r .stands (step .a) (o .0)) (length-before e); right = at-lies (r .stands (step .b) (o .1)) (length-before e) });
+            placed =
+                rw (
+                  ha,
+                  hb,
+                ) (record { left = at-lies (r .stands (step .a) (o .0)) (length-before e); right = at-lies (r .stands (step .b) (o .1)) (length-before e) });
           }
 
       pub step-in : length pool ≡ mp → StepIn step k known starts (length cs) at room
@@ -281,7 +291,9 @@ module _ {hs : List ℕ} {cs : List Float} {ss old-known : List ℕ} {mp ms : �
       value-is : valueOf step (lyingAt k known starts cs (take at pool) (step .a)) (lyingAt k known starts cs (take at pool) (step .b)) ≡ stepValue w vs
       value-is =
           decide (eqb (step .kind) 0)
-          (λ t. let e = eqb-true (step .kind) 0 t in sym (constant-value step _ _ e) ∙ (constant-value step (valueAt vs (step .a)) (valueAt vs (step .b)) e ∙ same-value))
+          (λ t. let e = eqb-true (step .kind) 0 t in
+          sym (constant-value step _ _ e)
+          ∙ (constant-value step (valueAt vs (step .a)) (valueAt vs (step .b)) e ∙ same-value))
           (λ t. let o = operands-early w (k + i) formed-at (eqb-false (step .kind) 0 t) in
           ap (λ (v : Poly). valueOf step v (lyingAt k known starts cs (take at pool) (step .b))) (place-is (step .a) (o .0))
           ∙ (ap (valueOf step (valueAt vs (step .a))) (place-is (step .b) (o .1)) ∙ same-value))
@@ -290,7 +302,8 @@ module _ {hs : List ℕ} {cs : List Float} {ss old-known : List ℕ} {mp ms : �
       unfolding values
       next-values =
           rw (add-one i) (ap (chain stepValue (inputValues hs cs)) (take-suc ss i 0 l)
-          ∙ (chain-append stepValue (inputValues hs cs) (take i ss) (w ∷ []) ∙ (chain-cons stepValue vs w [] ∙ chain-none stepValue (vs ++ (stepValue w vs ∷ [])))))
+          ∙ (chain-append stepValue (inputValues hs cs) (take i ss) (w ∷ [])
+          ∙ (chain-cons stepValue vs w [] ∙ chain-none stepValue (vs ++ (stepValue w vs ∷ [])))))
 
       old-value : (q : ℕ) → q < k + i → valueAt (vs ++ (stepValue w vs ∷ [])) q ≡ valueAt vs q
       old-value q h = List·getD-append vs (stepValue w vs ∷ []) noValue q (omega (arith, length-values i (r .most)))
@@ -300,7 +313,9 @@ module _ {hs : List ℕ} {cs : List Float} {ss old-known : List ℕ} {mp ms : �
 
       module _ {word : ℕ} {pool' : List Float} (e : length pool ≡ mp)
           (ew : word ≡ wordOf (valueOf step (lyingAt k known starts cs (take at pool) (step .a)) (lyingAt k known starts cs (take at pool) (step .b)) .head))
-          (ek : Kept at (at + room) (padded room (valueOf step (lyingAt k known starts cs (take at pool) (step .a)) (lyingAt k known starts cs (take at pool) (step .b)) .coeffs)) pool pool') where
+          (ek : Kept at (at + room)
+          (padded room (valueOf step (lyingAt k known starts cs (take at pool) (step .a))
+          (lyingAt k known starts cs (take at pool) (step .b)) .coeffs)) pool pool') where
         abbrev v : Poly
         v = stepValue w vs
 
@@ -334,14 +349,18 @@ module _ {hs : List ℕ} {cs : List Float} {ss old-known : List ℕ} {mp ms : �
         heads-more : (q : ℕ) → q < k + (i + 1) → headerOf (getD known' q 0) ≡ valueAt (vs ++ (v ∷ [])) q .head
         heads-more q h =
             decide (eqb q (k + i))
-            (λ t. let z : q ≡ k + i = eqb-true q (k + i) t in rw z (ap headerOf (getD-set-same known (k + i) word 0 (omega (arith, fit, g .many, small))) ∙ (head-new ∙ ap (λ (p : Poly). p .head) (sym new-value))))
+            (λ t. let z : q ≡ k + i = eqb-true q (k + i) t in
+            rw z (ap headerOf (getD-set-same known (k + i) word 0 (omega (arith, fit, g .many, small)))
+            ∙ (head-new ∙ ap (λ (p : Poly). p .head) (sym new-value))))
             (λ t. let n = eqb-false q (k + i) t in let o = at-place q h n in
             ap headerOf (getD-set-other known (k + i) q word 0 n) ∙ (r .true-heads q o ∙ ap (λ (p : Poly). p .head) (sym (old-value q o))))
 
         written-more : (j : ℕ) → j < i + 1 → getD known' (k + j) 0 ≡ wordOf (valueAt (vs ++ (v ∷ [])) (k + j) .head)
         written-more j h =
             decide (eqb j i)
-            (λ t. let z : j ≡ i = eqb-true j i t in rw z (getD-set-same known (k + i) word 0 (omega (arith, fit, g .many, small)) ∙ (word-is ∙ ap (λ (p : Poly). wordOf (p .head)) (sym new-value))))
+            (λ t. let z : j ≡ i = eqb-true j i t in
+            rw z (getD-set-same known (k + i) word 0 (omega (arith, fit, g .many, small))
+            ∙ (word-is ∙ ap (λ (p : Poly). wordOf (p .head)) (sym new-value))))
             (λ t. let n : k + j ≡ k + i → ⊥ = λ z. eqb-false j i t (omega (arith, z)) in let o : j < i = omega (arith, eqb-false j i t) in
             getD-set-other known (k + i) (k + j) word 0 n ∙ (r .written j o ∙ ap (λ (p : Poly). wordOf (p .head)) (sym (old-value (k + j) (omega arith)))))
 
@@ -368,13 +387,18 @@ module _ {hs : List ℕ} {cs : List Float} {ss old-known : List ℕ} {mp ms : �
         lies-more =
             let len : length (take i (announcedSteps hs ss)) ≡ i = length-take-le i (announcedSteps hs ss) (omega (arith, length-announced hs ss)) in
             let z : at + room - at ≡ room = omega arith in
-            let d : drop k (vs ++ (stepValue w vs ∷ [])) ≡ drop k vs ++ (stepValue w vs ∷ []) = drop-append-le k vs (stepValue w vs ∷ []) (omega (arith, length-values i (r .most))) in
+            let d : drop k (vs ++ (stepValue w vs ∷ [])) ≡ drop k vs ++ (stepValue w vs ∷ []) =
+            drop-append-le k vs (stepValue w vs ∷ []) (omega (arith, length-values i (r .most))) in
             let t : take (i + 1) (announcedSteps hs ss) ≡ take i (announcedSteps hs ss) ++ (announcedStep w before ∷ []) =
-            rw (add-one i) (take-suc (announcedSteps hs ss) i noHeader (omega (arith, length-announced hs ss)) ∙ ap (λ (h : Header). take i (announcedSteps hs ss) ++ (h ∷ [])) next) in
+            rw (add-one i) (take-suc (announcedSteps hs ss) i noHeader (omega (arith, length-announced hs ss))
+            ∙ ap (λ (h : Header). take i (announcedSteps hs ss) ++ (h ∷ [])) next) in
             take-add at room pool'
             ∙ (ap (λ (x : List Float). x ++ take room (drop at pool')) (kept .below .head ∙ r .lies)
-            ∙ (ap (λ (x : List Float). laid (take i (announcedSteps hs ss)) (drop k vs) ++ x) (ap (λ (n : ℕ). take n (drop at pool')) (sym z) ∙ (kept .holds ∙ ap (λ (n : ℕ). padded n (stepValue w vs .coeffs)) er))
-            ∙ (sym (laid-snoc (take i (announcedSteps hs ss)) (drop k vs) (announcedStep w before) (stepValue w vs) (omega (arith, len, length-drop k vs, length-values i (r .most))))
+            ∙ (ap (λ (x : List Float). laid (take i (announcedSteps hs ss)) (drop k vs) ++ x)
+            (ap (λ (n : ℕ). take n (drop at pool')) (sym z)
+            ∙ (kept .holds ∙ ap (λ (n : ℕ). padded n (stepValue w vs .coeffs)) er))
+            ∙ (sym (laid-snoc (take i (announcedSteps hs ss)) (drop k vs) (announcedStep w before) (stepValue w vs)
+            (omega (arith, len, length-drop k vs, length-values i (r .most))))
             ∙ rw (t, d))))
 
         rest-more : drop (at + room) pool' ≡ drop (at + room) old-pool
@@ -397,7 +421,8 @@ module _ {hs : List ℕ} {cs : List Float} {ss old-known : List ℕ} {mp ms : �
             }
 
   -- ---- at the end
-  module _ {old-pool : List Float} {i at : ℕ} {known starts : List ℕ} {pool : List Float} (r : Running hs cs ss old-known old-pool i at known starts pool) (l : length ss ≤ i) where
+  module _ {old-pool : List Float} {i at : ℕ} {known starts : List ℕ} {pool : List Float}
+      (r : Running hs cs ss old-known old-pool i at known starts pool) (l : length ss ≤ i) where
     all-done : i ≡ length ss
     all-done = omega (arith, r .most)
 
@@ -421,7 +446,9 @@ module _ {hs : List ℕ} {cs : List Float} {ss old-known : List ℕ} {mp ms : �
         let m : length (values hs cs (take i ss)) ≡ k + length ss = omega (arith, length-values i (r .most), all-done) in
         let n : length (values hs cs ss) ≡ k + length ss = ap (λ (x : List ℕ). length (values hs cs x)) (sym all-steps) ∙ m in
         let d : length (drop k (values hs cs ss)) ≡ length ss = omega (arith, length-drop k (values hs cs ss)) in
-        let len : length (take (length ss) (drop k known)) ≡ length ss = length-take-le (length ss) (drop k known) (omega (arith, length-drop k known, r .len-known, g .many, fit)) in
+        let len : length (take (length ss) (drop k known)) ≡ length ss =
+        length-take-le (length ss) (drop k known)
+        (omega (arith, length-drop k known, r .len-known, g .many, fit)) in
         ext-getD 0 (take (length ss) (drop k known)) (map word (drop k (values hs cs ss))) (len ∙ sym (length-map (drop k (values hs cs ss)) word ∙ d))
         (λ j h.
         let m : j < length ss = omega (arith, len) in

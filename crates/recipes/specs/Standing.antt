@@ -1,31 +1,31 @@
--- Where the values of a run's places stand: an input's among the coefficients, a step's in the pool, each from its start on.
+-- Where the values of a run's places stand: an input's among the coefficients, a step's in the pool, each from its
+-- start on.
 use Prim.Native.Nat.{ℕ, zero, suc, _+_, _-_, _*_, _^_, _≤_, _<_}
-use mathlib.Core.Bool.{Bool, true, false, cond}
-use mathlib.Core.List.{List, [], _∷_, _++_, map}
+use mathlib.Core.Bool.{Bool, true, false}
+use mathlib.Core.List.{List, [], _∷_, _++_}
 use mathlib.Core.Path.{_≡_, refl, sym, ap, _∙_}
 use native.Mathlib.Omega.{arith}
 use native.Mathlib.Numerals.{add-one}
-use native.Mathlib.Nat.{zero-add, suc-add}
 use lib.Dec.{ltb, eqb}
-use lib.ListN.{length, getD, set, take, drop, length-take, length-drop, length-set, length-map}
-use lib.Seq.{take-at, take-take, drop-drop, take-nil, length-take-le, getD-set-same, getD-set-other, take-suc}
+use lib.ListN.{length, getD, set, take, drop, length-drop, length-set, length-map}
+use lib.Seq.{take-at, take-take, drop-drop, length-take-le, getD-set-same, getD-set-other, take-suc}
 use lib.Ieee.{Float}
 use borrow.Author.Tests.{eqb-true, eqb-false}
 use Rattle.lists.specs.Test.{decide}
-use Rattle.lists.specs.Part.{part, Kept}
+use Rattle.lists.specs.Part.{Kept, drop-take}
 use Rattle.model.specs.declared.Header.{Header}
 use Rattle.model_recipes.specs.declared.Step.{Step}
 use Rattle.model.specs.Header.{stored, noHeader}
-use Rattle.model.specs.Word.{headerOf, wordOf}
+use Rattle.model.specs.Word.{headerOf}
 use Rattle.model.specs.Refusals.{zeros, padded}
 use Rattle.model.specs.Constructed.{constant, wholeF}
-use Rattle.model.specs.Poly.{Poly, poly, held}
+use Rattle.model.specs.Poly.{Poly, poly}
 use Rattle.model_recipes.specs.Recipe.{inputHeads, headAt, total}
-use Rattle.model_recipes.specs.Run.{inputValues, operations, noValue, valueAt}
+use Rattle.model_recipes.specs.Run.{inputValues, operations, valueAt}
 use Rattle.shape_words.specs.Lengths.{lengths-of, count-most}
 use Rattle.recipes_kinds.specs.Known.{Known, head-at}
 use Rattle.recipes_check.specs.Counts.{word-ruled}
-use Rattle.recipes_operands.specs.Lent.{source, lying, Lies}
+use Rattle.recipes_operands.specs.Lent.{source, lying, Lies, length-source}
 use Rattle.recipes_steps.specs.Ready.{valueOf, Placed, Ready}
 
 -- the value of the place q, by its word and its start; k inputs
@@ -39,7 +39,8 @@ pub record Named (s : Step) (k : ℕ) (known starts : List ℕ) (mc at room : �
   pub b-known : s .b < length known
   pub b-starts : s .b < length starts
   pub ready : Ready s (headerOf (getD known (s .a) 0)) (headerOf (getD known (s .b) 0)) room
-  pub placed : Placed (headerOf (getD known (s .a) 0)) (ltb (s .a) k) (getD starts (s .a) 0) (headerOf (getD known (s .b) 0)) (ltb (s .b) k) (getD starts (s .b) 0) at mc
+  pub placed : Placed (headerOf (getD known (s .a) 0)) (ltb (s .a) k) (getD starts (s .a) 0)
+      (headerOf (getD known (s .b) 0)) (ltb (s .b) k) (getD starts (s .b) 0) at mc
 
 pub record StepIn (s : Step) (k : ℕ) (known starts : List ℕ) (mc at room : ℕ) : Type 0 where
   pub some : 1 ≤ room
@@ -60,7 +61,8 @@ pub record Begun (hs : List ℕ) (i : ℕ) (old starts : List ℕ) : Type 0 wher
 pub begun-none : {hs old : List ℕ} → Begun hs 0 old old
 begun-none = record { len = refl; from = λ q l. absurd (omega arith) }
 
-pub begun-more : {hs old starts : List ℕ} {i f : ℕ} → Begun hs i old starts → f ≡ total (take i (inputHeads hs)) → i < length old → Begun hs (i + 1) old (set starts i f)
+pub begun-more : {hs old starts : List ℕ} {i f : ℕ} → Begun hs i old starts → f ≡ total (take i (inputHeads hs))
+    → i < length old → Begun hs (i + 1) old (set starts i f)
 begun-more {hs} {old} {starts} {i} {f} b e l =
     record {
       len = length-set starts i f ∙ b .len;
@@ -112,18 +114,9 @@ pub record At (input : Bool) (from : ℕ) (cs before : List Float) (v : Poly) : 
 pub at-lying : {input : Bool} {from : ℕ} {cs before : List Float} {v : Poly} → At input from cs before v → lying input cs before from (v .head) ≡ v
 at-lying {v = v} a = ap (poly (v .head)) (sym (a .holds))
 
-length-source : (input : Bool) (cs before : List Float) → length (source input cs before) ≡ cond input (length cs) (length before)
-length-source true cs before = refl
-length-source false cs before = refl
-
-pub at-lies : {input : Bool} {from at : ℕ} {cs before : List Float} {v : Poly} → At input from cs before v → length before ≡ at → Lies (v .head) input from at (length cs)
+pub at-lies : {input : Bool} {from at : ℕ} {cs before : List Float} {v : Poly} → At input from cs before v
+    → length before ≡ at → Lies (v .head) input from at (length cs)
 at-lies {input} {cs = cs} {before} a e = record { ends = rw (← e, ← length-source input cs before) (a .ends) }
-
--- a part of a front
-drop-take : {A : Type 0} (f k : ℕ) (l : List A) → drop f (take (f + k) l) ≡ take k (drop f l)
-drop-take zero k l = rw (zero-add k)
-drop-take (suc f) k [] = rw (take-nil (suc f + k), take-nil k)
-drop-take (suc f) k (x ∷ l) = rw (suc-add f k) (drop-take f k l)
 
 front-part : {A : Type 0} (f c n : ℕ) (l : List A) → f + c ≤ n → take c (drop f (take n l)) ≡ take c (drop f l)
 front-part f c n l h =
@@ -131,27 +124,34 @@ front-part f c n l h =
     ap (λ (z : ℕ). take c (drop f (take z l))) e ∙ (ap (take c) (drop-take f (n - f) l) ∙ take-take c (n - f) (drop f l) (omega arith))
 
 -- what stands stays, where the pool grows behind it
-pub at-later : (input : Bool) {from n : ℕ} {cs before after : List Float} {v : Poly} → At input from cs before v → length before ≡ n → take n after ≡ before → n ≤ length after → At input from cs after v
+pub at-later : (input : Bool) {from n : ℕ} {cs before after : List Float} {v : Poly} → At input from cs before v
+    → length before ≡ n → take n after ≡ before → n ≤ length after → At input from cs after v
 at-later true a e f l = record { ends = a .ends; holds = a .holds }
 at-later false {from} {n} {after = after} {v = v} a e f l =
     record {
       ends = omega (arith, a .ends);
-      holds = a .holds ∙ (ap (λ (z : List Float). take (stored (v .head)) (drop from z)) (sym f) ∙ front-part from (stored (v .head)) n after (omega (arith, a .ends)));
+      holds =
+          a .holds ∙ (ap (λ (z : List Float). take (stored (v .head)) (drop from z)) (sym f)
+          ∙ front-part from (stored (v .head)) n after (omega (arith, a .ends)));
     }
 
 -- the value that was written last
-pub at-new : {at room : ℕ} (cs : List Float) {w w' : List Float} {v : Poly} → Kept at (at + room) (padded room (v .coeffs)) w w' → length (v .coeffs) ≡ stored (v .head) → stored (v .head) ≤ room
+pub at-new : {at room : ℕ} (cs : List Float) {w w' : List Float} {v : Poly}
+    → Kept at (at + room) (padded room (v .coeffs)) w w' → length (v .coeffs) ≡ stored (v .head)
+    → stored (v .head) ≤ room
     → at + room ≤ length w' → At false at cs (take (at + room) w') v
 at-new {at} {room} cs {w} {w'} {v} k full less fits =
     let c : ℕ = stored (v .head) in
     let z : at + room - at ≡ room = omega arith in
     let p : take c (drop at (take (at + room) w')) ≡ v .coeffs =
     front-part at c (at + room) w' (omega arith)
-    ∙ (sym (take-take c (at + room - at) (drop at w') (omega arith)) ∙ (ap (take c) (k .holds) ∙ take-at (v .coeffs) (zeros (room - length (v .coeffs))) c full)) in
+    ∙ (sym (take-take c (at + room - at) (drop at w') (omega arith))
+    ∙ (ap (take c) (k .holds) ∙ take-at (v .coeffs) (zeros (room - length (v .coeffs))) c full)) in
     record { ends = omega (arith, length-take-le (at + room) w' fits); holds = sym p }
 
 -- the inputs
-pub input-at : (hs : List ℕ) (cs : List Float) (q : ℕ) → q < length hs → total (inputHeads hs) ≤ length cs → At true (total (take q (inputHeads hs))) cs [] (valueAt (inputValues hs cs) q)
+pub input-at : (hs : List ℕ) (cs : List Float) (q : ℕ) → q < length hs → total (inputHeads hs) ≤ length cs
+    → At true (total (take q (inputHeads hs))) cs [] (valueAt (inputValues hs cs) q)
 unfolding inputValues total
 input-at [] cs q l full = absurd (omega arith)
 input-at (w ∷ ws) cs zero l full = record { ends = omega arith; holds = refl }

@@ -17,7 +17,8 @@ ghost use Rattle.model_recipes.specs.Run.{stepValues, laid};
 ghost use Rattle.recipes.specs.Running.{Admitted};
 ghost use Rattle.recipes.specs.Admission.{Admits};
 
-// Why a run is refused: the check, then tests 2, 5, 6 by the lengths of the buffers. Where it is not, the words that all places announce stand in `known`.
+// Why a run is refused: the check, then tests 2, 5, 6 by the lengths of the buffers. Where it is not, the words that
+// all places announce stand in `known`.
 pub fn admit(
     headers: &[u64],
     steps: &[u64],
@@ -49,7 +50,8 @@ pub fn admit(
     Refusal::none()
 }
 
-// The run: step values end to end in the pool, true header words one a step, the scratch's first 8 times the largest count at +0.0.
+// The run: step values end to end in the pool, true header words one a step, the scratch's first 8 times the largest
+// count at +0.0.
 pub fn run_admitted(
     headers: &[u64],
     coefficients: &[f64],
@@ -59,9 +61,14 @@ pub fn run_admitted(
     words: &mut [u64],
     scratch: &mut [f64],
 )
-    requires { ⌜ Admitted (now headers) (now coefficients) (now steps) (now known) (length (now pool)) (length (now scratch)) ⌝ ∗ ⌜ length (now steps) ≤ length (now words) ⌝ }
-    ensures values { λ _. ⌜ now (pool .exit) ≡ laid (announcedSteps (now (headers .entry)) (now (steps .entry))) (stepValues (now (headers .entry)) (now (coefficients .entry)) (now (steps .entry))) ++ drop (total (announcedSteps (now (headers .entry)) (now (steps .entry)))) (now (pool .entry)) ⌝ }
-    ensures words { λ _. ⌜ now (words .exit) ≡ map (λ v. wordOf (v .head)) (stepValues (now (headers .entry)) (now (coefficients .entry)) (now (steps .entry))) ++ drop (length (now (steps .entry))) (now (words .entry)) ⌝ }
+    requires { ⌜ Admitted (now headers) (now coefficients) (now steps) (now known) (length (now pool))
+        (length (now scratch)) ⌝ ∗ ⌜ length (now steps) ≤ length (now words) ⌝ }
+    ensures values { λ _. ⌜ now (pool .exit) ≡ laid (announcedSteps (now (headers .entry)) (now (steps .entry)))
+        (stepValues (now (headers .entry)) (now (coefficients .entry)) (now (steps .entry)))
+        ++ drop (total (announcedSteps (now (headers .entry)) (now (steps .entry)))) (now (pool .entry)) ⌝ }
+    ensures words { λ _. ⌜ now (words .exit) ≡ map (λ v. wordOf (v .head))
+        (stepValues (now (headers .entry)) (now (coefficients .entry)) (now (steps .entry)))
+        ++ drop (length (now (steps .entry))) (now (words .entry)) ⌝ }
     ensures cleared { λ _. ⌜ now (scratch .exit) ≡ cleared (largest (announcedSteps (now (headers .entry)) (now (steps .entry)))) (now (scratch .entry)) ⌝ }
 {
     let from = headers.len();

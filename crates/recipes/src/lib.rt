@@ -33,7 +33,8 @@ pub fn check(headers: &[u64], steps: &[u64]) -> CheckAnswer
     }
 }
 
-// The values of the steps, end to end at announced counts in the pool, and their true headers in `words`: refusals of the check, then 2, 5, 6.
+// The values of the steps, end to end at announced counts in the pool, and their true headers in `words`: refusals of
+// the check, then 2, 5, 6.
 // Done, the first 8 times the largest announced count of scratch are +0.0.
 pub fn run(
     headers: &[u64],
@@ -43,10 +44,14 @@ pub fn run(
     words: &mut [u64],
     scratch: &mut [f64],
 ) -> RunAnswer
-    ensures answer { λ r. ⌜ r ≡ runAnswer (now (headers .entry)) (now (coefficients .entry)) (now (steps .entry)) (now (pool .entry)) (now (words .entry)) (now (scratch .entry)) ⌝ }
-    ensures values { λ r. ⌜ now (pool .exit) ≡ runPool (now (headers .entry)) (now (coefficients .entry)) (now (steps .entry)) (now (pool .entry)) (now (words .entry)) (now (scratch .entry)) ⌝ }
-    ensures heads { λ r. ⌜ now (words .exit) ≡ runWords (now (headers .entry)) (now (coefficients .entry)) (now (steps .entry)) (now (pool .entry)) (now (words .entry)) (now (scratch .entry)) ⌝ }
-    ensures cleared { λ r. ⌜ now (scratch .exit) ≡ runScratch (now (headers .entry)) (now (coefficients .entry)) (now (steps .entry)) (now (pool .entry)) (now (words .entry)) (now (scratch .entry)) ⌝ }
+    ensures answer { λ r. ⌜ r ≡ runAnswer (now (headers .entry)) (now (coefficients .entry)) (now (steps .entry))
+        (now (pool .entry)) (now (words .entry)) (now (scratch .entry)) ⌝ }
+    ensures values { λ r. ⌜ now (pool .exit) ≡ runPool (now (headers .entry)) (now (coefficients .entry)) (now (steps .entry))
+        (now (pool .entry)) (now (words .entry)) (now (scratch .entry)) ⌝ }
+    ensures heads { λ r. ⌜ now (words .exit) ≡ runWords (now (headers .entry)) (now (coefficients .entry))
+        (now (steps .entry)) (now (pool .entry)) (now (words .entry)) (now (scratch .entry)) ⌝ }
+    ensures cleared { λ r. ⌜ now (scratch .exit) ≡ runScratch (now (headers .entry)) (now (coefficients .entry))
+        (now (steps .entry)) (now (pool .entry)) (now (words .entry)) (now (scratch .entry)) ⌝ }
 {
     let mut known = [0u64; 64];
     let refused = admit(

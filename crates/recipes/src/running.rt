@@ -1,5 +1,6 @@
-// The steps of a run, one after the other. `known` holds a header word a place: the true one of every place that has its value, the announced one of the others.
-// `starts` says where each value begins, an input's among the coefficients, a step's in the pool.
+// The steps of a run, one after the other. `known` holds a header word a place: the true one of every place that has
+// its value, the announced one of the others. `starts` says where each value begins, an input's among the coefficients,
+// a step's in the pool.
 use gates::stored_of;
 use model::Header;
 use model_recipes::Step;
@@ -13,7 +14,7 @@ ghost use mathlib.Core.List.{map, _++_};
 ghost use Prim.Native.Nat.{_+_, _≤_};
 ghost use lib.ListN.{length, take, drop};
 ghost use Rattle.lists.specs.Part.{Kept};
-ghost use Rattle.model.specs.Word.{headerOf, wordOf};
+ghost use Rattle.model.specs.Word.{wordOf};
 ghost use Rattle.model.specs.Refusals.{padded};
 ghost use Rattle.model_recipes.specs.Recipe.{inputHeads, announcedSteps, total};
 ghost use Rattle.model_recipes.specs.Run.{stepValues, laid};
@@ -50,8 +51,15 @@ fn step_word(
     scratch: &mut [f64],
 ) -> u64
     requires { ⌜ StepIn s inputs (now known) (now starts) (length (now coefficients)) at room ⌝ ∗ ⌜ Lent room at (length (now pool)) (length (now scratch)) ⌝ }
-    ensures word { λ r. ⌜ r ≡ wordOf (valueOf s (lyingAt inputs (now (known .entry)) (now (starts .entry)) (now (coefficients .entry)) (take at (now (pool .entry))) (s .a)) (lyingAt inputs (now (known .entry)) (now (starts .entry)) (now (coefficients .entry)) (take at (now (pool .entry))) (s .b)) .head) ⌝ }
-    ensures kept { λ r. ⌜ Kept at (at + room) (padded room (valueOf s (lyingAt inputs (now (known .entry)) (now (starts .entry)) (now (coefficients .entry)) (take at (now (pool .entry))) (s .a)) (lyingAt inputs (now (known .entry)) (now (starts .entry)) (now (coefficients .entry)) (take at (now (pool .entry))) (s .b)) .coeffs)) (now (pool .entry)) (now (pool .exit)) ⌝ }
+    ensures word { λ r.
+        ⌜ r ≡ wordOf (valueOf s (lyingAt inputs (now (known .entry)) (now (starts .entry)) (now (coefficients .entry))
+        (take at (now (pool .entry))) (s .a)) (lyingAt inputs (now (known .entry)) (now (starts .entry))
+        (now (coefficients .entry)) (take at (now (pool .entry))) (s .b)) .head) ⌝ }
+    ensures kept { λ r. ⌜ Kept at (at + room)
+        (padded room (valueOf s (lyingAt inputs (now (known .entry)) (now (starts .entry)) (now (coefficients .entry))
+        (take at (now (pool .entry))) (s .a)) (lyingAt inputs (now (known .entry)) (now (starts .entry))
+        (now (coefficients .entry)) (take at (now (pool .entry))) (s .b)) .coeffs))
+        (now (pool .entry)) (now (pool .exit)) ⌝ }
 {
     if s.kind == 0 {
         constant_to(s.n, pool, at, room);
@@ -85,9 +93,16 @@ pub fn run_steps(
     pool: &mut [f64],
     scratch: &mut [f64],
 )
-    requires { ⌜ Admitted (now headers) (now coefficients) (now steps) (now known) (length (now pool)) (length (now scratch)) ⌝ ∗ ⌜ Running (now headers) (now coefficients) (now steps) (now known) (now pool) 0 0 (now known) (now starts) (now pool) ⌝ }
-    ensures words { λ _. ⌜ take (length (now (steps .entry))) (drop (length (now (headers .entry))) (now (known .exit))) ≡ map (λ v. wordOf (v .head)) (stepValues (now (headers .entry)) (now (coefficients .entry)) (now (steps .entry))) ⌝ }
-    ensures values { λ _. ⌜ now (pool .exit) ≡ laid (announcedSteps (now (headers .entry)) (now (steps .entry))) (stepValues (now (headers .entry)) (now (coefficients .entry)) (now (steps .entry))) ++ drop (total (announcedSteps (now (headers .entry)) (now (steps .entry)))) (now (pool .entry)) ⌝ }
+    requires { ⌜ Admitted (now headers) (now coefficients) (now steps) (now known) (length (now pool))
+        (length (now scratch)) ⌝
+        ∗ ⌜ Running (now headers) (now coefficients) (now steps) (now known) (now pool) 0 0 (now known)
+        (now starts) (now pool) ⌝ }
+    ensures words { λ _. ⌜ take (length (now (steps .entry))) (drop (length (now (headers .entry))) (now (known .exit)))
+        ≡ map (λ v. wordOf (v .head)) (stepValues (now (headers .entry)) (now (coefficients .entry))
+        (now (steps .entry))) ⌝ }
+    ensures values { λ _. ⌜ now (pool .exit) ≡ laid (announcedSteps (now (headers .entry)) (now (steps .entry)))
+        (stepValues (now (headers .entry)) (now (coefficients .entry)) (now (steps .entry)))
+        ++ drop (total (announcedSteps (now (headers .entry)) (now (steps .entry)))) (now (pool .entry)) ⌝ }
 {
     let inputs = headers.len();
     let mut at = 0;

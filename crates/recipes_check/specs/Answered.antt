@@ -3,11 +3,10 @@ use Prim.Native.Nat.{ℕ, zero, suc, _+_, _-_, _≤_}
 use mathlib.Core.List.{List, [], _∷_, map}
 use mathlib.Core.Path.{_≡_, refl, sym, ap, _∙_}
 use native.Mathlib.Omega.{arith}
-use native.Mathlib.Nat.{zero-add, suc-add}
 use lib.ListN.{length, take, drop}
-use lib.Seq.{take-nil}
 use borrow.Author.Tests.{eq-eqb, ne-eqb}
 use Rattle.lists.specs.All.{all-drop}
+use Rattle.lists.specs.Part.{drop-take}
 use Rattle.model.specs.declared.Refusal.{Refusal}
 use Rattle.model_recipes.specs.declared.CheckAnswer.the-variants.{Accepted, Refused}
 use Rattle.model.specs.Header.{noHeader}
@@ -23,11 +22,6 @@ pub drop-map : {A B : Type 0} (f : A → B) (n : ℕ) (l : List A) → drop n (m
 drop-map f zero l = refl
 drop-map f (suc n) [] = refl
 drop-map f (suc n) (x ∷ l) = drop-map f n l
-
-drop-take : {A : Type 0} (f k : ℕ) (l : List A) → drop f (take (f + k) l) ≡ take k (drop f l)
-drop-take zero k l = rw (zero-add k) refl
-drop-take (suc f) k [] = rw (take-nil (suc f + k), take-nil k) refl
-drop-take (suc f) k (x ∷ l) = rw (suc-add f k) (drop-take f k l)
 
 -- new: the words noted
 pub record Passed (hs ss new : List ℕ) : Type 0 where

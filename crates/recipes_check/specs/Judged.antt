@@ -87,7 +87,8 @@ module _ (hs ss : List ℕ) where
             regular = rw (start old mid f) (inputs-known hs none);
           }
 
-      pub judged-steps : {old mid new : List ℕ} {q : Refusal} → 64 ≤ length old → mid ≡ over hs old → StepsJudged ss (heads k mid) k mid new q → Judged hs ss old new q
+      pub judged-steps : {old mid new : List ℕ} {q : Refusal} → 64 ≤ length old → mid ≡ over hs old
+          → StepsJudged ss (heads k mid) k mid new q → Judged hs ss old new q
       unfolding announcedPlaces
       judged-steps {old} {mid} {new} {q} m f j =
           record {

@@ -73,13 +73,17 @@ module _ {ss : List ℕ} {start : List Header} {k : ℕ} {old new : List ℕ} {i
     pub judging-stop : {r : Refusal} → r ≡ stepRefusal word so-far → (r .number ≡ 0 → ⊥) → StepsJudged ss start k old new r
     judging-stop {r} e n =
         record {
-          answer = sym (refusal-ahead ∙ (ap (λ (x : Refusal). orElse x (stepsRefusal (so-far ++ (announcedStep word so-far ∷ [])) (drop (suc i) ss))) (sym e) ∙ or-first _ n));
+          answer =
+              sym (refusal-ahead
+              ∙ (ap (λ (x : Refusal). orElse x (stepsRefusal (so-far ++ (announcedStep word so-far ∷ []))
+              (drop (suc i) ss))) (sym e) ∙ or-first _ n));
           len = j .len;
           noted = λ z. absurd (n z);
         }
 
     -- one place more
-    grown : {h : Header} {w : ℕ} → k + i < length new → h ≡ announcedStep word so-far → w ≡ wordOf h → heads (k + (i + 1)) (set new (k + i) w) ≡ so-far ++ (announcedStep word so-far ∷ [])
+    grown : {h : Header} {w : ℕ} → k + i < length new → h ≡ announcedStep word so-far → w ≡ wordOf h
+        → heads (k + (i + 1)) (set new (k + i) w) ≡ so-far ++ (announcedStep word so-far ∷ [])
     grown {h} {w} m e f =
         let n : k + (i + 1) ≡ suc (k + i) = omega arith in
         let back : headerOf w ≡ announcedStep word so-far =
@@ -88,7 +92,8 @@ module _ {ss : List ℕ} {start : List Header} {k : ℕ} {old new : List ℕ} {i
         ∙ (ap (map headerOf) (take-suc-set new (k + i) w m)
         ∙ (map-append headerOf (take (k + i) new) (w ∷ []) ∙ ap (λ (x : Header). so-far ++ (x ∷ [])) back))
 
-    pub judging-more : {r : Refusal} {h : Header} {w : ℕ} → k + i < length new → r ≡ stepRefusal word so-far → r .number ≡ 0 → h ≡ announcedStep word so-far → w ≡ wordOf h
+    pub judging-more : {r : Refusal} {h : Header} {w : ℕ} → k + i < length new → r ≡ stepRefusal word so-far
+        → r .number ≡ 0 → h ≡ announcedStep word so-far → w ≡ wordOf h
         → Judging ss start k old (set new (k + i) w) (i + 1)
     judging-more {r} {h} {w} m e z p f =
         let g = grown m p f in

@@ -46,7 +46,8 @@ pub fn note_inputs(headers: &[u64], known: &mut [u64])
     }
 }
 
-// The first step that is refused, after `inputs` places whose words stand in `known`; the words announced before it follow them.
+// The first step that is refused, after `inputs` places whose words stand in `known`; the words announced before it
+// follow them.
 fn steps_refusal(steps: &[u64], inputs: usize, known: &mut [u64]) -> Refusal
     requires { ⌜ Ready (now steps) inputs (now known) ⌝ }
     ensures { λ r. ⌜ StepsJudged (now (steps .entry)) (map headerOf (take inputs (now (known .entry)))) inputs (now (known .entry)) (now (known .exit)) r ⌝ }

@@ -13,5 +13,7 @@ pub past-kinds : {A : Type 0} {k : ℕ} → 1 ≤ k
     → ((((((((((A × Not k 1) × Not k 2) × Not k 3) × Not k 4) × Not k 5) × Not k 6) × Not k 7) × Not k 8) × Not k 9) × Not k 10)
     → 11 ≤ k
 past-kinds p r =
-    let p6 = past (past (past (past (past p (r .0 .0 .0 .0 .0 .0 .0 .0 .0 .1)) (r .0 .0 .0 .0 .0 .0 .0 .0 .1)) (r .0 .0 .0 .0 .0 .0 .0 .1)) (r .0 .0 .0 .0 .0 .0 .1)) (r .0 .0 .0 .0 .0 .1) in
+    let p6 =
+    past (past (past (past (past p (r .0 .0 .0 .0 .0 .0 .0 .0 .0 .1)) (r .0 .0 .0 .0 .0 .0 .0 .0 .1))
+    (r .0 .0 .0 .0 .0 .0 .0 .1)) (r .0 .0 .0 .0 .0 .0 .1)) (r .0 .0 .0 .0 .0 .1) in
     past (past (past (past (past p6 (r .0 .0 .0 .0 .1)) (r .0 .0 .0 .1)) (r .0 .0 .1)) (r .0 .1)) (r .1)

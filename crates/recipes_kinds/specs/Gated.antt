@@ -17,7 +17,8 @@ use Rattle.model_recipes.specs.Steps.{stepOf, usesOf}
 use Rattle.model_recipes.specs.Recipe.{headAt, announcedStep}
 use Rattle.model_recipes.specs.Check.{namedBefore, zeroUnless, formed, lowers, stepRefusal}
 
-pub formed-is : (w p : ℕ) {s : Step} {u : Uses} {a b v n : Bool} → s ≡ stepOf w → u ≡ usesOf (s .kind) → a ≡ namedBefore p (u .a) (s .a) → b ≡ namedBefore p (u .b) (s .b)
+pub formed-is : (w p : ℕ) {s : Step} {u : Uses} {a b v n : Bool} → s ≡ stepOf w → u ≡ usesOf (s .kind)
+    → a ≡ namedBefore p (u .a) (s .a) → b ≡ namedBefore p (u .b) (s .b)
     → v ≡ zeroUnless (u .variable) (s .variable) → n ≡ zeroUnless (u .n) (s .n) → (((((u .kind && a) && b) && v) && n) && eqb (bitAnd w 16383) 0) ≡ formed w p
 unfolding formed
 formed-is w p p0 p1 p2 p3 p4 p5 = simp (p5, p4, p3, p2, p1, p0, and-mask w 14)

@@ -1,4 +1,5 @@
--- What the places of a recipe announce keeps the rules of headers, counts aside: whatever the steps' fields hold. It is kept as words, and read back from them.
+-- What the places of a recipe announce keeps the rules of headers, counts aside: whatever the steps' fields hold. It is
+-- kept as words, and read back from them.
 use mathlib.Core.List.{List, map}
 use mathlib.Core.Path.{_≡_}
 use Prim.Native.Nat.{ℕ, _≤_, _<_}

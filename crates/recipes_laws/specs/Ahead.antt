@@ -1,4 +1,5 @@
--- A run after an accepted check, step by step: the values follow what was announced, and no step ahead is refused, by the check or by its operation.
+-- A run after an accepted check, step by step: the values follow what was announced, and no step ahead is refused, by
+-- the check or by its operation.
 use Prim.Native.Nat.{ℕ, zero, suc, _+_, _*_, _≤_, _<_}
 use mathlib.Core.Bool.{true}
 use mathlib.Core.List.{List, [], _∷_, _++_}
@@ -139,7 +140,8 @@ below-largest [] p l = absurd (omega arith)
 below-largest (h ∷ known) zero l = omega arith
 below-largest (h ∷ known) (suc p) l = let q = below-largest known p (omega arith) in omega arith
 
-pub step-largest : (hs ss : List ℕ) (i : ℕ) → i < length ss → stored (announcedStep (getD ss i 0) (announcedPlaces hs (take i ss))) ≤ largest (announcedSteps hs ss)
+pub step-largest : (hs ss : List ℕ) (i : ℕ) → i < length ss
+    → stored (announcedStep (getD ss i 0) (announcedPlaces hs (take i ss))) ≤ largest (announcedSteps hs ss)
 unfolding announcedSteps
 step-largest hs ss i l =
     rw (← announced-at hs ss i l, ← getD-drop (length hs) (announcedPlaces hs ss) i noHeader)

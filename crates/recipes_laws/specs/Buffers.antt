@@ -39,7 +39,8 @@ module _ (hs : List ℕ) (cs : List Float) (ss : List ℕ) (f : Follows (announc
         fits = λ p l. rw (step-head p, step-value p) (let k = f .keeps (length hs + p) in omega (arith, k .full, count-under (k .under)));
       }
 
-  module _ (pool : List Float) (words : List ℕ) (scratch : List Float) (z : runRefusal hs cs ss pool words scratch .number ≡ 0) (i : ℕ) (l : i < length ss) where
+  module _ (pool : List Float) (words : List ℕ) (scratch : List Float)
+      (z : runRefusal hs cs ss pool words scratch .number ≡ 0) (i : ℕ) (l : i < length ss) where
     pub word-kept : getD (runWords hs cs ss pool words scratch) i 0 ≡ wordOf (valueAt (values hs cs ss) (length hs + i) .head)
     unfolding runWords wordOf fields
     word-kept =
@@ -49,10 +50,15 @@ module _ (hs : List ℕ) (cs : List Float) (ss : List ℕ) (f : Follows (announc
         (List·getD-append ws (drop (length ss) words) 0 i (omega (arith, length-map (stepValues hs cs ss) word, same-steps, length-announced hs ss))
         ∙ (List·getD-map word (stepValues hs cs ss) i noValue ∙ ap word (step-value i)))
 
-    pub coeffs-kept : take (stored (headAt (announcedPlaces hs ss) (length hs + i))) (drop (total (take i (announcedSteps hs ss))) (runPool hs cs ss pool words scratch))
+    pub coeffs-kept : take (stored (headAt (announcedPlaces hs ss) (length hs + i)))
+        (drop (total (take i (announcedSteps hs ss))) (runPool hs cs ss pool words scratch))
         ≡ padded (stored (headAt (announcedPlaces hs ss) (length hs + i))) (valueAt (values hs cs ss) (length hs + i) .coeffs)
     unfolding runPool
     coeffs-kept =
         let rest = drop (total (announcedSteps hs ss)) pool in
-        rw (← step-head i, ← step-value i, ← leaves-yes (runRefusal hs cs ss pool words scratch) (laid (announcedSteps hs ss) (stepValues hs cs ss) ++ rest) pool z)
+        rw (
+          ← step-head i,
+          ← step-value i,
+          ← leaves-yes (runRefusal hs cs ss pool words scratch) (laid (announcedSteps hs ss) (stepValues hs cs ss) ++ rest) pool z,
+        )
         (laid-at (announcedSteps hs ss) (stepValues hs cs ss) rest steps-fit i (omega (arith, length-announced hs ss)))

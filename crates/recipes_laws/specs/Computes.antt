@@ -1,4 +1,5 @@
--- The value of a step is its operation's, of the values of earlier places: what the table of operations says, row by row, where the step's word is right.
+-- The value of a step is its operation's, of the values of earlier places: what the table of operations says, row by
+-- row, where the step's word is right.
 use Prim.Native.Nat.{ℕ, _<_}
 use mathlib.Core.Bool.{true, false}
 use mathlib.Core.List.{List}

@@ -1,7 +1,8 @@
--- Demand 3: 'If the check accepts and the buffers are as long as it says, then for any coefficients the run finishes every step (answers done), each limit is
--- exactly the one announced, no stored length exceeds its announced one, and each value is the operation's value (demand 2's definition) of its operands'
--- values. So refusal 9 never happens.'
--- Said of definitions of crate model alone, for all words, coefficients and buffers. The theorem is `demand-3`, Demanded.antt.
+-- Demand 3: 'If the check accepts and the buffers are as long as it says, then for any coefficients the run finishes
+-- every step (answers done), each limit is exactly the one announced, no stored length exceeds its announced one, and
+-- each value is the operation's value (demand 2's definition) of its operands' values. So refusal 9 never happens.'
+-- Said of definitions of crate model alone, for all words, coefficients and buffers. The theorem is `demand-3`,
+-- Demanded.antt.
 use Prim.Native.Nat.{ℕ, _+_, _*_, _≤_, _<_}
 use mathlib.Core.Bool.{true, false}
 use mathlib.Core.List.{List}
@@ -41,7 +42,8 @@ pub record AsAnnounced (h : Header) (v : Poly) : Type 0 where
   pub rules : goodHeader (v .head) ≡ true
   pub full : length (v .coeffs) ≡ stored (v .head)
 
--- the value v of the step s at the place p is its operation's of its operands' values, by its kind; they stand at earlier places
+-- the value v of the step s at the place p is its operation's of its operands' values, by its kind; they stand at
+-- earlier places
 pub record Computed (s : Step) (p : ℕ) (value : ℕ → Poly) (v : Poly) : Type 0 where
   pub kinds : s .kind ≤ 10
   pub a-earlier : usesOf (s .kind) .a ≡ true → s .a < p
@@ -58,7 +60,8 @@ pub record Computed (s : Step) (p : ℕ) (value : ℕ → Poly) (v : Poly) : Typ
   pub shifts : s .kind ≡ 9 → v ≡ shiftDownPoly (s .variable) (s .n) (value (s .a))
   pub substitutes : s .kind ≡ 10 → v ≡ substitutePoly (s .variable) (value (s .a)) (value (s .b))
 
--- hs the inputs' header words, cs their coefficients, ss the step words, pool, words and scratch the buffers as they came
+-- hs the inputs' header words, cs their coefficients, ss the step words, pool, words and scratch the buffers as they
+-- came
 module _ (hs : List ℕ) (cs : List Float) (ss : List ℕ) (pool : List Float) (words : List ℕ) (scratch : List Float) where
   -- the value of a place, inputs first, and what it announces
   abbrev pub value : ℕ → Poly
@@ -87,7 +90,8 @@ module _ (hs : List ℕ) (cs : List Float) (ss : List ℕ) (pool : List Float) (
 
   pub record Demand3 : Type 0 where
     -- the check accepts, and the buffers are as long as it says
-    pub finishes : (places most inputs : ℕ) → checkAnswer hs ss ≡ Accepted places most inputs → inputs ≤ length cs → places ≤ length pool → length ss ≤ length words
+    pub finishes : (places most inputs : ℕ) → checkAnswer hs ss ≡ Accepted places most inputs → inputs ≤ length cs
+        → places ≤ length pool → length ss ≤ length words
         → 8 * most ≤ length scratch → Finished
     -- with any buffers
     pub never-9 : (r : Refusal) → runAnswer hs cs ss pool words scratch ≡ Refused r → r .number ≡ 9 → ⊥

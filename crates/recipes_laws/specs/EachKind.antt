@@ -1,4 +1,5 @@
--- What holds of every row of document 01's table of kinds, and of the numbers past it, holds of every number: laws of steps are tables of eleven rows.
+-- What holds of every row of document 01's table of kinds, and of the numbers past it, holds of every number: laws of
+-- steps are tables of eleven rows.
 use Prim.Native.Nat.{ℕ, zero, suc}
 
 pub record EachKind (P : ℕ → Type 0) : Type 0 where

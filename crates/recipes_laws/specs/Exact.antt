@@ -1,5 +1,5 @@
--- The check refuses exactly for document 01's reasons: it accepts where there is none, and only there; else it answers the first place that has one, with
--- its lowest number.
+-- The check refuses exactly for document 01's reasons: it accepts where there is none, and only there; else it answers
+-- the first place that has one, with its lowest number.
 use Prim.Native.Nat.{ℕ, suc, _+_, _≤_, _<_}
 use mathlib.Core.Bool.{false}
 use mathlib.Core.List.{List}
@@ -154,7 +154,9 @@ module _ (hs ss : List ℕ) where
 -- hs the inputs' header words, ss the step words: any words, any number of them
 pub record Exact (hs ss : List ℕ) : Type 0 where
   -- accepted, with the sums and the maximum of announced counts, where there is no reason
-  pub accepts : ((p n : ℕ) → Reason hs ss p n → ⊥) → checkAnswer hs ss ≡ Accepted (total (announcedSteps hs ss)) (largest (announcedSteps hs ss)) (total (inputHeads hs))
+  pub accepts : ((p n : ℕ) → Reason hs ss p n → ⊥)
+      → checkAnswer hs ss ≡ Accepted (total (announcedSteps hs ss))
+      (largest (announcedSteps hs ss)) (total (inputHeads hs))
   -- and only there
   pub accepted : (pool most inputs : ℕ) → checkAnswer hs ss ≡ Accepted pool most inputs → (p n : ℕ) → Reason hs ss p n → ⊥
   -- refused for the first reason
@@ -170,7 +172,9 @@ check-exact hs ss =
       accepts = λ f. by-refusal q (λ z. sym (yes hs ss z)) (λ n. absurd (f _ _ (refused-first hs ss o n .reason)));
       accepted =
           λ x y z e p n w. by-refusal q (λ a. accepted-none hs ss o a w) (λ b. let c = no hs ss b in let f : _≡_ {A = ℕ} 0 1 = cc in omega (arith, f));
-      refuses = λ r f. by-refusal q (λ z. absurd (accepted-none hs ss o z (f .reason))) (λ n. sym (no hs ss n) ∙ ap Refused (first-one (refused-first hs ss o n) f));
+      refuses =
+          λ r f. by-refusal q (λ z. absurd (accepted-none hs ss o z (f .reason)))
+          (λ n. sym (no hs ss n) ∙ ap Refused (first-one (refused-first hs ss o n) f));
       refused =
           λ r e. by-refusal q (λ a. let c = yes hs ss a in let f : _≡_ {A = ℕ} 0 1 = cc in absurd (omega (arith, f)))
           (λ n. let c = no hs ss n in let f : q ≡ r = cc in rw f at (refused-first hs ss o n));

@@ -1,6 +1,6 @@
--- What the values of a run's places keep to: each has exactly the limits that its place announces, no length above the announced one, and as many coefficients
--- as its true header says. A step's value keeps to it whatever its fields hold: each operation's law for the true headers, and then announced headers,
--- which are no smaller.
+-- What the values of a run's places keep to: each has exactly the limits that its place announces, no length above the
+-- announced one, and as many coefficients as its true header says. A step's value keeps to it whatever its fields hold:
+-- each operation's law for the true headers, and then announced headers, which are no smaller.
 use Prim.Native.Nat.{ℕ, zero, suc, _≤_}
 use mathlib.Core.Bool.{true, false}
 use mathlib.Core.List.{List, [], _∷_, _++_}
@@ -116,5 +116,6 @@ inputs-keep p (w ∷ ws) cs e l zero =
 inputs-keep p (w ∷ ws) cs e l (suc q) =
     inputs-keep (suc p) ws (drop (stored (headerOf w)) cs) (first-good p w ws e .1) (omega (arith, length-drop (stored (headerOf w)) cs)) q
 
-pub inputs-follow : (hs : List ℕ) (cs : List Float) → inputsRefusal 0 hs .number ≡ 0 → total (inputHeads hs) ≤ length cs → Follows (inputHeads hs) (inputValues hs cs)
+pub inputs-follow : (hs : List ℕ) (cs : List Float) → inputsRefusal 0 hs .number ≡ 0 → total (inputHeads hs) ≤ length cs
+    → Follows (inputHeads hs) (inputValues hs cs)
 inputs-follow hs cs e l = record { same = length-inputs hs cs; good = inputs-good hs e; keeps = inputs-keep 0 hs cs e l }

@@ -1,4 +1,5 @@
--- Test 7 and document 01's reasons for it: the word of a step is well formed where nothing is wrong in it, and only there.
+-- Test 7 and document 01's reasons for it: the word of a step is well formed where nothing is wrong in it, and only
+-- there.
 use Prim.Native.Nat.{ℕ, _≤_, _<_}
 use mathlib.Core.Bool.{Bool, true, false, _&&_}
 use mathlib.Core.Path.{_≡_, refl, sym, _∙_}

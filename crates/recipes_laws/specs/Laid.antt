@@ -29,7 +29,8 @@ laid-at [] vs rest f i l = absurd (omega arith)
 laid-at (h ∷ known) [] rest f i l = absurd (omega (arith, f .same))
 laid-at (h ∷ known) (v ∷ vs) rest f zero l =
     let x = padded (stored h) (v .coeffs) in
-    ap (take (stored h)) (append-assoc x (laid known vs) rest) ∙ take-at x (laid known vs ++ rest) (stored h) (length-padded (stored h) (v .coeffs) (f .fits 0 (omega arith)))
+    ap (take (stored h)) (append-assoc x (laid known vs) rest)
+    ∙ take-at x (laid known vs ++ rest) (stored h) (length-padded (stored h) (v .coeffs) (f .fits 0 (omega arith)))
 laid-at (h ∷ known) (v ∷ vs) rest f (suc i) l =
     let x = padded (stored h) (v .coeffs) in
     let n = total (take i known) in

@@ -1,4 +1,5 @@
--- Refusal 9 never happens, whatever words, coefficients and buffers are handed in: after the check and tests 2, 5, 6 no step's operation refuses.
+-- Refusal 9 never happens, whatever words, coefficients and buffers are handed in: after the check and tests 2, 5, 6 no
+-- step's operation refuses.
 use Prim.Native.Nat.{ℕ, _*_, _≤_}
 use mathlib.Core.Bool.{Bool, true, false, _&&_}
 use mathlib.Core.List.{List}
@@ -56,7 +57,9 @@ ask-small false y z = omega arith
 module _ (hs ss : List ℕ) (c p w s : ℕ) where
   pub lent-small : lentRefusal hs ss c p w s .number ≤ 6
   unfolding lentRefusal
-  lent-small = ask-small (leb (total (inputHeads hs)) c) (leb (total (announcedSteps hs ss)) p && leb (length ss) w) (leb (8 * largest (announcedSteps hs ss)) s)
+  lent-small =
+      ask-small (leb (total (inputHeads hs)) c) (leb (total (announcedSteps hs ss)) p && leb (length ss) w)
+      (leb (8 * largest (announcedSteps hs ss)) s)
 
   pub lent-none : Lent hs ss c p w s → lentRefusal hs ss c p w s ≡ noRefusal
   unfolding lentRefusal
@@ -68,7 +71,12 @@ module _ (hs ss : List ℕ) (c p w s : ℕ) where
       let x = leb (total (announcedSteps hs ss)) p in
       let y = leb (length ss) w in
       let t = passed true (leb (total (inputHeads hs)) c) true true (x && y) (leb (8 * largest (announcedSteps hs ss)) s) e in
-      record { coeffs = leb-true _ _ (t .t2); pool = leb-true _ _ (and-left x y (t .t5)); words = leb-true _ _ (and-right x y (t .t5)); scratch = leb-true _ _ (t .t6) }
+      record {
+        coeffs = leb-true _ _ (t .t2);
+        pool = leb-true _ _ (and-left x y (t .t5));
+        words = leb-true _ _ (and-right x y (t .t5));
+        scratch = leb-true _ _ (t .t6);
+      }
 
 -- ---- the run
 
@@ -85,7 +93,9 @@ module _ (hs : List ℕ) (cs : List Float) (ss : List ℕ) (pool : List Float) (
 
     pub run-none : runRefusal hs cs ss pool words scratch ≡ noRefusal
     unfolding runRefusal
-    run-none = or-next (checkRefusal hs ss) (orElse lent nine) none ∙ (or-next lent nine (ap (λ (x : Refusal). x .number) (lent-none hs ss _ _ _ _ l)) ∙ no-nine)
+    run-none =
+        or-next (checkRefusal hs ss) (orElse lent nine) none
+        ∙ (or-next lent nine (ap (λ (x : Refusal). x .number) (lent-none hs ss _ _ _ _ l)) ∙ no-nine)
 
   -- the check and tests 2, 5, 6 are all that refuses
   pub run-refusal : runRefusal hs cs ss pool words scratch ≡ orElse (checkRefusal hs ss) lent

@@ -101,7 +101,8 @@ module _ (hs ss : List ℕ) where
   pub data Outcome : Refusal → Type 0 where
     by-sizes : WrongSizes hs ss → Outcome (refusedAt 7 64)
     at-input : (i : ℕ) → Sizes hs ss → i < length hs → GoodInputs hs i → goodWord (getD hs i 0) ≡ false → Outcome (refusedAt 1 i)
-    at-step : (i : ℕ) (r : Refusal) → Sizes hs ss → GoodInputs hs (length hs) → r ≡ refusalOf (inputHeads hs) ss i → i < length ss → ClearSteps (inputHeads hs) ss i
+    at-step : (i : ℕ) (r : Refusal) → Sizes hs ss → GoodInputs hs (length hs) → r ≡ refusalOf (inputHeads hs) ss i
+        → i < length ss → ClearSteps (inputHeads hs) ss i
         → (r .number ≡ 0 → ⊥) → Outcome r
     not-refused : Sizes hs ss → GoodInputs hs (length hs) → ClearSteps (inputHeads hs) ss (length ss) → Outcome noRefusal
 

@@ -1,5 +1,6 @@
--- An operation's gate lets a step pass where every test holds: the operands keep the rules and are full, what it announces is 4,096 at most and fits the places
--- lent, 8 times that fits the scratch, and a shift has its variable and a number below the limit.
+-- An operation's gate lets a step pass where every test holds: the operands keep the rules and are full, what it
+-- announces is 4,096 at most and fits the places lent, 8 times that fits the scratch, and a shift has its variable and
+-- a number below the limit.
 use Prim.Native.Nat.{ℕ, _*_, _≤_}
 use mathlib.Core.Bool.{Bool, true, _&&_, cond}
 use mathlib.Core.List.{List}

@@ -1,4 +1,5 @@
--- A step's refusal and document 01's reasons for it: it is refused where there is a reason, by the lowest number, and only there.
+-- A step's refusal and document 01's reasons for it: it is refused where there is a reason, by the lowest number, and
+-- only there.
 use Prim.Native.Nat.{ℕ, _≤_}
 use mathlib.Core.Bool.{Bool, true, false, cond}
 use mathlib.Core.List.{List}
@@ -23,7 +24,10 @@ shift-wrong : {W : Type 0} (w x y : ℕ) → cond (lowers (stepOf w)) (ltb x y) 
 shift-wrong w x y e f =
     decide (lowers (stepOf w))
     (λ t.
-    f (record { from = leb-true _ _ (and-left (leb 7 (stepOf w .kind)) (leb (stepOf w .kind) 9) t); to = leb-true _ _ (and-right (leb 7 (stepOf w .kind)) (leb (stepOf w .kind) 9) t) })
+    f (record {
+      from = leb-true _ _ (and-left (leb 7 (stepOf w .kind)) (leb (stepOf w .kind) 9) t);
+      to = leb-true _ _ (and-right (leb 7 (stepOf w .kind)) (leb (stepOf w .kind) 9) t);
+    })
     (ltb-false x y (rw t at e)))
     (λ t. absurd (not-both true refl (rw t at e)))
 

@@ -1,5 +1,5 @@
--- The values of all places, where the check accepts and the inputs have their coefficients: they follow what was announced, inputs first, and each step's is
--- its operation's of its operands' values.
+-- The values of all places, where the check accepts and the inputs have their coefficients: they follow what was
+-- announced, inputs first, and each step's is its operation's of its operands' values.
 use Prim.Native.Nat.{ℕ, _+_, _*_, _≤_, _<_}
 use mathlib.Core.List.{List}
 use mathlib.Core.Path.{_≡_, sym, ap, _∙_}
@@ -46,4 +46,6 @@ module _ (hs : List ℕ) (cs : List Float) (ss : List ℕ) {m : ℕ} (none : che
 
   pub inputs-first : take (length hs) (values hs cs ss) ≡ inputValues hs cs
   unfolding values
-  inputs-first = chain-keeps stepValue (inputValues hs cs) ss (length hs) (omega (arith, count-inputs)) ∙ take-all (length hs) (inputValues hs cs) (omega (arith, count-inputs))
+  inputs-first =
+      chain-keeps stepValue (inputValues hs cs) ss (length hs) (omega (arith, count-inputs))
+      ∙ take-all (length hs) (inputValues hs cs) (omega (arith, count-inputs))

@@ -1,4 +1,5 @@
--- What a step is lent: where an operand lies, and a part of the pool that is written piece by piece. The m.. are the lengths of buffers.
+-- What a step is lent: where an operand lies, and a part of the pool that is written piece by piece. The m.. are the
+-- lengths of buffers.
 use Prim.Native.Nat.{ℕ, zero, suc, _+_, _-_, _*_, _≤_}
 use mathlib.Core.List.{List, [], _∷_, _++_, append-assoc, append-nil}
 use mathlib.Core.Bool.{Bool, true, false, cond}
@@ -10,12 +11,11 @@ use lib.Seq.{take-add, take-all, take-at, take-take, drop-drop}
 use lib.Ieee.{Float}
 use borrow.Rule.Slice.PartMut.{putMid}
 use Rattle.lists.specs.Table.{table, length-table}
-use Rattle.lists.specs.Part.{part, Below, below-less, below-then, below-part, Kept}
+use Rattle.lists.specs.Part.{part, below-less, below-then, below-part, Kept, kept-mid}
 use Rattle.model.specs.declared.Header.{Header}
 use Rattle.model.specs.Header.{stored}
 use Rattle.model.specs.Refusals.{zeroF, zeros, padded}
 use Rattle.model.specs.Poly.{Poly, poly}
-use Rattle.product.specs.Ways.{kept-mid}
 
 -- where a value lies: among the inputs' coefficients, or in the pool
 abbrev pub source : Bool → List Float → List Float → List Float
@@ -35,12 +35,13 @@ pub record Lent (n at mp ms : ℕ) : Type 0 where
   pub spare : 8 * n ≤ ms
   pub small : n ≤ 4096
 
-length-source : (input : Bool) (cs pool : List Float) → length (source input cs pool) ≡ cond input (length cs) (length pool)
+pub length-source : (input : Bool) (cs pool : List Float) → length (source input cs pool) ≡ cond input (length cs) (length pool)
 length-source true cs pool = refl
 length-source false cs pool = refl
 
 -- the operand's places, read off what lies before `at`
-pub lies-source : {x : Header} {input : Bool} {from at : ℕ} (cs before : List Float) → Lies x input from at (length cs) → length before ≡ at → from + stored x ≤ length (source input cs before)
+pub lies-source : {x : Header} {input : Bool} {from at : ℕ} (cs before : List Float) → Lies x input from at (length cs)
+    → length before ≡ at → from + stored x ≤ length (source input cs before)
 lies-source {x} {input} {from} cs before h e =
     rw (length-source input cs before, e) (h .ends)
 
@@ -89,13 +90,15 @@ module _ {A : Type 0} where
   kept-over {at} {m} {e} {xs} {ys} {w} {w'} {w''} p q h k =
       let i : e - at ≡ (m - at) + (e - m) = omega arith in
       let j : at + (m - at) ≡ m = omega arith in
-      let front : take (m - at) (drop at w') ≡ take (m - at) xs = sym (take-take (m - at) (e - at) (drop at w') (omega arith)) ∙ ap (take (m - at)) (p .holds) in
+      let front : take (m - at) (drop at w') ≡ take (m - at) xs =
+      sym (take-take (m - at) (e - at) (drop at w') (omega arith)) ∙ ap (take (m - at)) (p .holds) in
       record {
         below = below-then (p .below) (below-less h (q .below));
         holds = ap (λ (z : ℕ). take z (drop at w'')) i
             ∙ (take-add (m - at) (e - m) (drop at w'')
             ∙ (ap (λ (z : List A). take (m - at) (drop at w'') ++ take (e - m) z) (drop-drop (m - at) at w'' ∙ ap (λ (z : ℕ). drop z w'') j)
-            ∙ (ap (λ (z : List A). z ++ part m e w'') (below-part at m (q .below) h (omega arith) ∙ front) ∙ ap (λ (z : List A). take (m - at) xs ++ z) (q .holds))));
+            ∙ (ap (λ (z : List A). z ++ part m e w'') (below-part at m (q .below) h (omega arith) ∙ front)
+            ∙ ap (λ (z : List A). take (m - at) xs ++ z) (q .holds))));
         above = q .above ∙ p .above;
       }
 
@@ -111,7 +114,8 @@ padded-on n m xs h k =
     append-assoc xs (zeros (n - length xs)) (zeros (m - n)) ∙ ap (λ (l : List Float). xs ++ l) (zeros-add (n - length xs) (m - n) ∙ ap zeros e)
 
 -- a part that was cleared
-pub pad-kept : (from to : ℕ) (w : List Float) {zs : List Float} {k : ℕ} → zs ≡ zeros k → k ≡ to - from → from ≤ to → to ≤ length w → Kept from to (zeros (to - from)) w (putMid from (to - from) w zs)
+pub pad-kept : (from to : ℕ) (w : List Float) {zs : List Float} {k : ℕ} → zs ≡ zeros k → k ≡ to - from → from ≤ to
+    → to ≤ length w → Kept from to (zeros (to - from)) w (putMid from (to - from) w zs)
 pad-kept from to w {zs} {k} e f h l =
     let n : ℕ = to - from in
     let t : (m : ℕ) → m ≡ n → zeros m ≡ take m (zeros n) = λ m i. rw i (sym (take-all n (zeros n) (omega (arith, length-table (λ k. zeroF) n)))) in
@@ -121,7 +125,8 @@ pad-kept from to w {zs} {k} e f h l =
     rw (s, ← t n refl) at kept
 
 -- the front of a buffer was written, and then kept in the pool
-pub front-kept : {at e : ℕ} {n : ℕ} (xs rest : List Float) {ys w w' : List Float} → Kept at e (take n (xs ++ rest)) w w' → length xs ≡ n → xs ≡ ys → Kept at e ys w w'
+pub front-kept : {at e : ℕ} {n : ℕ} (xs rest : List Float) {ys w w' : List Float} → Kept at e (take n (xs ++ rest)) w w'
+    → length xs ≡ n → xs ≡ ys → Kept at e ys w w'
 front-kept {n = n} xs rest k l e = kept-as (take-at xs rest n l ∙ e) k
 
 -- a part of the pool was written
@@ -129,5 +134,6 @@ pub part-kept : (at e : ℕ) (w xs : List Float) → length xs ≡ e - at → at
 part-kept at e w xs l h k =
     let n : at + (e - at) ≡ e = omega arith in
     let t : xs ≡ take (e - at) xs = sym (take-all (e - at) xs (omega arith)) in
-    let r : Kept at (at + (e - at)) (take (e - at) xs) w (putMid at (e - at) w xs) = kept-mid at (e - at) w xs (e - at) t refl (omega arith) (omega arith) refl in
+    let r : Kept at (at + (e - at)) (take (e - at) xs) w (putMid at (e - at) w xs) =
+    kept-mid at (e - at) w xs (e - at) t refl (omega arith) (omega arith) refl in
     rw n at (kept-as (sym t) r)

@@ -11,7 +11,7 @@ use lib.Seq.{take-length}
 use lib.Ieee.{Float}
 use borrow.Author.Tests.{eq-eqb, ne-eqb, eqb-true, eqb-false, leb-true, leb-false, le-leb, lt-leb}
 use Rattle.lists.specs.Test.{decide}
-use Rattle.lists.specs.Table.{table, length-table}
+use Rattle.lists.specs.Table.{length-table}
 use Rattle.lists.specs.Part.{part, Kept}
 use Rattle.model.specs.declared.Header.{Header}
 use Rattle.model.specs.declared.Family.{Family}
@@ -26,7 +26,7 @@ use Rattle.model.specs.Poly.{Poly, poly, Block, block, blockOf, polyOf, readAt,
 use Rattle.model.specs.Add.{joined, joinedBlock, combined}
 use Rattle.model.specs.Product.{isZero, constantBlock, productOf, multiplied, productPoly}
 use Rattle.model.specs.Quotient.{quotientOf, divided, quotientPoly}
-use Rattle.shape_words.specs.Rules.{Ruled, Regular, Good}
+use Rattle.shape_words.specs.Rules.{Regular, Good}
 use Rattle.shape_words.specs.Words.{unpack-pack, packed-good}
 use Rattle.shape_words.specs.Lengths.{Lengths, lengths-of}
 use Rattle.shape.specs.Keeps.{Keeps}
@@ -157,7 +157,8 @@ module _ {kind : ℕ} {x y h : Header} {n : ℕ} (g : Pairing kind x y h n) wher
   pub pair-two : Two (x .lengths) (cutTo (h .limits) (x .lengths)) (y .lengths) (cutTo (h .limits) (y .lengths)) n (stored x) (stored y) (8 * n)
   pair-two = by-kind kind (λ s. summing-two (sums s) refl refl) (λ s t. times-two (multiplies s t) refl refl) (λ s t. into-two (divides s t) refl refl)
 
-  module _ {ca cb : List ℕ} (ea : ca ≡ cutTo (h .limits) (x .lengths)) (eb : cb ≡ cutTo (h .limits) (y .lengths)) {na nb : ℕ} (ka : na ≡ count ca) (kb : nb ≡ count cb) (w : List Float) where
+  module _ {ca cb : List ℕ} (ea : ca ≡ cutTo (h .limits) (x .lengths)) (eb : cb ≡ cutTo (h .limits) (y .lengths))
+      {na nb : ℕ} (ka : na ≡ count ca) (kb : nb ≡ count cb) (w : List Float) where
     left-is : block ca (take na w) ≡ leftIn (h .limits) (x .lengths) w
     left-is = rw (ka, ea)
 
@@ -170,7 +171,9 @@ module _ {kind : ℕ} {x y h : Header} {n : ℕ} (g : Pairing kind x y h n) wher
         pub sum-combining : {ka' kb' ko : ℕ} → ka' ≡ na → kb' ≡ nb → ko ≡ n → Combining ca cb (h .lengths) ka' kb' ko
         sum-combining p q o = summing-combine (sums s) ea eb (p ∙ ka) (q ∙ kb) o
 
-        sum-made : pairOf kind zero (h .limits) (leftIn (h .limits) (x .lengths) w) (rightIn (h .limits) (y .lengths) n w) ≡ joinedBlock (eqb kind 3) (block ca (take na w)) (block cb (part n (n + nb) w))
+        sum-made : pairOf kind zero (h .limits) (leftIn (h .limits) (x .lengths) w)
+            (rightIn (h .limits) (y .lengths) n w)
+            ≡ joinedBlock (eqb kind 3) (block ca (take na w)) (block cb (part n (n + nb) w))
         unfolding pairOf
         sum-made = rw (le-leb _ _ s, left-is, right-is)
 
@@ -180,7 +183,9 @@ module _ {kind : ℕ} {x y h : Header} {n : ℕ} (g : Pairing kind x y h n) wher
         sum-stands {o} e =
             let r = summing-combine (sums s) ea eb ka kb refl .shape in
             let d : na - 0 ≡ na = omega arith in
-            let f : o ≡ joined (eqb kind 3) (h .lengths) (block ca (take na w)) (block cb (part n (n + nb) w)) = e ∙ ap (λ (k : ℕ). joined (eqb kind 3) (h .lengths) (block ca (take k w)) (block cb (part n (n + nb) w))) d in
+            let f : o ≡ joined (eqb kind 3) (h .lengths) (block ca (take na w)) (block cb (part n (n + nb) w)) =
+            e ∙ ap (λ (k : ℕ). joined (eqb kind 3) (h .lengths) (block ca (take k w))
+            (block cb (part n (n + nb) w))) d in
             rw sum-made (stands-full r (f ∙ ap (λ (z : List ℕ). joined (eqb kind 3) z (block ca (take na w)) (block cb (part n (n + nb) w))) r))
 
       -- the quotient
@@ -188,7 +193,9 @@ module _ {kind : ℕ} {x y h : Header} {n : ℕ} (g : Pairing kind x y h n) wher
         pub quotient-recurs : {mw mo : ℕ} → mw ≡ 8 * n → mo ≡ n → Recurring ca cb (h .lengths) na nb mw mo × (nb ≡ 1 → mo ≡ na)
         quotient-recurs pw po = rw (pw, po) (into-recur (divides s t) ea eb ka kb, same-count (divides s t) ea eb ka kb)
 
-        quotient-made : pairOf kind zero (h .limits) (leftIn (h .limits) (x .lengths) w) (rightIn (h .limits) (y .lengths) n w) ≡ quotientOf (h .limits) (block ca (take na w)) (block cb (part n (n + nb) w))
+        quotient-made : pairOf kind zero (h .limits) (leftIn (h .limits) (x .lengths) w)
+            (rightIn (h .limits) (y .lengths) n w)
+            ≡ quotientOf (h .limits) (block ca (take na w)) (block cb (part n (n + nb) w))
         unfolding pairOf
         quotient-made = rw (lt-leb _ _ s, ne-eqb _ _ t, left-is, right-is)
 
@@ -211,7 +218,8 @@ module _ {kind : ℕ} {x y h : Header} {n : ℕ} (g : Pairing kind x y h n) wher
         pub product-room : {mo : ℕ} → length w ≡ 8 * n → mo ≡ n → Room w 0 na ca n (n + nb) cb (2 * n) (h .limits) 1 mo
         product-room lw e = rw e (times-room (multiplies s t) ea eb lw ka kb)
 
-        pub product-stands : {w' o : List Float} {r : List ℕ} → zero ≡ false → Made (productOf 1 (h .limits) (block ca (part 0 na w)) (block cb (part n (n + nb) w))) (2 * n) w w' o r
+        pub product-stands : {w' o : List Float} {r : List ℕ} → zero ≡ false
+            → Made (productOf 1 (h .limits) (block ca (part 0 na w)) (block cb (part n (n + nb) w))) (2 * n) w w' o r
             → Stands (pairOf kind zero (h .limits) (leftIn (h .limits) (x .lengths) w) (rightIn (h .limits) (y .lengths) n w)) o r
         unfolding pairOf
         product-stands z m =
@@ -221,7 +229,9 @@ module _ {kind : ℕ} {x y h : Header} {n : ℕ} (g : Pairing kind x y h n) wher
 
   -- ---- the value of operands with the coefficients a and b, which w holds
 
-  module _ (a b : List Float) {w : List Float} (held : Holds n (cutPlaces (x .lengths) (cutTo (h .limits) (x .lengths)) a) (cutPlaces (y .lengths) (cutTo (h .limits) (y .lengths)) b) w)
+  module _ (a b : List Float) {w : List Float}
+      (held : Holds n (cutPlaces (x .lengths) (cutTo (h .limits) (x .lengths)) a)
+      (cutPlaces (y .lengths) (cutTo (h .limits) (y .lengths)) b) w)
       {zero : Bool} (z : zero ≡ (isZero (block (x .lengths) a) || isZero (block (y .lengths) b))) where
     abbrev made : Block
     made = pairOf kind zero (h .limits) (leftIn (h .limits) (x .lengths) w) (rightIn (h .limits) (y .lengths) n w)
@@ -230,12 +240,16 @@ module _ {kind : ℕ} {x y h : Header} {n : ℕ} (g : Pairing kind x y h n) wher
     value = pairPoly kind (poly x a) (poly y b)
 
     loaded-left : leftIn (h .limits) (x .lengths) w ≡ cut (h .limits) (block (x .lengths) a)
-    loaded-left = ap (block (cutTo (h .limits) (x .lengths))) (ap (λ (k : ℕ). take k w) (sym (length-table _ (count (cutTo (h .limits) (x .lengths))))) ∙ held .front) ∙ cut-is (h .limits) (x .lengths) a refl
+    loaded-left =
+        ap (block (cutTo (h .limits) (x .lengths)))
+        (ap (λ (k : ℕ). take k w) (sym (length-table _ (count (cutTo (h .limits) (x .lengths))))) ∙ held .front)
+        ∙ cut-is (h .limits) (x .lengths) a refl
 
     loaded-right : rightIn (h .limits) (y .lengths) n w ≡ cut (h .limits) (block (y .lengths) b)
     loaded-right =
         let c : List ℕ = cutTo (h .limits) (y .lengths) in
-        let e : n + count c - n ≡ length (cutPlaces (y .lengths) c b) = omega (arith, length-table (λ k. readAt (block (y .lengths) b) (index c k)) (count c)) in
+        let e : n + count c - n ≡ length (cutPlaces (y .lengths) c b) =
+        omega (arith, length-table (λ k. readAt (block (y .lengths) b) (index c k)) (count c)) in
         ap (block c) (ap (λ (k : ℕ). take k (drop n w)) e ∙ held .back) ∙ cut-is (h .limits) (y .lengths) b refl
 
     value-is : polyOf h made ≡ value
@@ -255,7 +269,8 @@ module _ {kind : ℕ} {x y h : Header} {n : ℕ} (g : Pairing kind x y h n) wher
       pub value-count : count r ≤ n
       value-count = omega (arith, ap stored value-head, count-under (keeps .under), g .all, ap stored (g .is))
 
-      pub value-kept : {at c e : ℕ} {p p' p'' : List Float} → c ≡ count r → e ≡ at + n → Kept at e o p p' → Kept (at + c) e (zeros (e - (at + c))) p' p'' → Kept at (at + n) (padded n (value .coeffs)) p p''
+      pub value-kept : {at c e : ℕ} {p p' p'' : List Float} → c ≡ count r → e ≡ at + n → Kept at e o p p'
+          → Kept (at + c) e (zeros (e - (at + c))) p' p'' → Kept at (at + n) (padded n (value .coeffs)) p p''
       value-kept {at} {c} {e} {p} {p'} {p''} ec ee first last =
           let m : c ≤ n = omega (arith, ec, value-count) in
           let l : c ≡ length (made .places) = ec ∙ (ap stored value-head ∙ (sym (keeps .full) ∙ ap (λ (q : Poly). length (q .coeffs)) (sym value-is))) in

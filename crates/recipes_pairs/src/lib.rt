@@ -19,7 +19,8 @@ ghost use Rattle.product.specs.Room.{Stands};
 ghost use Rattle.recipes_operands.specs.Lent.{source, lying, Lies, Lent};
 ghost use Rattle.recipes_pairs.specs.Pair.{pairOf, pairPoly, leftIn, rightIn, Pairing};
 
-// Both operands into the work, cut to the limits: one at its front, the other from n on. Answers whether one of them, uncut, is the constant zero.
+// Both operands into the work, cut to the limits: one at its front, the other from n on. Answers whether one of them,
+// uncut, is the constant zero.
 fn load_pair<'a>(
     x: Header,
     xi: bool,
@@ -33,9 +34,18 @@ fn load_pair<'a>(
     pool: &'a [f64],
     work: &mut [f64],
 ) -> bool
-    requires { ⌜ Two (x .lengths) (cutTo limits (x .lengths)) (y .lengths) (cutTo limits (y .lengths)) n (stored x) (stored y) (length (now work)) ⌝ ∗ ⌜ Ruled x ⌝ ∗ ⌜ Ruled y ⌝ ∗ ⌜ xf + stored x ≤ length (source xi (now coefficients) (now pool)) ⌝ ∗ ⌜ yf + stored y ≤ length (source yi (now coefficients) (now pool)) ⌝ }
-    ensures zero { λ r. ⌜ r ≡ (isZero (blockOf (lying xi (now (coefficients .entry)) (now (pool .entry)) xf x)) || isZero (blockOf (lying yi (now (coefficients .entry)) (now (pool .entry)) yf y))) ⌝ }
-    ensures holds { λ r. ⌜ Holds n (cutPlaces (x .lengths) (cutTo limits (x .lengths)) (lying xi (now (coefficients .entry)) (now (pool .entry)) xf x .coeffs)) (cutPlaces (y .lengths) (cutTo limits (y .lengths)) (lying yi (now (coefficients .entry)) (now (pool .entry)) yf y .coeffs)) (now (work .exit)) ⌝ }
+    requires { ⌜ Two (x .lengths) (cutTo limits (x .lengths)) (y .lengths) (cutTo limits (y .lengths)) n (stored x)
+        (stored y) (length (now work)) ⌝ ∗ ⌜ Ruled x ⌝ ∗ ⌜ Ruled y ⌝
+        ∗ ⌜ xf + stored x ≤ length (source xi (now coefficients) (now pool)) ⌝
+        ∗ ⌜ yf + stored y ≤ length (source yi (now coefficients) (now pool)) ⌝ }
+    ensures zero { λ r.
+        ⌜ r ≡ (isZero (blockOf (lying xi (now (coefficients .entry)) (now (pool .entry)) xf x))
+        || isZero (blockOf (lying yi (now (coefficients .entry)) (now (pool .entry)) yf y))) ⌝ }
+    ensures holds { λ r.
+        ⌜ Holds n (cutPlaces (x .lengths) (cutTo limits (x .lengths))
+        (lying xi (now (coefficients .entry)) (now (pool .entry)) xf x .coeffs))
+        (cutPlaces (y .lengths) (cutTo limits (y .lengths))
+        (lying yi (now (coefficients .entry)) (now (pool .entry)) yf y .coeffs)) (now (work .exit)) ⌝ }
 {
     let na = stored_of(x);
     let nb = stored_of(y);
@@ -49,7 +59,8 @@ fn load_pair<'a>(
     product::kernel::is_zero(a, la) | product::kernel::is_zero(b, lb)
 }
 
-// The value, to the front of `out`, which has the announced count n: x and y are the headers of the operands, which are loaded, h is the announced one.
+// The value, to the front of `out`, which has the announced count n: x and y are the headers of the operands, which are
+// loaded, h is the announced one.
 fn pair_front(
     kind: usize,
     zero: bool,
@@ -61,7 +72,9 @@ fn pair_front(
     out: &mut [f64],
 ) -> [usize; 4]
     requires { ⌜ Pairing kind x y h n ⌝ ∗ ⌜ length (now work) ≡ 8 * n ⌝ ∗ ⌜ length (now out) ≡ n ⌝ }
-    ensures { λ r. ⌜ Stands (pairOf kind zero (h .limits) (leftIn (h .limits) (x .lengths) (now (work .entry))) (rightIn (h .limits) (y .lengths) n (now (work .entry)))) (now (out .exit)) r ⌝ }
+    ensures { λ r.
+        ⌜ Stands (pairOf kind zero (h .limits) (leftIn (h .limits) (x .lengths) (now (work .entry)))
+        (rightIn (h .limits) (y .lengths) n (now (work .entry)))) (now (out .exit)) r ⌝ }
 {
     let l = h.limits;
     let r = h.lengths;
@@ -102,9 +115,15 @@ pub fn pair_to(
     at: usize,
     scratch: &mut [f64],
 ) -> Header
-    requires { ⌜ Pairing kind x y h n ⌝ ∗ ⌜ Lies x xi xf at (length (now coefficients)) ⌝ ∗ ⌜ Lies y yi yf at (length (now coefficients)) ⌝ ∗ ⌜ Lent n at (length (now pool)) (length (now scratch)) ⌝ }
-    ensures head { λ r. ⌜ r ≡ pairPoly kind (lying xi (now (coefficients .entry)) (take at (now (pool .entry))) xf x) (lying yi (now (coefficients .entry)) (take at (now (pool .entry))) yf y) .head ⌝ }
-    ensures kept { λ r. ⌜ Kept at (at + n) (padded n (pairPoly kind (lying xi (now (coefficients .entry)) (take at (now (pool .entry))) xf x) (lying yi (now (coefficients .entry)) (take at (now (pool .entry))) yf y) .coeffs)) (now (pool .entry)) (now (pool .exit)) ⌝ }
+    requires { ⌜ Pairing kind x y h n ⌝ ∗ ⌜ Lies x xi xf at (length (now coefficients)) ⌝
+        ∗ ⌜ Lies y yi yf at (length (now coefficients)) ⌝ ∗ ⌜ Lent n at (length (now pool)) (length (now scratch)) ⌝ }
+    ensures head { λ r. ⌜ r ≡ pairPoly kind (lying xi (now (coefficients .entry)) (take at (now (pool .entry))) xf x)
+        (lying yi (now (coefficients .entry)) (take at (now (pool .entry))) yf y) .head ⌝ }
+    ensures kept { λ r.
+        ⌜ Kept at (at + n)
+        (padded n (pairPoly kind (lying xi (now (coefficients .entry)) (take at (now (pool .entry))) xf x)
+        (lying yi (now (coefficients .entry)) (take at (now (pool .entry))) yf y) .coeffs))
+        (now (pool .entry)) (now (pool .exit)) ⌝ }
 {
     let limits = h.limits;
     let room = 8 * n;

@@ -1,8 +1,8 @@
 -- Kinds 1, 7, 8 and 9: one operand, negated or shifted.
 use Prim.Native.Nat.{ℕ, _≤_, _<_}
 use mathlib.Core.List.{List, [], _++_, append-nil}
-use mathlib.Core.Bool.{Bool, true, false, cond}
-use mathlib.Core.Path.{_≡_, refl, sym, ap, _∙_}
+use mathlib.Core.Bool.{cond}
+use mathlib.Core.Path.{_≡_, refl, ap, _∙_}
 use native.Mathlib.Omega.{arith}
 use lib.Dec.{eqb}
 use lib.ListN.{length, drop, drop-of-length-le}
@@ -19,8 +19,8 @@ use Rattle.model.specs.Poly.{Poly, poly}
 use Rattle.model.specs.Negate.{negatedAt, negated}
 use Rattle.model.specs.Shifts.{shiftDownPoly}
 use Rattle.shape_words.specs.Rules.{Regular}
+use Rattle.shape.specs.Announced.{same-header}
 use Rattle.readings_row.specs.Term.{padded-full}
-use Rattle.sums.specs.Negate.{same-header}
 use Rattle.change.specs.Room.{Shifted}
 use Rattle.change.specs.Shift.{shift-down-keeps}
 use Rattle.change_factors.specs.Scale.{scaledPoly}
@@ -80,10 +80,12 @@ module _ {kind v n : ℕ} {h r : Header} {ma mt : ℕ} (g : Changing kind v n h 
       unfolding shiftDownPoly announced
       down-true a = refl
 
-      pub down-places : (a : List Float) {o : List Float} → o ≡ shiftDownPoly v n (poly h a) .coeffs → o ≡ padded (stored r) (changedPoly kind v n (poly h a) .coeffs)
+      pub down-places : (a : List Float) {o : List Float} → o ≡ shiftDownPoly v n (poly h a) .coeffs
+          → o ≡ padded (stored r) (changedPoly kind v n (poly h a) .coeffs)
       unfolding changedPoly
       down-places a {o} e =
-          let l : length (shiftDownPoly v n (poly h a) .coeffs) ≡ stored r = shift-down-keeps v n a (g .regular .rules) .full ∙ (rw lowered (ap stored (down-true a))) in
+          let l : length (shiftDownPoly v n (poly h a) .coeffs) ≡ stored r =
+          shift-down-keeps v n a (g .regular .rules) .full ∙ (rw lowered (ap stored (down-true a))) in
           rw (ne-eqb _ _ t, eq-eqb _ _ u) (e ∙ padded-full (shiftDownPoly v n (poly h a) .coeffs) l)
 
     module _ (u : kind ≡ 9 → ⊥) where

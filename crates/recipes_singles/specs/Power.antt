@@ -12,7 +12,7 @@ use Rattle.model.specs.Header.{header, stored, noHeader}
 use Rattle.model.specs.Word.{headerOf, wordOf}
 use Rattle.model.specs.Announced.{announced}
 use Rattle.model.specs.Refusals.{padded}
-use Rattle.model.specs.Poly.{Poly, poly, block, polyOf}
+use Rattle.model.specs.Poly.{Poly, poly, polyOf}
 use Rattle.model.specs.Power.{powerPoly}
 use Rattle.shape_words.specs.Rules.{Good, none-regular}
 use Rattle.shape_words.specs.Words.{unpack-pack, packed-good}
@@ -59,8 +59,10 @@ module _ {e : ℕ} {x h : Header} {n : ℕ} (g : Powering e x h n) where
     value-is : polyOf h (powerBlock e (h .limits) (lain 0 (x .lengths) w)) ≡ powerPoly e (poly x a)
     value-is = ap (polyOf h) (loaded-same e (h .limits) (x .lengths) l f) ∙ rw (g .is) (block-value e (poly x a) (g .left .regular))
 
-    pub power-head : {r : List ℕ} → r ≡ powerBlock e (h .limits) (lain 0 (x .lengths) w) .lengths → header (h .vars) (h .limits) r ≡ powerPoly e (poly x a) .head
+    pub power-head : {r : List ℕ} → r ≡ powerBlock e (h .limits) (lain 0 (x .lengths) w) .lengths
+        → header (h .vars) (h .limits) r ≡ powerPoly e (poly x a) .head
     power-head k = rw k (ap (λ (p : Poly). p .head) value-is)
 
-    pub power-places : {o : List Float} → o ≡ padded n (powerBlock e (h .limits) (lain 0 (x .lengths) w) .places) → o ≡ padded n (powerPoly e (poly x a) .coeffs)
+    pub power-places : {o : List Float} → o ≡ padded n (powerBlock e (h .limits) (lain 0 (x .lengths) w) .places)
+        → o ≡ padded n (powerPoly e (poly x a) .coeffs)
     power-places k = k ∙ ap (λ (p : Poly). padded n (p .coeffs)) value-is

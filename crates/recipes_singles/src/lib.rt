@@ -1,4 +1,5 @@
-// Steps of one operand. Where it is negated or shifted, the value is made in scratch and copied to the pool; a power is made in the pool.
+// Steps of one operand. Where it is negated or shifted, the value is made in scratch and copied to the pool; a power is
+// made in the pool.
 use gates::stored_of;
 use model::Header;
 ghost use mathlib.Core.Path.{_≡_};
@@ -56,7 +57,8 @@ fn change_from<'a>(
 ) -> Header
     requires { ⌜ Changing kind v d x h (stored x) (length (now to)) ⌝ ∗ ⌜ from + stored x ≤ length (source input (now coefficients) (now pool)) ⌝ }
     ensures head { λ r. ⌜ r ≡ changedPoly kind v d (lying input (now (coefficients .entry)) (now (pool .entry)) from x) .head ⌝ }
-    ensures places { λ r. ⌜ now (to .exit) ≡ padded (stored h) (changedPoly kind v d (lying input (now (coefficients .entry)) (now (pool .entry)) from x) .coeffs) ⌝ }
+    ensures places { λ r. ⌜ now (to .exit) ≡ padded (stored h)
+        (changedPoly kind v d (lying input (now (coefficients .entry)) (now (pool .entry)) from x) .coeffs) ⌝ }
 {
     let given = stored_of(x);
     let a = recipes_operands::operand(input, coefficients, pool, from, given);
@@ -78,9 +80,13 @@ pub fn change_to(
     at: usize,
     scratch: &mut [f64],
 ) -> Header
-    requires { ⌜ Changing kind v d x h (stored x) n ⌝ ∗ ⌜ Lies x input from at (length (now coefficients)) ⌝ ∗ ⌜ Lent n at (length (now pool)) (length (now scratch)) ⌝ }
+    requires { ⌜ Changing kind v d x h (stored x) n ⌝ ∗ ⌜ Lies x input from at (length (now coefficients)) ⌝
+        ∗ ⌜ Lent n at (length (now pool)) (length (now scratch)) ⌝ }
     ensures head { λ r. ⌜ r ≡ changedPoly kind v d (lying input (now (coefficients .entry)) (take at (now (pool .entry))) from x) .head ⌝ }
-    ensures kept { λ r. ⌜ Kept at (at + n) (padded n (changedPoly kind v d (lying input (now (coefficients .entry)) (take at (now (pool .entry))) from x) .coeffs)) (now (pool .entry)) (now (pool .exit)) ⌝ }
+    ensures kept { λ r.
+        ⌜ Kept at (at + n)
+        (padded n (changedPoly kind v d (lying input (now (coefficients .entry)) (take at (now (pool .entry))) from x)
+        .coeffs)) (now (pool .entry)) (now (pool .exit)) ⌝ }
 {
     let r = change_from(
         kind,
@@ -131,7 +137,10 @@ pub fn power_to(
 ) -> Header
     requires { ⌜ Powering e x h n ⌝ ∗ ⌜ Lies x input from at (length (now coefficients)) ⌝ ∗ ⌜ Lent n at (length (now pool)) (length (now scratch)) ⌝ }
     ensures head { λ r. ⌜ r ≡ powerPoly e (lying input (now (coefficients .entry)) (take at (now (pool .entry))) from x) .head ⌝ }
-    ensures kept { λ r. ⌜ Kept at (at + n) (padded n (powerPoly e (lying input (now (coefficients .entry)) (take at (now (pool .entry))) from x) .coeffs)) (now (pool .entry)) (now (pool .exit)) ⌝ }
+    ensures kept { λ r.
+        ⌜ Kept at (at + n)
+        (padded n (powerPoly e (lying input (now (coefficients .entry)) (take at (now (pool .entry))) from x) .coeffs))
+        (now (pool .entry)) (now (pool .exit)) ⌝ }
 {
     let limits = h.limits;
     let la = x.lengths;

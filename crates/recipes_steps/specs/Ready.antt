@@ -1,8 +1,8 @@
 -- A step of any kind but the constant: what it is lent, and that its value is its kind's operation's.
-use Prim.Native.Nat.{ℕ, _+_, _-_, _*_, _≤_, _<_}
+use Prim.Native.Nat.{ℕ, _+_, _-_, _≤_, _<_}
 use mathlib.Core.List.{List, [], _∷_, _++_}
 use mathlib.Core.Bool.{Bool, true, false, _&&_, not}
-use mathlib.Core.Path.{_≡_, refl, sym, ap, _∙_}
+use mathlib.Core.Path.{_≡_, refl, ap, _∙_}
 use native.Mathlib.Omega.{arith}
 use native.Mathlib.Nat.{le-trans}
 use lib.Dec.{eqb, leb}
@@ -14,14 +14,12 @@ use Rattle.lists.specs.Part.{Kept, kept-set}
 use Rattle.model.specs.declared.Header.{Header}
 use Rattle.model_recipes.specs.declared.Step.{Step}
 use Rattle.model.specs.declared.Family.{Family}
-use Rattle.model.specs.declared.Family.the-variants.{Constant, Same, Sum, Product, Quotient, Power, Shift, Substitution}
+use Rattle.model.specs.declared.Family.the-variants.{Constant, Power, Substitution}
 use Rattle.model.specs.Header.{limit, stored, noHeader}
 use Rattle.model.specs.Announced.{announced}
 use Rattle.model.specs.Refusals.{zeros, padded}
-use Rattle.model.specs.Constructed.{wholeF}
 use Rattle.model.specs.Poly.{Poly, poly}
 use Rattle.model.specs.Power.{powerPoly}
-use Rattle.model.specs.Shifts.{derivativePoly, expansionPoly, shiftDownPoly}
 use Rattle.model.specs.Substitute.{substitutePoly}
 use Rattle.model_recipes.specs.Recipe.{families, familyOf}
 use Rattle.model_recipes.specs.Run.{operations, noValue}
@@ -156,7 +154,9 @@ module _ {s : Step} {x y h : Header} {n : ℕ} (g : Making s x y h n) where
   module _ (t : pairTest (s .kind) ≡ true) where
     pair-is : familyOf s ≡ pairFamily (s .kind)
     unfolding families
-    pair-is = of-pair (λ k. getD (families s) k Constant ≡ pairFamily k) refl refl refl refl (s .kind) (pair-low (s .kind) (g .known .some) t) (pair-high (s .kind) t)
+    pair-is =
+        of-pair (λ k. getD (families s) k Constant ≡ pairFamily k) refl refl refl refl (s .kind)
+        (pair-low (s .kind) (g .known .some) t) (pair-high (s .kind) t)
 
     pub to-pair : Pairing (s .kind) x y h n
     to-pair = record { left = g .left; right = g .right; is = g .is ∙ ap (λ (f : Family). announced f x y) pair-is; most = g .most; all = g .all }
@@ -181,7 +181,8 @@ module _ {s : Step} {x y h : Header} {n : ℕ} (g : Making s x y h n) where
     change-is : announced (familyOf s) x y ≡ announced (changeFamily (s .kind) (s .variable) (s .n)) x noHeader
     unfolding announced families
     change-is =
-        of-change (λ k. announced (getD (families s) k Constant) x y ≡ announced (changeFamily k (s .variable) (s .n)) x noHeader) refl refl refl refl (s .kind) high low
+        of-change (λ k. announced (getD (families s) k Constant) x y
+        ≡ announced (changeFamily k (s .variable) (s .n)) x noHeader) refl refl refl refl (s .kind) high low
 
     pub to-change : Changing (s .kind) (s .variable) (s .n) x h (stored x) n
     to-change = record {
@@ -247,7 +248,8 @@ module _ {s : Step} {x y : Header} {room at mp ms : ℕ} (r : Ready s x y room) 
   announced-ruled = announced-regular (familyOf s) (r .left .regular) (r .right .regular) .rules
 
 -- ---- a constant, and +0.0 after it
-pub constant-kept : (at room : ℕ) (w : List Float) (v : Float) {w' : List Float} → 1 ≤ room → at + room ≤ length w → Kept (at + 1) (at + room) (zeros ((at + room) - (at + 1))) (set w at v) w'
+pub constant-kept : (at room : ℕ) (w : List Float) (v : Float) {w' : List Float} → 1 ≤ room → at + room ≤ length w
+    → Kept (at + 1) (at + room) (zeros ((at + room) - (at + 1))) (set w at v) w'
     → Kept at (at + room) (padded room (v ∷ [])) w w'
 constant-kept at room w v some fits q =
     let e : (at + room) - (at + 1) ≡ room - 1 = omega arith in

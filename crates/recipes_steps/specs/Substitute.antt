@@ -1,4 +1,5 @@
--- Kind 10: a polynomial put for a variable of another. Its value is made in a part of the pool, which holds the running value of Horner's rule.
+-- Kind 10: a polynomial put for a variable of another. Its value is made in a part of the pool, which holds the running
+-- value of Horner's rule.
 use Prim.Native.Nat.{ℕ, suc, _+_, _-_, _*_, _≤_, _<_}
 use mathlib.Core.List.{List, _++_}
 use mathlib.Core.Path.{_≡_, refl, sym, ap, _∙_}
@@ -44,7 +45,17 @@ pub record Substituting (v : ℕ) (x y h : Header) (n : ℕ) : Type 0 where
   pub all : n ≡ stored h
 
 pub substituting-given : {v : ℕ} {x y h : Header} {n mw : ℕ} → Substituting v x y h n → mw ≡ 8 * n → Given x y h v n (stored x) (stored y) n mw
-substituting-given g e = record { left = g .left .regular; right = g .right .regular; is = g .is; all = g .all; full-a = refl; full-b = refl; out = refl; work = e }
+substituting-given g e =
+    record {
+      left = g .left .regular;
+      right = g .right .regular;
+      is = g .is;
+      all = g .all;
+      full-a = refl;
+      full-b = refl;
+      out = refl;
+      work = e;
+    }
 
 -- ---- the ways that ask the polynomial alone
 
@@ -73,7 +84,8 @@ is-2 : {k : ℕ} → k ≤ 2 → (k ≡ 0 → ⊥) → (k ≡ 1 → ⊥) → k �
 is-2 {k} h i j = omega arith
 
 -- what the chosen way makes, and that it has room
-module _ {x y h : Header} {v n mw : ℕ} (g : Given x y h v n (stored x) (stored y) n mw) (a b : List Float) {w : Way} (e : w ≡ wayOf (x .vars) v (block (y .lengths) b)) (low : w .kind ≤ 2) where
+module _ {x y h : Header} {v n mw : ℕ} (g : Given x y h v n (stored x) (stored y) n mw) (a b : List Float) {w : Way}
+    (e : w ≡ wayOf (x .vars) v (block (y .lengths) b)) (low : w .kind ≤ 2) where
   abbrev A : Block
   A = block (x .lengths) a
 
@@ -92,11 +104,14 @@ module _ {x y h : Header} {v n mw : ℕ} (g : Given x y h v n (stored x) (stored
   plain-room p = rw p (record {
     same = λ z. given-same g (lacks (x .vars) v (h .limits) A B e z);
     row = λ z. row-cuts (given-puts g (has-1 (x .vars) v (h .limits) A B e z));
-    line = λ i j. let z = is-2 low i j in line-cuts (given-puts g (has-2 (x .vars) v (h .limits) A B e z)) a b (w .line .m) (line-2 (x .vars) v (h .limits) A B e z);
+    line = λ i j. let z = is-2 low i j in
+        line-cuts (given-puts g (has-2 (x .vars) v (h .limits) A B e z)) a b (w .line .m)
+        (line-2 (x .vars) v (h .limits) A B e z);
   })
 
 -- Horner's rule
-module _ {x y h : Header} {v n mw : ℕ} (g : Given x y h v n (stored x) (stored y) n mw) (a b : List Float) {w : Way} (e : w ≡ wayOf (x .vars) v (block (y .lengths) b)) (high : 2 < w .kind) where
+module _ {x y h : Header} {v n mw : ℕ} (g : Given x y h v n (stored x) (stored y) n mw) (a b : List Float) {w : Way}
+    (e : w ≡ wayOf (x .vars) v (block (y .lengths) b)) (high : 2 < w .kind) where
   none-0 : w .kind ≡ 0 → ⊥
   none-0 z = omega (arith, z, high)
 
@@ -112,7 +127,8 @@ module _ {x y h : Header} {v n mw : ℕ} (g : Given x y h v n (stored x) (stored
   pub horner-some : isZero (block (y .lengths) b) ≡ false
   horner-some = some-3 (x .vars) v (h .limits) (block (x .lengths) a) (block (y .lengths) b) e none-0 none-1 none-2
 
-  pub horner-is : horner (h .limits) v (block (x .lengths) a) (lengthAt (x .lengths) v) (block (y .lengths) b) (constantBlock zeroF) ≡ putFor (x .vars) (h .limits) v (block (x .lengths) a) (block (y .lengths) b)
+  pub horner-is : horner (h .limits) v (block (x .lengths) a) (lengthAt (x .lengths) v) (block (y .lengths) b)
+      (constantBlock zeroF) ≡ putFor (x .vars) (h .limits) v (block (x .lengths) a) (block (y .lengths) b)
   horner-is = sym (value-3 (x .vars) v (h .limits) (block (x .lengths) a) (block (y .lengths) b) e none-0 none-1 none-2)
 
 -- ---- a part of the pool
@@ -142,7 +158,8 @@ pub record RunsTo (la : List ℕ) (v : ℕ) (a : List Float) (k : ℕ) (r b c l 
 part-long : (at n : ℕ) (w : List Float) → at + n ≤ length w → length (part at (at + n) w) ≡ n
 part-long at n w h = length-part at (at + n) w (omega arith) h ∙ omega arith
 
-pub runs-first : {la : List ℕ} {v : ℕ} (a : List Float) {k : ℕ} {r b c l : List ℕ} {n ma at : ℕ} (w work : List Float) → Hornering la v k r b c l n ma n (length work)
+pub runs-first : {la : List ℕ} {v : ℕ} (a : List Float) {k : ℕ} {r b c l : List ℕ} {n ma at : ℕ} (w work : List Float)
+    → Hornering la v k r b c l n ma n (length work)
     → take (count r) (part at (at + n) w) ≡ part n (n + count r) work → at + n ≤ length w
     → RunsTo la v a k r b c l n ma (turns l v (block la a) k (putIn b work) (valueIn n r work)) at w w work
 runs-first a {n = n} {at = at} w work g f h = record {
@@ -150,7 +167,8 @@ runs-first a {n = n} {at = at} w work g f h = record {
   stays = record { below = record { len = refl; head = refl }; holds = refl; above = refl };
 }
 
-module _ {la : List ℕ} {v : ℕ} {a : List Float} {k : ℕ} {r b c l : List ℕ} {n ma : ℕ} {p : Block} {at : ℕ} {u w work : List Float} (s : RunsTo la v a k r b c l n ma p at u w work) where
+module _ {la : List ℕ} {v : ℕ} {a : List Float} {k : ℕ} {r b c l : List ℕ} {n ma : ℕ} {p : Block} {at : ℕ}
+    {u w work : List Float} (s : RunsTo la v a k r b c l n ma p at u w work) where
   pub to-end : k ≤ 0 → Wrote at n p u w r
   to-end h = record { stays = s .stays; stands = runs-end (s .runs) h }
 
@@ -158,12 +176,15 @@ module _ {la : List ℕ} {v : ℕ} {a : List Float} {k : ℕ} {r b c l : List �
   to-less m e = rw e at s
 
 -- an operand that lies before the part is the same
-pub same-operand : (input : Bool) (cs : List Float) (from : ℕ) (x : Header) {m m' : List Float} → m' ≡ m → lying input cs m' from x .coeffs ≡ lying input cs m from x .coeffs
+pub same-operand : (input : Bool) (cs : List Float) (from : ℕ) (x : Header) {m m' : List Float} → m' ≡ m
+    → lying input cs m' from x .coeffs ≡ lying input cs m from x .coeffs
 same-operand input cs from x e = ap (λ (l : List Float). lying input cs l from x .coeffs) e
 
-pub to-next : {la : List ℕ} {v : ℕ} {a : List Float} {k : ℕ} {r b c l : List ℕ} {n ma : ℕ} {p : Block} {at : ℕ} {u w work : List Float} → RunsTo la v a (suc k) r b c l n ma p at u w work
+pub to-next : {la : List ℕ} {v : ℕ} {a : List Float} {k : ℕ} {r b c l : List ℕ} {n ma : ℕ} {p : Block} {at : ℕ}
+    {u w work : List Float} → RunsTo la v a (suc k) r b c l n ma p at u w work
     → {a' work1 : List Float} → a' ≡ a → Kept (2 * n) (2 * n + count c) (table (count c) (λ q. readAt (block la a') (set (index c q) v k))) work work1
-    → {x : List ℕ} {o w' work2 : List Float} → Turned (turnOf l n r b c work1) n work1 work2 o x → length o ≡ length (part at (at + n) w) → Kept at (at + n) o w w'
+    → {x : List ℕ} {o w' work2 : List Float} → Turned (turnOf l n r b c work1) n work1 work2 o x
+    → length o ≡ length (part at (at + n) w) → Kept at (at + n) o w w'
     → RunsTo la v a k x b c l n ma p at u w' work2
 to-next s ea k1 t lo q =
     let k2 = rw ea at k1 in
@@ -199,7 +220,9 @@ module _ {v : ℕ} {x y h : Header} {n : ℕ} (g : Substituting v x y h n) (a b 
     pub value-count : {c : ℕ} → c ≡ count r → c ≤ n
     value-count e = into-small given a b la (s .stands) e
 
-    pub value-kept : {c : ℕ} {p'' : List Float} → c ≡ count r → Kept (at + c) (at + n) (zeros ((at + n) - (at + c))) p' p'' → Kept at (at + n) (padded n (value .coeffs)) p p''
+    pub value-kept : {c : ℕ} {p'' : List Float} → c ≡ count r
+        → Kept (at + c) (at + n) (zeros ((at + n) - (at + c))) p' p''
+        → Kept at (at + n) (padded n (value .coeffs)) p p''
     value-kept {c} {p''} ec last =
         let m : c ≤ n = value-count ec in
         let o : List Float = part at (at + n) p' in

@@ -26,7 +26,8 @@ pub fn constant_to(n: u32, pool: &mut [f64], at: usize, room: usize)
     recipes_operands::pad(pool, at + 1, at + room);
 }
 
-// The value of a step of any other kind to the pool, n places from `at` on: x and y are the true headers of its operands, h what they announce, n its count.
+// The value of a step of any other kind to the pool, n places from `at` on: x and y are the true headers of its
+// operands, h what they announce, n its count.
 fn value_to(
     s: Step,
     x: Header,
@@ -43,8 +44,13 @@ fn value_to(
     scratch: &mut [f64],
 ) -> Header
     requires { ⌜ Making s x y h n ⌝ ∗ ⌜ Placed x xi xf y yi yf at (length (now coefficients)) ⌝ ∗ ⌜ Lent n at (length (now pool)) (length (now scratch)) ⌝ }
-    ensures head { λ r. ⌜ r ≡ valueOf s (lying xi (now (coefficients .entry)) (take at (now (pool .entry))) xf x) (lying yi (now (coefficients .entry)) (take at (now (pool .entry))) yf y) .head ⌝ }
-    ensures kept { λ r. ⌜ Kept at (at + n) (padded n (valueOf s (lying xi (now (coefficients .entry)) (take at (now (pool .entry))) xf x) (lying yi (now (coefficients .entry)) (take at (now (pool .entry))) yf y) .coeffs)) (now (pool .entry)) (now (pool .exit)) ⌝ }
+    ensures head { λ r. ⌜ r ≡ valueOf s (lying xi (now (coefficients .entry)) (take at (now (pool .entry))) xf x)
+        (lying yi (now (coefficients .entry)) (take at (now (pool .entry))) yf y) .head ⌝ }
+    ensures kept { λ r.
+        ⌜ Kept at (at + n)
+        (padded n (valueOf s (lying xi (now (coefficients .entry)) (take at (now (pool .entry))) xf x)
+        (lying yi (now (coefficients .entry)) (take at (now (pool .entry))) yf y) .coeffs))
+        (now (pool .entry)) (now (pool .exit)) ⌝ }
 {
     let kind = s.kind;
     if kind == 6 {
@@ -100,7 +106,8 @@ fn value_to(
     )
 }
 
-// The value of such a step to the pool, then +0.0 up to `room` places; answers its header word. The operands have the header words xw and yw.
+// The value of such a step to the pool, then +0.0 up to `room` places; answers its header word. The operands have the
+// header words xw and yw.
 pub fn perform(
     s: Step,
     xw: u64,
@@ -115,9 +122,16 @@ pub fn perform(
     room: usize,
     scratch: &mut [f64],
 ) -> u64
-    requires { ⌜ Ready s (headerOf xw) (headerOf yw) room ⌝ ∗ ⌜ Placed (headerOf xw) xi xf (headerOf yw) yi yf at (length (now coefficients)) ⌝ ∗ ⌜ Lent room at (length (now pool)) (length (now scratch)) ⌝ }
-    ensures word { λ r. ⌜ r ≡ wordOf (valueOf s (lying xi (now (coefficients .entry)) (take at (now (pool .entry))) xf (headerOf xw)) (lying yi (now (coefficients .entry)) (take at (now (pool .entry))) yf (headerOf yw)) .head) ⌝ }
-    ensures kept { λ r. ⌜ Kept at (at + room) (padded room (valueOf s (lying xi (now (coefficients .entry)) (take at (now (pool .entry))) xf (headerOf xw)) (lying yi (now (coefficients .entry)) (take at (now (pool .entry))) yf (headerOf yw)) .coeffs)) (now (pool .entry)) (now (pool .exit)) ⌝ }
+    requires { ⌜ Ready s (headerOf xw) (headerOf yw) room ⌝
+        ∗ ⌜ Placed (headerOf xw) xi xf (headerOf yw) yi yf at (length (now coefficients)) ⌝
+        ∗ ⌜ Lent room at (length (now pool)) (length (now scratch)) ⌝ }
+    ensures word { λ r.
+        ⌜ r ≡ wordOf (valueOf s (lying xi (now (coefficients .entry)) (take at (now (pool .entry))) xf (headerOf xw))
+        (lying yi (now (coefficients .entry)) (take at (now (pool .entry))) yf (headerOf yw)) .head) ⌝ }
+    ensures kept { λ r. ⌜ Kept at (at + room)
+        (padded room (valueOf s (lying xi (now (coefficients .entry)) (take at (now (pool .entry))) xf (headerOf xw))
+        (lying yi (now (coefficients .entry)) (take at (now (pool .entry))) yf (headerOf yw)) .coeffs))
+        (now (pool .entry)) (now (pool .exit)) ⌝ }
 {
     let x = header_of(xw);
     let y = header_of(yw);

@@ -1,5 +1,5 @@
-// A polynomial put for a variable of another. What is asked of the operands is read into scratch, a row of Horner's rule at a time, before the value's
-// part of the pool is lent.
+// A polynomial put for a variable of another. What is asked of the operands is read into scratch, a row of Horner's
+// rule at a time, before the value's part of the pool is lent.
 use gates::stored_of;
 use model::Header;
 use model::Way;
@@ -59,8 +59,11 @@ fn plain_from<'a>(
     pool: &'a [f64],
     out: &mut [f64],
 ) -> [usize; 4]
-    requires { ⌜ Plain w (x .lengths) limits v (stored x) (length (now out)) ⌝ ∗ ⌜ Ruled x ⌝ ∗ ⌜ xf + stored x ≤ length (source xi (now coefficients) (now pool)) ⌝ }
-    ensures { λ r. ⌜ Stands (plainOf w limits v (block (x .lengths) (lying xi (now (coefficients .entry)) (now (pool .entry)) xf x .coeffs))) (now (out .exit)) r ⌝ }
+    requires { ⌜ Plain w (x .lengths) limits v (stored x) (length (now out)) ⌝ ∗ ⌜ Ruled x ⌝
+        ∗ ⌜ xf + stored x ≤ length (source xi (now coefficients) (now pool)) ⌝ }
+    ensures { λ r.
+        ⌜ Stands (plainOf w limits v (block (x .lengths)
+        (lying xi (now (coefficients .entry)) (now (pool .entry)) xf x .coeffs))) (now (out .exit)) r ⌝ }
 {
     let given = stored_of(x);
     let a = recipes_operands::operand(xi, coefficients, pool, xf, given);
@@ -90,8 +93,12 @@ fn row_from<'a>(
     to: usize,
     work: &mut [f64],
 )
-    requires { ⌜ Picking (x .lengths) c v k (stored x) (count c) ⌝ ∗ ⌜ to + count c ≤ length (now work) ⌝ ∗ ⌜ Ruled x ⌝ ∗ ⌜ xf + stored x ≤ length (source xi (now coefficients) (now pool)) ⌝ }
-    ensures { λ _. ⌜ Kept to (to + count c) (table (count c) (λ p. readAt (block (x .lengths) (lying xi (now (coefficients .entry)) (now (pool .entry)) xf x .coeffs)) (set (index c p) v k))) (now (work .entry)) (now (work .exit)) ⌝ }
+    requires { ⌜ Picking (x .lengths) c v k (stored x) (count c) ⌝ ∗ ⌜ to + count c ≤ length (now work) ⌝ ∗ ⌜ Ruled x ⌝
+        ∗ ⌜ xf + stored x ≤ length (source xi (now coefficients) (now pool)) ⌝ }
+    ensures { λ _.
+        ⌜ Kept to (to + count c) (table (count c)
+        (λ p. readAt (block (x .lengths) (lying xi (now (coefficients .entry)) (now (pool .entry)) xf x .coeffs))
+        (set (index c p) v k))) (now (work .entry)) (now (work .exit)) ⌝ }
 {
     let given = stored_of(x);
     let a = recipes_operands::operand(xi, coefficients, pool, xf, given);
@@ -109,8 +116,12 @@ fn put_from<'a>(
     pool: &'a [f64],
     work: &mut [f64],
 )
-    requires { ⌜ Cutting (y .lengths) c (stored y) (count c) ⌝ ∗ ⌜ count c ≤ length (now work) ⌝ ∗ ⌜ Ruled y ⌝ ∗ ⌜ yf + stored y ≤ length (source yi (now coefficients) (now pool)) ⌝ }
-    ensures { λ _. ⌜ Kept 0 (count c) (cutPlaces (y .lengths) c (lying yi (now (coefficients .entry)) (now (pool .entry)) yf y .coeffs)) (now (work .entry)) (now (work .exit)) ⌝ }
+    requires { ⌜ Cutting (y .lengths) c (stored y) (count c) ⌝ ∗ ⌜ count c ≤ length (now work) ⌝ ∗ ⌜ Ruled y ⌝
+        ∗ ⌜ yf + stored y ≤ length (source yi (now coefficients) (now pool)) ⌝ }
+    ensures { λ _.
+        ⌜ Kept 0 (count c) (cutPlaces (y .lengths) c
+        (lying yi (now (coefficients .entry)) (now (pool .entry)) yf y .coeffs))
+        (now (work .entry)) (now (work .exit)) ⌝ }
 {
     let given = stored_of(y);
     let b = recipes_operands::operand(yi, coefficients, pool, yf, given);
@@ -119,7 +130,8 @@ fn put_from<'a>(
     blocks::load(b, lb, c, &mut work[..z]);
 }
 
-// Horner's rule over the rows below k, the highest first: r the lengths of the running value, b those of what is put, c those of a row.
+// Horner's rule over the rows below k, the highest first: r the lengths of the running value, b those of what is put, c
+// those of a row.
 fn rows_to(
     x: Header,
     xi: bool,
@@ -136,8 +148,14 @@ fn rows_to(
     at: usize,
     work: &mut [f64],
 ) -> [usize; 4]
-    requires { ⌜ Hornering (x .lengths) v k r b c limits n (stored x) n (length (now work)) ⌝ ∗ ⌜ take (count r) (part at (at + n) (now pool)) ≡ part n (n + count r) (now work) ⌝ ∗ ⌜ Ruled x ⌝ ∗ ⌜ Lies x xi xf at (length (now coefficients)) ⌝ ∗ ⌜ at + n ≤ length (now pool) ⌝ }
-    ensures { λ q. ⌜ Wrote at n (turns limits v (block (x .lengths) (lying xi (now (coefficients .entry)) (take at (now (pool .entry))) xf x .coeffs)) k (block b (part 0 (count b) (now (work .entry)))) (block r (part n (n + count r) (now (work .entry))))) (now (pool .entry)) (now (pool .exit)) q ⌝ }
+    requires { ⌜ Hornering (x .lengths) v k r b c limits n (stored x) n (length (now work)) ⌝
+        ∗ ⌜ take (count r) (part at (at + n) (now pool)) ≡ part n (n + count r) (now work) ⌝ ∗ ⌜ Ruled x ⌝
+        ∗ ⌜ Lies x xi xf at (length (now coefficients)) ⌝ ∗ ⌜ at + n ≤ length (now pool) ⌝ }
+    ensures { λ q.
+        ⌜ Wrote at n (turns limits v (block (x .lengths)
+        (lying xi (now (coefficients .entry)) (take at (now (pool .entry))) xf x .coeffs)) k
+        (block b (part 0 (count b) (now (work .entry)))) (block r (part n (n + count r) (now (work .entry)))))
+        (now (pool .entry)) (now (pool .exit)) q ⌝ }
 {
     let row = 2 * n;
     let end = at + n;
@@ -152,7 +170,8 @@ fn rows_to(
     value
 }
 
-// Horner's rule from the highest power of v. Where there is one row alone, what is put is not needed, and may be too large.
+// Horner's rule from the highest power of v. Where there is one row alone, what is put is not needed, and may be too
+// large.
 fn horner_to(
     v: usize,
     x: Header,
@@ -168,8 +187,15 @@ fn horner_to(
     at: usize,
     work: &mut [f64],
 ) -> [usize; 4]
-    requires { ⌜ Puts (x .lengths) (y .lengths) limits v n (stored x) (stored y) n (length (now work)) ⌝ ∗ ⌜ isZero (block (y .lengths) (lying yi (now coefficients) (take at (now pool)) yf y .coeffs)) ≡ false ⌝ ∗ ⌜ Ruled x × Ruled y ⌝ ∗ ⌜ Lies x xi xf at (length (now coefficients)) × Lies y yi yf at (length (now coefficients)) ⌝ ∗ ⌜ at + n ≤ length (now pool) ⌝ }
-    ensures { λ r. ⌜ Wrote at n (horner limits v (block (x .lengths) (lying xi (now (coefficients .entry)) (take at (now (pool .entry))) xf x .coeffs)) (lengthAt (x .lengths) v) (block (y .lengths) (lying yi (now (coefficients .entry)) (take at (now (pool .entry))) yf y .coeffs)) (constantBlock zeroF)) (now (pool .entry)) (now (pool .exit)) r ⌝ }
+    requires { ⌜ Puts (x .lengths) (y .lengths) limits v n (stored x) (stored y) n (length (now work)) ⌝
+        ∗ ⌜ isZero (block (y .lengths) (lying yi (now coefficients) (take at (now pool)) yf y .coeffs)) ≡ false ⌝
+        ∗ ⌜ Ruled x × Ruled y ⌝ ∗ ⌜ Lies x xi xf at (length (now coefficients))
+        × Lies y yi yf at (length (now coefficients)) ⌝ ∗ ⌜ at + n ≤ length (now pool) ⌝ }
+    ensures { λ r.
+        ⌜ Wrote at n (horner limits v (block (x .lengths)
+        (lying xi (now (coefficients .entry)) (take at (now (pool .entry))) xf x .coeffs)) (lengthAt (x .lengths) v)
+        (block (y .lengths) (lying yi (now (coefficients .entry)) (take at (now (pool .entry))) yf y .coeffs))
+        (constantBlock zeroF)) (now (pool .entry)) (now (pool .exit)) r ⌝ }
 {
     let la = x.lengths;
     let c = substitution::kernel::row_lengths(limits, v, la);
@@ -218,8 +244,14 @@ fn front_to(
     at: usize,
     work: &mut [f64],
 ) -> [usize; 4]
-    requires { ⌜ Given x y h v n (stored x) (stored y) n (length (now work)) ⌝ ∗ ⌜ Lies x xi xf at (length (now coefficients)) ⌝ ∗ ⌜ Lies y yi yf at (length (now coefficients)) ⌝ ∗ ⌜ at + n ≤ length (now pool) ⌝ }
-    ensures { λ r. ⌜ Wrote at n (putFor (x .vars) (h .limits) v (block (x .lengths) (lying xi (now (coefficients .entry)) (take at (now (pool .entry))) xf x .coeffs)) (block (y .lengths) (lying yi (now (coefficients .entry)) (take at (now (pool .entry))) yf y .coeffs))) (now (pool .entry)) (now (pool .exit)) r ⌝ }
+    requires { ⌜ Given x y h v n (stored x) (stored y) n (length (now work)) ⌝
+        ∗ ⌜ Lies x xi xf at (length (now coefficients)) ⌝ ∗ ⌜ Lies y yi yf at (length (now coefficients)) ⌝
+        ∗ ⌜ at + n ≤ length (now pool) ⌝ }
+    ensures { λ r.
+        ⌜ Wrote at n (putFor (x .vars) (h .limits) v
+        (block (x .lengths) (lying xi (now (coefficients .entry)) (take at (now (pool .entry))) xf x .coeffs))
+        (block (y .lengths) (lying yi (now (coefficients .entry)) (take at (now (pool .entry))) yf y .coeffs)))
+        (now (pool .entry)) (now (pool .exit)) r ⌝ }
 {
     let limits = h.limits;
     let w = way_from(x.vars, v, y, yi, yf, coefficients, &pool[..at]);
@@ -271,9 +303,15 @@ pub fn substitute_to(
     at: usize,
     scratch: &mut [f64],
 ) -> Header
-    requires { ⌜ Substituting v x y h n ⌝ ∗ ⌜ Lies x xi xf at (length (now coefficients)) ⌝ ∗ ⌜ Lies y yi yf at (length (now coefficients)) ⌝ ∗ ⌜ Lent n at (length (now pool)) (length (now scratch)) ⌝ }
-    ensures head { λ r. ⌜ r ≡ substitutePoly v (lying xi (now (coefficients .entry)) (take at (now (pool .entry))) xf x) (lying yi (now (coefficients .entry)) (take at (now (pool .entry))) yf y) .head ⌝ }
-    ensures kept { λ r. ⌜ Kept at (at + n) (padded n (substitutePoly v (lying xi (now (coefficients .entry)) (take at (now (pool .entry))) xf x) (lying yi (now (coefficients .entry)) (take at (now (pool .entry))) yf y) .coeffs)) (now (pool .entry)) (now (pool .exit)) ⌝ }
+    requires { ⌜ Substituting v x y h n ⌝ ∗ ⌜ Lies x xi xf at (length (now coefficients)) ⌝
+        ∗ ⌜ Lies y yi yf at (length (now coefficients)) ⌝ ∗ ⌜ Lent n at (length (now pool)) (length (now scratch)) ⌝ }
+    ensures head { λ r. ⌜ r ≡ substitutePoly v (lying xi (now (coefficients .entry)) (take at (now (pool .entry))) xf x)
+        (lying yi (now (coefficients .entry)) (take at (now (pool .entry))) yf y) .head ⌝ }
+    ensures kept { λ r.
+        ⌜ Kept at (at + n)
+        (padded n (substitutePoly v (lying xi (now (coefficients .entry)) (take at (now (pool .entry))) xf x)
+        (lying yi (now (coefficients .entry)) (take at (now (pool .entry))) yf y) .coeffs))
+        (now (pool .entry)) (now (pool .exit)) ⌝ }
 {
     let limits = h.limits;
     let room = 8 * n;

@@ -1,8 +1,8 @@
--- What the text of a stored case says: words of 16 hex digits, each with one byte behind it. A byte that is missing or no digit counts as 0.
+-- What the text of a stored case says: words of 16 hex digits, each with one byte behind it. A byte that is missing or
+-- no digit counts as 0.
 use Prim.Native.Nat.{ℕ, _+_, _-_, _*_, _<_}
 use mathlib.Core.List.{List, [], _∷_}
-use mathlib.Core.Bool.{Bool, true, false, _&&_, cond}
-use mathlib.Core.Path.{_≡_}
+use mathlib.Core.Bool.{_&&_, cond}
 use native.Mathlib.Omega.{arith}
 use lib.Dec.{leb, ltb}
 use lib.ListN.{getD}

@@ -1,9 +1,10 @@
-// Runs the stored cases of standard input through every entry, and prints a line for each: what came out. tests/stored says where cases and
-// stored output are from; none is from this code.
+// Runs the stored cases of standard input through every entry, and prints a line for each: what came out. tests/stored
+// says where cases and stored output are from; none is from this code.
 //
-// A case is words of 16 hex digits, each with one byte behind it. The first says, from its low end: the operation (8 bits), how many
-// coefficients a and b have (8 each), how many places of result (8) and of scratch (16) are lent, how many numbers follow (8). Then come the
-// headers of a and b, the numbers, the coefficients of a and those of b. Result and scratch are lent full of a sentinel.
+// A case is words of 16 hex digits, each with one byte behind it. The first says, from its low end: the operation (8
+// bits), how many coefficients a and b have (8 each), how many places of result (8) and of scratch (16) are lent, how
+// many numbers follow (8). Then come the headers of a and b, the numbers, the coefficients of a and those of b. Result
+// and scratch are lent full of a sentinel.
 // No contract can say what is read or printed; the functions that do neither (text.rt, tally.rt) say what they answer.
 mod show;
 mod tally;

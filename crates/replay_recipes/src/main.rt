@@ -1,10 +1,13 @@
-// Runs the stored recipes of standard input through the check and the run, and prints a line for each: both answers, and all that the lent
-// buffers then hold. tests/stored says where cases and stored output are from; none is from this code.
+// Runs the stored recipes of standard input through the check and the run, and prints a line for each: both answers,
+// and all that the lent buffers then hold. tests/stored says where cases and stored output are from; none is from this
+// code.
 //
-// A case is words of 16 hex digits, each with one byte behind it. The first says, from its low end: how many headers (8 bits), coefficients
-// (16) and steps (8) there are, and how many words are lent (8); the second how many places of pool (16) and of scratch (16) are lent. Then come
-// the headers, the coefficients, the steps. Every lent buffer is full of a sentinel.
-// No contract can say what is read or printed; the functions that do neither (alike.rt, and `sheet`'s that read words) say what they answer.
+// A case is words of 16 hex digits, each with one byte behind it. The first says, from its low end: how many headers (8
+// bits), coefficients (16) and steps (8) there are, and how many words are lent (8); the second how many places of pool
+// (16) and of scratch (16) are lent. Then come the headers, the coefficients, the steps. Every lent buffer is full of a
+// sentinel.
+// No contract can say what is read or printed; the functions that do neither (alike.rt, and `sheet`'s that read words)
+// say what they answer.
 mod alike;
 mod show;
 

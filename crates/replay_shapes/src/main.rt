@@ -1,4 +1,5 @@
-// Prints which header words are good and what each family of operations announces, on every edge of document 01's rules.
+// Prints which header words are good and what each family of operations announces, on every edge of document 01's
+// rules.
 // The stored output was worked out by tests/shapes.py from document 01 alone, and not by this code.
 use gates::stored_of;
 use libc::STDOUT_FILENO;
@@ -29,7 +30,8 @@ const SHAPES: [u64; 12] = [
     0x828a288282284000,
 ];
 
-// The shapes, then each field at 0 and at its largest, lengths above limits, fields of missing variables, spare bits, counts about 4,096.
+// The shapes, then each field at 0 and at its largest, lengths above limits, fields of missing variables, spare bits,
+// counts about 4,096.
 const WORDS: [u64; 72] = [
     0x0000000000000000,
     0x2000000000000000,

@@ -1,5 +1,5 @@
-// Runs the stored sheets of standard input through `sheet::answer`, and prints what it writes for each. tests/stored says where sheets and stored
-// output are from; none is from this code.
+// Runs the stored sheets of standard input through `sheet::answer`, and prints what it writes for each. tests/stored
+// says where sheets and stored output are from; none is from this code.
 //
 // Before each sheet stands a line of 16 hex digits: how many bytes it has, at most 65,536.
 // No contract can say what is read or printed; `sheet::answer` says what is printed for a text.

@@ -51,7 +51,8 @@ unfolding announced single seriesShape
 series-lengths a = refl
 
 -- what the kernel is lent
-pub entry-whole : {w ma mo ms : ℕ} → WorkReady Series w ma mo ms → {x h : Header} {na n : ℕ} → x ≡ headerOf w → h ≡ announced Series (headerOf w) noHeader → na ≡ stored x → n ≡ stored h
+pub entry-whole : {w ma mo ms : ℕ} → WorkReady Series w ma mo ms → {x h : Header} {na n : ℕ} → x ≡ headerOf w
+    → h ≡ announced Series (headerOf w) noHeader → na ≡ stored x → n ≡ stored h
     → {ka ko kw : ℕ} → ka ≡ na → ko ≡ n → kw ≡ 8 * n → Whole (x .lengths) (h .lengths) n ka ko kw
 entry-whole {w} g {x} {h} {na} {n} ex eh ea en pa po pw =
     let r = g .one .good .regular in

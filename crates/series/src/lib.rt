@@ -38,7 +38,8 @@ pub fn exp(word: u64, a: &[f64], head: f64, out: &mut [f64], scratch: &mut [f64]
     Answer::Done(pack(h))
 }
 
-// log, `head` its value at the constant term: refusals 1, 2, 5, 6. Division by zero, infinities and NaN go as IEEE 754 says and refuse nothing.
+// log, `head` its value at the constant term: refusals 1, 2, 5, 6. Division by zero, infinities and NaN go as IEEE 754
+// says and refuse nothing.
 pub fn log(word: u64, a: &[f64], head: f64, out: &mut [f64], scratch: &mut [f64]) -> Answer
     ensures answer { λ r. ⌜ r ≡ logAnswer word (now (a .entry)) head (now (out .entry)) (now (scratch .entry)) ⌝ }
     ensures written { λ r. ⌜ now (out .exit) ≡ logOut word (now (a .entry)) head (now (out .entry)) (now (scratch .entry)) ⌝ }

@@ -18,7 +18,7 @@ use Rattle.model.specs.Refusals.{zeroF}
 use Rattle.model.specs.Constructed.{wholeF}
 use Rattle.model.specs.General.{productAt}
 use Rattle.model.specs.Series.{timesWhole, overWhole, expRow}
-use Rattle.blocks.specs.Fill.{part-table}
+use Rattle.lists.specs.Fill.{part-table}
 use Rattle.product_general.specs.Index.{inRow}
 use Rattle.product_general.specs.Product.{row-in}
 use Rattle.series_gathering.specs.Gather.{pairAt, gathered}
@@ -40,7 +40,8 @@ row-number j {t} {i} h =
     let z : i / t ≡ 0 = div-eq-of-lt h in
     ap (λ (x : ℕ). x / t) e ∙ (add-mul-div-right i j (omega arith) ∙ omega (arith, z))
 
-weighed-row : (t j m : ℕ) (xs : List Float) → j * t + t ≤ m → m ≤ length xs → take t (drop (j * t) (table m (weighedAt t xs))) ≡ timesWhole j (take t (drop (j * t) xs))
+weighed-row : (t j m : ℕ) (xs : List Float) → j * t + t ≤ m → m ≤ length xs
+    → take t (drop (j * t) (table m (weighedAt t xs))) ≡ timesWhole j (take t (drop (j * t) xs))
 weighed-row t j m xs h l =
     let n : length (take t (drop (j * t) xs)) ≡ t = simp (length-take, length-drop) (omega arith) in
     part-table nan (table m (weighedAt t xs)) (j * t) t (omega (arith, length-table (weighedAt t xs) m))
@@ -59,8 +60,14 @@ module _ (head : Float) (lx r : List ℕ) {v : ℕ} (h : v < 4) (xs : List Float
       let m : ℕ = min (at lx v) (k + 1) - 1 in
       let c : min (k + 1) (at lx v) - 1 ≡ m = omega arith in
       let rowBy : ℕ → List Float =
-      λ w. overWhole k (table (span r n w) (λ i. walk (λ j acc. productAt lx r r (index r i) n w (timesWhole j (take (span lx n w) (drop (j * span lx n w) xs))) (take (span r n w) (drop ((k - j) * span r n w) q)) acc) m 1 zeroF)) in
-      ap (overWhole k) (table-same _ _ (inRow r v) (λ i p. ap (λ (s : ℕ). walk (pairAt false lx r v k (weighed lx v xs) q i) s 1 zeroF) c ∙ walk-same _ _ m 1 zeroF (λ j a b acc.
+      λ w. overWhole k
+      (table (span r n w)
+      (λ i. walk (λ j acc. productAt lx r r (index r i) n w
+      (timesWhole j (take (span lx n w) (drop (j * span lx n w) xs)))
+      (take (span r n w) (drop ((k - j) * span r n w) q)) acc) m 1 zeroF)) in
+      ap (overWhole k) (table-same _ _ (inRow r v)
+      (λ i p. ap (λ (s : ℕ). walk (pairAt false lx r v k (weighed lx v xs) q i) s 1 zeroF) c
+      ∙ walk-same _ _ m 1 zeroF (λ j a b acc.
       rw (weighed-row (inRow lx v) j (span lx (4 - v) v) xs (row-in lx h (omega arith) refl (le-refl _)) l))))
       ∙ ap rowBy (add-one v)
 

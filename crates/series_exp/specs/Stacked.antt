@@ -1,7 +1,7 @@
 -- What a loop over the rows of a variable has done, and the sub-block that they make.
 use Prim.Native.Nat.{ℕ, suc, _+_, _-_, _*_, _≤_, _<_, min}
 use mathlib.Core.Bool.{false}
-use mathlib.Core.List.{List, [], _∷_, _++_}
+use mathlib.Core.List.{List, _++_}
 use mathlib.Core.Path.{_≡_, refl, sym, ap, _∙_}
 use native.Mathlib.Omega.{arith}
 use native.Mathlib.Numerals.{add-one}
@@ -12,7 +12,7 @@ use lib.Ieee.{Float}
 use borrow.Rule.Slice.PartMut.{putMid}
 use Rattle.lists.specs.Four.{at, each}
 use Rattle.lists.specs.Table.{table, length-table}
-use Rattle.lists.specs.Part.{part, Kept, kept-above}
+use Rattle.lists.specs.Part.{part, Kept, kept-above, one-set}
 use Rattle.lists.specs.Stack.{stack, stack-none, stack-more}
 use Rattle.model.specs.Header.{span}
 use Rattle.model.specs.Series.{overWhole, expRow, expRows}
@@ -38,7 +38,8 @@ stacked-one {s} {n} {e} {f} {ws} {w} {w'} k =
     let o : 1 * s ≡ s = omega arith in
     record { from = omega arith; len = refl; rows = ap (λ (m : ℕ). take m w') o ∙ sym (stack-none f (take s w')); beside = k .holds }
 
-pub stacked-more : {s n e m k : ℕ} {f : ℕ → List Float → List Float} {first ws w w' xs : List Float} → Stacked s f first n e ws m k w → Kept (k * s) (k * s + s) xs w w' → xs ≡ f k (take (k * s) w)
+pub stacked-more : {s n e m k : ℕ} {f : ℕ → List Float → List Float} {first ws w w' xs : List Float}
+    → Stacked s f first n e ws m k w → Kept (k * s) (k * s + s) xs w w' → xs ≡ f k (take (k * s) w)
     → k * s + s ≤ n → Stacked s f first n e ws m (k + 1) w'
 stacked-more {s} {n} {e} {m} {k} {f} {first} {ws} {w} {w'} {xs} t a x h =
     let one = t .from in
@@ -61,21 +62,32 @@ stacked-more {s} {n} {e} {m} {k} {f} {first} {ws} {w} {w'} {xs} t a x h =
     }
 
 -- the row k
-pub row-more : (lx r : List ℕ) (v : ℕ) (xs : List Float) {n e m k : ℕ} {first w w' : List Float} → Stacked (inRow r v) (nextRow lx r v xs) first n e (weighed lx v xs) m k w
-    → Kept (k * inRow r v) (k * inRow r v + inRow r v) (overWhole k (gathered false lx r v k 1 (min (k + 1) (at lx v)) (part n e w) (take (k * inRow r v) w))) w w' → k * inRow r v + inRow r v ≤ n
+pub row-more : (lx r : List ℕ) (v : ℕ) (xs : List Float) {n e m k : ℕ} {first w w' : List Float}
+    → Stacked (inRow r v) (nextRow lx r v xs) first n e (weighed lx v xs) m k w
+    → Kept (k * inRow r v) (k * inRow r v + inRow r v)
+    (overWhole k (gathered false lx r v k 1 (min (k + 1) (at lx v)) (part n e w) (take (k * inRow r v) w))) w w'
+    → k * inRow r v + inRow r v ≤ n
     → Stacked (inRow r v) (nextRow lx r v xs) first n e (weighed lx v xs) m (k + 1) w'
-row-more lx r v xs {k = k} {w = w} t a h = stacked-more t a (ap (λ (l : List Float). overWhole k (gathered false lx r v k 1 (min (k + 1) (at lx v)) l (take (k * inRow r v) w))) (t .beside)) h
+row-more lx r v xs {k = k} {w = w} t a h =
+    stacked-more t a
+    (ap (λ (l : List Float). overWhole k (gathered false lx r v k 1 (min (k + 1) (at lx v)) l (take (k * inRow r v) w)))
+    (t .beside)) h
 
 -- all rows
-pub stacked-all : (r : List ℕ) {v : ℕ} {f : ℕ → List Float → List Float} {first ws w : List Float} {n e m k : ℕ} → v < 4 → Stacked (inRow r v) f first n e ws m k w → k ≡ at r v
+pub stacked-all : (r : List ℕ) {v : ℕ} {f : ℕ → List Float → List Float} {first ws w : List Float} {n e m k : ℕ} → v < 4
+    → Stacked (inRow r v) f first n e ws m k w → k ≡ at r v
     → take (span r (4 - v) v) w ≡ stack (at r v - 1) f first
 stacked-all r {v} {f} {first} {w = w} h t e =
     ap (λ (i : ℕ). take i w) (span-more r h) ∙ (ap (λ (i : ℕ). take (i * inRow r v) w) (sym e) ∙ (t .rows ∙ ap (λ (i : ℕ). stack (i - 1) f first) e))
 
 -- the row as it was made
-pub row-kept : {lx sx r sr : List ℕ} → Shaped lx sx r sr → {v k n e mr : ℕ} (w : List Float) → RowRoom lx r v k n e (length w) mr → {one two three : List Float} {z q : ℕ}
-    → one ≡ gathered false lx r v k 1 (min (k + 1) (at lx v)) (part n e w) (part 0 (k * at sr v) w) → two ≡ overWhole k one → three ≡ take z two → z ≡ at sr v → q ≡ at sr v
-    → Kept (k * inRow r v) (k * inRow r v + inRow r v) (overWhole k (gathered false lx r v k 1 (min (k + 1) (at lx v)) (part n e w) (take (k * inRow r v) w))) w (putMid (k * at sr v) q w three)
+pub row-kept : {lx sx r sr : List ℕ} → Shaped lx sx r sr → {v k n e mr : ℕ} (w : List Float)
+    → RowRoom lx r v k n e (length w) mr → {one two three : List Float} {z q : ℕ}
+    → one ≡ gathered false lx r v k 1 (min (k + 1) (at lx v)) (part n e w) (part 0 (k * at sr v) w)
+    → two ≡ overWhole k one → three ≡ take z two → z ≡ at sr v → q ≡ at sr v
+    → Kept (k * inRow r v) (k * inRow r v + inRow r v)
+    (overWhole k (gathered false lx r v k 1 (min (k + 1) (at lx v)) (part n e w) (take (k * inRow r v) w))) w
+    (putMid (k * at sr v) q w three)
 unfolding gathered
 row-kept {lx} {sx} {r} {sr} g {v} {k} {n} {e} w p {one} {two} {three} {z} {q} x y t ez eq =
     let s = stride-at r (g .strided .by-r) (p .some) in
@@ -124,12 +136,15 @@ module _ {lx sx r sr : List ℕ} (g : Shaped lx sx r sr) {v n mx mw mr : ℕ} (p
   few-rows = let l = g .strided .left in mul-le-mul-right (at sx v) (each (λ v. at lx v ≤ 64) (l .m0) (l .m1) (l .m2) (l .m3) v h)
 
   -- the operand's rows as they were weighed
-  pub weigh-kept : (w xs : List Float) → length w ≡ mw → {ws : List Float} {z q : ℕ} → ws ≡ table z (weighedAt (at sx v) xs) → z ≡ at lx v * at sx v → q ≡ at lx v * at sx v
+  pub weigh-kept : (w xs : List Float) → length w ≡ mw → {ws : List Float} {z q : ℕ}
+      → ws ≡ table z (weighedAt (at sx v) xs) → z ≡ at lx v * at sx v → q ≡ at lx v * at sx v
       → Kept n (n + at lx v * at sx v) (weighed lx v xs) w (putMid n q w ws)
   weigh-kept w xs l {ws} {z} {q} e ez eq =
       let m : at lx v * at sx v ≡ span lx (4 - v) v = ap (λ (s : ℕ). at lx v * s) (stride-at lx (g .strided .by-x) h) ∙ sym (span-more lx h) in
       let d : n + at lx v * at sx v - n ≡ at lx v * at sx v = omega arith in
-      let c : ws ≡ weighed lx v xs = e ∙ (ap (λ (i : ℕ). table i (weighedAt (at sx v) xs)) (ez ∙ m) ∙ ap (λ (s : ℕ). table (span lx (4 - v) v) (weighedAt s xs)) (stride-at lx (g .strided .by-x) h)) in
+      let c : ws ≡ weighed lx v xs =
+      e ∙ (ap (λ (i : ℕ). table i (weighedAt (at sx v) xs)) (ez ∙ m)
+      ∙ ap (λ (s : ℕ). table (span lx (4 - v) v) (weighedAt s xs)) (stride-at lx (g .strided .by-x) h)) in
       rw (← c) (kept-put n (n + at lx v * at sx v) w (ap length e ∙ (length-table _ z ∙ (ez ∙ sym d))) (omega arith) (omega (arith, rows-fit)) (eq ∙ sym d))
 
   pub first-under : inRow r v ≤ n
@@ -157,10 +172,6 @@ module _ {lx r : List ℕ} {v k n e mw mr : ℕ} (p : RowRoom lx r v k n e mw mr
   row-gathers x d m = record { some = p .some; turn = p .turn; room = let f = p .ends in omega arith; before = d; full = m ∙ p .full }
 
 -- ---- the sub-block
-
-one-set : (x : Float) (w : List Float) → 0 < length w → take 1 (set w 0 x) ≡ x ∷ []
-one-set x [] h = absurd (omega arith)
-one-set x (y ∷ w) h = refl
 
 module _ (head : Float) (lx r : List ℕ) {v : ℕ} (xs : List Float) where
   -- no variable is left

@@ -1,5 +1,6 @@
 // exp, row by row; it recurses over the variables.
-// At the front of the work lie the finished rows, and from n on the operand's rows, each times its number. A row is gathered in the buffer of the result.
+// At the front of the work lie the finished rows, and from n on the operand's rows, each times its number. A row is
+// gathered in the buffer of the result.
 ghost use mathlib.Core.Path.{_≡_};
 ghost use mathlib.Core.Bool.{false};
 ghost use Prim.Native.Nat.{_+_, _-_, _*_, _<_, min};
@@ -16,7 +17,8 @@ ghost use Rattle.series_gathering.specs.Whole.{Whole};
 ghost use Rattle.series_gathering.specs.Gather.{gathered};
 ghost use Rattle.series_exp.specs.NextRow.{nextRow};
 
-// The row k of the variable v, over k; it goes behind the rows before it, which lie at the front of the work. The operand's rows lie from n up to e.
+// The row k of the variable v, over k; it goes behind the rows before it, which lie at the front of the work. The
+// operand's rows lie from n up to e.
 fn exp_row(
     work: &mut [f64],
     n: usize,
@@ -30,7 +32,9 @@ fn exp_row(
     row: &mut [f64],
 )
     requires { ⌜ Shaped lx sx r sr ⌝ ∗ ⌜ RowRoom lx r v k n e (length (now work)) (length (now row)) ⌝ }
-    ensures { λ _. ⌜ Kept (k * inRow r v) (k * inRow r v + inRow r v) (overWhole k (gathered false lx r v k 1 (min (k + 1) (at lx v)) (part n e (now (work .entry))) (take (k * inRow r v) (now (work .entry))))) (now (work .entry)) (now (work .exit)) ⌝ }
+    ensures { λ _. ⌜ Kept (k * inRow r v) (k * inRow r v + inRow r v)
+        (overWhole k (gathered false lx r v k 1 (min (k + 1) (at lx v)) (part n e (now (work .entry)))
+        (take (k * inRow r v) (now (work .entry))))) (now (work .entry)) (now (work .exit)) ⌝ }
 {
     let at = k * sr[v];
     let end = at + sr[v];
@@ -52,7 +56,8 @@ fn exp_rows(
     row: &mut [f64],
 )
     requires { ⌜ Shaped lx sx r sr ⌝ ∗ ⌜ Room lx r v n (length (now xs)) (length (now work)) (length (now row)) ⌝ ∗ ⌜ v < 4 ⌝ }
-    ensures { λ _. ⌜ take (span r (4 - v) v) (now (work .exit)) ≡ stack (at r v - 1) (nextRow lx r v (now (xs .entry))) (take (inRow r v) (now (work .entry))) ⌝ }
+    ensures { λ _. ⌜ take (span r (4 - v) v) (now (work .exit))
+        ≡ stack (at r v - 1) (nextRow lx r v (now (xs .entry))) (take (inRow r v) (now (work .entry))) ⌝ }
 {
     let t = sx[v];
     let s = sr[v];

@@ -1,4 +1,5 @@
--- What gathering a row asks: lx and r the lengths of the operand and of the result, sx and sr their strides. The m.. are the lengths of buffers.
+-- What gathering a row asks: lx and r the lengths of the operand and of the result, sx and sr their strides. The m..
+-- are the lengths of buffers.
 use Prim.Native.Nat.{ℕ, _+_, _-_, _*_, _≤_, _<_}
 use mathlib.Core.List.{List}
 use mathlib.Core.Bool.{Bool, true, false}

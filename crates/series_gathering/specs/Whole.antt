@@ -1,4 +1,5 @@
--- What a series of a whole block asks: lx and r the lengths of the operand and of the result. The m.. are the lengths of buffers.
+-- What a series of a whole block asks: lx and r the lengths of the operand and of the result. The m.. are the lengths
+-- of buffers.
 use Prim.Native.Nat.{ℕ, _*_, _≤_}
 use mathlib.Core.List.{List}
 use mathlib.Core.Path.{_≡_}

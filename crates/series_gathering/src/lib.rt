@@ -16,7 +16,8 @@ fn left_row(back: bool, k: usize, j: usize) -> usize
     if back { k - j } else { j }
 }
 
-// The row k of the variable v, from +0.0: for j from lo up to hi the row j of xs times the row k - j of ys; or, backwards, k - j and j.
+// The row k of the variable v, from +0.0: for j from lo up to hi the row j of xs times the row k - j of ys; or,
+// backwards, k - j and j.
 pub fn gather_rows(
     back: bool,
     xs: &[f64],
@@ -48,7 +49,8 @@ pub fn gather_rows(
     }
 }
 
-// The row k of exp before it is divided: x's row j, weighed, times the finished row k - j, as far as x reaches. Where a row is one place, it is one sum.
+// The row k of exp before it is divided: x's row j, weighed, times the finished row k - j, as far as x reaches. Where a
+// row is one place, it is one sum.
 pub fn gather(
     xs: &[f64],
     lx: [usize; 4],

@@ -17,6 +17,7 @@ use Rattle.lists.specs.Grow.{grow}
 use Rattle.lists.specs.Stack.{stack, stack-none}
 use Rattle.lists.specs.Table.{table, table-same}
 use Rattle.lists.specs.Walk.{walk}
+use Rattle.lists.specs.Part.{one-set}
 use Rattle.model.specs.declared.Family.the-variants.{Quotient}
 use Rattle.model.specs.Header.{span, count}
 use Rattle.model.specs.Announced.{lengthAfter}
@@ -63,13 +64,30 @@ module _ {lx sx r sr : List ℕ} (g : Shaped lx sx r sr) {v n mx mw mr : ℕ} (p
   rows-next =
       let a = row-under (g .strided .left) h (le-refl (span lx (4 - v) v)) in
       let b = row-under (g .strided .result) h (le-refl (span r (4 - v) v)) in
-      record { within = omega arith; operand = omega (arith, a, p .operand); rows = omega (arith, b, p .rows); less = omega (arith, a, p .less); work = p .work; row = omega (arith, b, p .row) }
+      record {
+        within = omega arith;
+        operand = omega (arith, a, p .operand);
+        rows = omega (arith, b, p .rows);
+        less = omega (arith, a, p .less);
+        work = p .work;
+        row = omega (arith, b, p .row);
+      }
 
   pub log-width : at sr v ≤ mr
   log-width = rw (stride-at r (g .strided .by-r) h) (row-under (g .strided .result) h (p .row))
 
   pub log-room : {k mw' mr' : ℕ} → 1 ≤ k → k < at r v → mw' ≡ mw → mr' ≡ at sr v → LogRoom lx r v k n mx mw' mr'
-  log-room o l i j = record { some = h; first = o; turn = l; operand = p .operand; rows = p .rows; less = p .less; work = omega (arith, p .work); full = j ∙ stride-at r (g .strided .by-r) h }
+  log-room o l i j =
+      record {
+        some = h;
+        first = o;
+        turn = l;
+        operand = p .operand;
+        rows = p .rows;
+        less = p .less;
+        work = omega (arith, p .work);
+        full = j ∙ stride-at r (g .strided .by-r) h;
+      }
 
   pub line-room : alone r (4 - (v + 1)) v ≡ true → {mt : ℕ} → mt ≡ at r v → LineRoom (at lx v) mx mt
   line-room t e =
@@ -110,11 +128,18 @@ module _ (lx r : List ℕ) {v : ℕ} (h : v < 4) (xs : List Float) (l : span lx 
   unfolding leftOfRows logGathered
   gathered-is head k q =
       let lo : ℕ = firstTurn (at lx v) k in
-      let given : ℕ → ℕ → Float = λ w i. neg (walk (λ j acc. productAt lx r r (index r i) rest w (take (span lx rest w) (drop ((k - j) * span lx rest w) xs)) (timesWhole j (take (span r rest w) (drop (j * span r rest w) q))) acc) (k - lo) lo zeroF) in
+      let given : ℕ → ℕ → Float =
+      λ w i. neg (walk (λ j acc. productAt lx r r (index r i) rest w
+      (take (span lx rest w) (drop ((k - j) * span lx rest w) xs))
+      (timesWhole j (take (span r rest w) (drop (j * span r rest w) q))) acc) (k - lo) lo zeroF) in
       let x : ℕ → List Float = λ w. table (span lx rest w) (λ i. mul binary64 (wholeF k) (getD (take (span lx rest w) (drop (k * span lx rest w) xs)) i nan)) in
-      let rowBy : ℕ → List Float = λ w. table (span r rest w) (λ i. cond (ltb k (at lx v)) (joinAt false (given w i) (block (after v lx) (x w)) (index r i)) (given w i)) in
+      let rowBy : ℕ → List Float =
+      λ w. table (span r rest w) (λ i. cond (ltb k (at lx v))
+      (joinAt false (given w i) (block (after v lx) (x w)) (index r i)) (given w i)) in
       table-same _ _ (inRow r v) (λ i p. decide (ltb k (at lx v))
-      (λ t. rw t (ap (λ (m : ℕ). joinAt false (given (v + 1) i) (block (after v lx) (table m (λ i. mul binary64 (wholeF k) (getD (rowAt lx v k xs) i nan)))) (index r i)) (operand-count k (ltb-true k (at lx v) t))))
+      (λ t. rw t (ap (λ (m : ℕ). joinAt false (given (v + 1) i)
+      (block (after v lx) (table m (λ i. mul binary64 (wholeF k) (getD (rowAt lx v k xs) i nan)))) (index r i))
+      (operand-count k (ltb-true k (at lx v) t))))
       (λ t. rw t))
       ∙ ap rowBy (add-one v)
 
@@ -125,13 +150,10 @@ module _ (lx r : List ℕ) {v : ℕ} (h : v < 4) (xs : List Float) (l : span lx 
       let first : (w : ℕ) → List Float = λ w. take (span lx rest w) (drop (0 * span lx rest w) xs) in
       λ i k q. (ap (λ (a : List Float). overWhole k (recurred (block (after v r) a) (block (after v lx) (rowAt lx v 0 xs)) (after v r))) (gathered-is head k q)
       ∙ (ap (overWhole k) (sym (quotient-is v lx r (logGathered head lx r rest v xs k q) (rowAt lx v 0 xs) (λ e. n (sym c ∙ e))))
-      ∙ ap (λ (w : ℕ). overWhole k (quotientOf (after v r) (block (after v r) (logGathered head lx r rest v xs k q)) (block (after v lx) (first w)) .places)) (add-one v))) i
+      ∙ ap (λ (w : ℕ). overWhole k (quotientOf (after v r) (block (after v r) (logGathered head lx r rest v xs k q))
+      (block (after v lx) (first w)) .places)) (add-one v))) i
 
 -- ---- the sub-block
-
-one-set : (x : Float) (w : List Float) → 0 < length w → take 1 (set w 0 x) ≡ x ∷ []
-one-set x [] h = absurd (omega arith)
-one-set x (y ∷ w) h = refl
 
 left : {v : ℕ} → v < 4 → 4 - v ≡ suc (4 - (v + 1))
 left h = omega arith
@@ -142,7 +164,8 @@ module _ (head : Float) (lx r : List ℕ) {v : ℕ} (xs : List Float) where
   log-none w e h = ap (λ (i : ℕ). take i (set w 0 head)) (span-none r e) ∙ (one-set head w h ∙ sym (ap (λ (i : ℕ). logRows head lx r (4 - i) i xs) e))
 
   -- one long variable
-  pub log-alone : (w : List Float) {line : List Float} {m : ℕ} → v < 4 → alone r (4 - (v + 1)) v ≡ true → line ≡ grow (m - 1) (nextPlace (at lx v) xs) (head ∷ []) → m ≡ at r v → length line ≡ at r v
+  pub log-alone : (w : List Float) {line : List Float} {m : ℕ} → v < 4 → alone r (4 - (v + 1)) v ≡ true
+      → line ≡ grow (m - 1) (nextPlace (at lx v) xs) (head ∷ []) → m ≡ at r v → length line ≡ at r v
       → take (span r (4 - v) v) (line ++ drop (at r v) w) ≡ logRows head lx r (4 - v) v xs
   unfolding logRows
   log-alone w {line} {m} h t e c n =
@@ -154,7 +177,8 @@ module _ (head : Float) (lx r : List ℕ) {v : ℕ} (xs : List Float) where
       ∙ sym (ap (λ (i : ℕ). logRows head lx r i v xs) (left h) ∙ rw t)))))
 
   -- row 0, then the others
-  pub log-others : (w w' : List Float) → v < 4 → alone r (4 - (v + 1)) v ≡ false → span lx (4 - v) v ≤ length xs → ((at r v ≡ 1 → ⊥) → inRow lx v ≡ 1 → ⊥) → take (inRow r v) w ≡ logRows head lx r (4 - (v + 1)) (v + 1) xs
+  pub log-others : (w w' : List Float) → v < 4 → alone r (4 - (v + 1)) v ≡ false → span lx (4 - v) v ≤ length xs
+      → ((at r v ≡ 1 → ⊥) → inRow lx v ≡ 1 → ⊥) → take (inRow r v) w ≡ logRows head lx r (4 - (v + 1)) (v + 1) xs
       → take (span r (4 - v) v) w' ≡ stack (at r v - 1) (logStep lx r v xs) (take (inRow r v) w) → take (span r (4 - v) v) w' ≡ logRows head lx r (4 - v) v xs
   unfolding logRows
   log-others w w' h t l long e f =

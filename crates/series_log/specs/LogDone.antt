@@ -3,7 +3,7 @@ use Prim.Native.Nat.{ℕ, _+_, _-_, _*_, _≤_}
 use mathlib.Core.List.{List, _++_}
 use mathlib.Core.Path.{_≡_, sym, ap, _∙_}
 use native.Mathlib.Omega.{arith}
-use native.Mathlib.Nat.{mul-le-mul-right, mul-le-mul, zero-mul}
+use native.Mathlib.Nat.{mul-le-mul-right, zero-mul}
 use lib.ListN.{length, take, drop, length-append, length-drop}
 use lib.Seq.{take-at, take-all}
 use lib.Ieee.{Float}
@@ -15,8 +15,8 @@ use Rattle.model.specs.Header.{count}
 use Rattle.model.specs.Poly.{block}
 use Rattle.model.specs.Quotient.{recurred}
 use Rattle.model.specs.Series.{after, timesWhole, overWhole}
-use Rattle.shape_words.specs.Lengths.{Lengths, count-is}
-use Rattle.blocks.specs.Rows.{Inner}
+use Rattle.shape_words.specs.Lengths.{Lengths}
+use Rattle.blocks.specs.Rows.{Inner, count-inner}
 use Rattle.product_general.specs.Index.{inRow}
 use Rattle.product_general.specs.Product.{stride-at}
 use Rattle.quotient.specs.Room.{Recurring}
@@ -24,10 +24,6 @@ use Rattle.series_gathering.specs.Reach.{Shaped}
 use Rattle.series_gathering.specs.Gather.{rowAt}
 use Rattle.series_log.specs.LogRow.{LogRoom, leftRow, after-lengths, after-inner, count-after, log-fits}
 use Rattle.series_gathering.specs.Kept.{kept-put, row-under}
-
--- lengths that are no greater have no greater count
-count-inner : {n c : List ℕ} → Inner n c → count c ≤ count n
-count-inner {n} {c} i = rw (count-is n, count-is c) (mul-le-mul (i .c0) (mul-le-mul (i .c1) (mul-le-mul (i .c2) (i .c3))))
 
 -- ---- the inner quotient
 
@@ -55,7 +51,8 @@ module _ {ax ar : List ℕ} {mx mw mr : ℕ} (d : Divisor ax ar mx mw mr) where
   }
 
   -- the dividend at the front of the work, the divisor behind it
-  pub divisor-is : (xs row w : List Float) {one two : List Float} {z y q : ℕ} → length xs ≡ mx → length row ≡ mr → length w ≡ mw → one ≡ take z row → z ≡ mr → two ≡ take y xs → y ≡ mx → q ≡ mx
+  pub divisor-is : (xs row w : List Float) {one two : List Float} {z y q : ℕ} → length xs ≡ mx → length row ≡ mr
+      → length w ≡ mw → one ≡ take z row → z ≡ mr → two ≡ take y xs → y ≡ mx → q ≡ mx
       → (take mr (putMid mr q (one ++ drop mr w) two) ≡ row) × (part mr (mr + mx) (putMid mr q (one ++ drop mr w) two) ≡ xs)
   divisor-is xs row w {one} {two} {z} {y} {q} lx lr lw a ez b ey eq =
       let g = d .less in
@@ -85,7 +82,8 @@ pub kept-same : {a e : ℕ} {xs ys w w' : List Float} → xs ≡ ys → Kept a e
 kept-same h k = record { below = k .below; holds = k .holds ∙ h; above = k .above }
 
 -- four writes, one after the other: two above 2 n, the row, the row times k
-pub rowed : {n a e k : ℕ} {xs w w1 w2 w3 w4 : List Float} → Below (2 * n) w w1 → Below (2 * n) w1 w2 → Kept a e xs w2 w3 → Kept (n + a) (n + e) (timesWhole k xs) w3 w4 → a ≤ e → e ≤ n → Rowed n a e k xs w w4
+pub rowed : {n a e k : ℕ} {xs w w1 w2 w3 w4 : List Float} → Below (2 * n) w w1 → Below (2 * n) w1 w2 → Kept a e xs w2 w3
+    → Kept (n + a) (n + e) (timesWhole k xs) w3 w4 → a ≤ e → e ≤ n → Rowed n a e k xs w w4
 rowed {n} {a} {e} {k} {xs} {w} {w1} {w2} {w3} {w4} b c r s h l =
     let d : Below (2 * n) w w2 = below-then b c in
     record {
@@ -130,7 +128,8 @@ module _ {lx sx r sr : List ℕ} (g : Shaped lx sx r sr) {v k n mx mw mr : ℕ} 
   -- the row as it was made and stored
   pub log-rowed : (w xs d : List Float) → length w ≡ mw → {w1 one two three copied scaled : List Float} {ax ar : List ℕ} {q1 q2 q3 z : ℕ}
       → one ≡ leftRow lx r v k xs (part n (n + k * inRow r v) w) → Below (2 * n) w w1 → ax ≡ after v lx → ar ≡ after v r
-      → two ≡ recurred (block ar one) (block ax (part 0 (at sx v) xs)) ar → length d ≡ 8 * at sr v → q1 ≡ 8 * at sr v → three ≡ overWhole k two → length three ≡ inRow r v
+      → two ≡ recurred (block ar one) (block ax (part 0 (at sx v) xs)) ar → length d ≡ 8 * at sr v → q1 ≡ 8 * at sr v
+      → three ≡ overWhole k two → length three ≡ inRow r v
       → copied ≡ take z three → z ≡ at sr v → q2 ≡ at sr v → scaled ≡ timesWhole k three → q3 ≡ at sr v
       → Rowed n (k * inRow r v) (k * inRow r v + inRow r v) k (dividedRow lx r v k xs (part n (n + k * inRow r v) w)) w
       (putMid (n + k * at sr v) q3 (putMid (k * at sr v) q2 (putMid (2 * n) q1 w1 d) copied) scaled)
@@ -142,7 +141,9 @@ module _ {lx sx r sr : List ℕ} (g : Shaped lx sx r sr) {v k n mx mw mr : ℕ} 
       let lw1 = b .len in
       let o : at sx v - 0 ≡ inRow lx v = rw wide (omega arith) in
       let zero-row : part 0 (at sx v) xs ≡ rowAt lx v 0 xs = rw (o, zero-mul (inRow lx v)) in
-      let step : recurred (block ar one) (block ax (part 0 (at sx v) xs)) ar ≡ recurred (block (after v r) (leftRow lx r v k xs (part n (n + k * s) w))) (block (after v lx) (rowAt lx v 0 xs)) (after v r) = rw (ex, er, e, zero-row) in
+      let step : recurred (block ar one) (block ax (part 0 (at sx v) xs)) ar
+      ≡ recurred (block (after v r) (leftRow lx r v k xs (part n (n + k * s) w)))
+      (block (after v lx) (rowAt lx v 0 xs)) (after v r) = rw (ex, er, e, zero-row) in
       let value : three ≡ dividedRow lx r v k xs (part n (n + k * s) w) = e3 ∙ ap (overWhole k) (e2 ∙ step) in
       let same : copied ≡ three = ec ∙ take-all z three (omega (arith, width)) in
       let d1 : 2 * n + 8 * at sr v - 2 * n ≡ 8 * at sr v = omega arith in
@@ -155,7 +156,9 @@ module _ {lx sx r sr : List ℕ} (g : Shaped lx sx r sr) {v k n mx mw mr : ℕ} 
       let w3 : List Float = putMid (k * s) q2 w2 copied in
       let lw3 = k2 .below .len in
       let d3 : n + (k * s + s) - (n + k * s) ≡ s = omega arith in
-      let k3 = kept-put (n + k * s) (n + (k * s + s)) w3 {xs = scaled} {q = q3} (ap length es ∙ (length-table _ _ ∙ (l3 ∙ sym d3))) (omega arith) (omega arith) (eq3 ∙ (width ∙ sym d3)) in
+      let k3 =
+      kept-put (n + k * s) (n + (k * s + s)) w3 {xs = scaled} {q = q3}
+      (ap length es ∙ (length-table _ _ ∙ (l3 ∙ sym d3))) (omega arith) (omega arith) (eq3 ∙ (width ∙ sym d3)) in
       let row-is = same ∙ value in
       let scaled-is = es ∙ ap (timesWhole k) value in
       rw width (rowed b (k1 .below) (kept-same row-is k2) (kept-same scaled-is k3) (omega arith) fits)

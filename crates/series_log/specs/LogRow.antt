@@ -42,7 +42,8 @@ takenAt lx r v k xs ys i = neg (walk (pairAt true lx r v k xs ys i) (k - firstTu
 unfoldable pub leftRow : List ℕ → List ℕ → ℕ → ℕ → List Float → List Float → List Float
 leftRow lx r v k xs ys =
     table (inRow r v)
-    (λ i. cond (ltb k (at lx v)) (joinAt false (takenAt lx r v k xs ys i) (block (after v lx) (multipliedBy k (rowAt lx v k xs))) (index r i)) (takenAt lx r v k xs ys i))
+    (λ i. cond (ltb k (at lx v)) (joinAt false (takenAt lx r v k xs ys i)
+    (block (after v lx) (multipliedBy k (rowAt lx v k xs))) (index r i)) (takenAt lx r v k xs ys i))
 
 -- the finished rows lie at the front of the work, those times their numbers from n on
 pub record LogRoom (lx r : List ℕ) (v k n mx mw mr : ℕ) : Type 0 where
@@ -99,7 +100,9 @@ module _ (r : List ℕ) (g : Lengths r) where
 -- how many places they span
 pub count-after : (l : List ℕ) (v : ℕ) → v < 4 → count (after v l) ≡ inRow l v
 unfolding span
-count-after l = each (λ v. count (after v l) ≡ inRow l v) (one-mul _) (one-mul _ ∙ one-mul _) (one-mul _ ∙ (one-mul _ ∙ one-mul _)) (one-mul _ ∙ (one-mul _ ∙ (one-mul _ ∙ one-mul _)))
+count-after l =
+    each (λ v. count (after v l) ≡ inRow l v) (one-mul _) (one-mul _ ∙ one-mul _) (one-mul _ ∙ (one-mul _ ∙ one-mul _))
+    (one-mul _ ∙ (one-mul _ ∙ (one-mul _ ∙ one-mul _)))
 
 -- ---- the row
 
@@ -149,7 +152,9 @@ module _ {lx sx r sr : List ℕ} (g : Shaped lx sx r sr) {v k n mx mw mr : ℕ} 
   }
 
   -- what was gathered and negated
-  turned-is : (xs ys : List Float) {one two : List Float} {lo : ℕ} → lo ≡ firstTurn (at lx v) k → one ≡ gathered true lx r v k lo k xs ys → two ≡ table (length one) (negatedAt one) → two ≡ table (inRow r v) (takenAt lx r v k xs ys)
+  turned-is : (xs ys : List Float) {one two : List Float} {lo : ℕ} → lo ≡ firstTurn (at lx v) k
+      → one ≡ gathered true lx r v k lo k xs ys → two ≡ table (length one) (negatedAt one)
+      → two ≡ table (inRow r v) (takenAt lx r v k xs ys)
   unfolding gathered
   turned-is xs ys {one} {two} {lo} e a b =
       let l : length one ≡ inRow r v = ap length a ∙ length-table _ _ in
@@ -161,23 +166,33 @@ module _ {lx sx r sr : List ℕ} (g : Shaped lx sx r sr) {v k n mx mw mr : ℕ} 
   ys-is w = ap (λ (s : ℕ). part n (n + k * s) w) width
 
   -- where the operand does not reach
-  pub left-short : (xs w : List Float) {one two : List Float} {lo : ℕ} → lo ≡ firstTurn (at lx v) k → one ≡ gathered true lx r v k lo k xs (part n (n + k * at sr v) w) → two ≡ table (length one) (negatedAt one)
+  pub left-short : (xs w : List Float) {one two : List Float} {lo : ℕ} → lo ≡ firstTurn (at lx v) k
+      → one ≡ gathered true lx r v k lo k xs (part n (n + k * at sr v) w) → two ≡ table (length one) (negatedAt one)
       → at lx v ≤ k → two ≡ leftRow lx r v k xs (part n (n + k * inRow r v) w)
   unfolding leftRow
   left-short xs w e a b h =
       turned-is xs (part n (n + k * inRow r v) w) e (a ∙ ap (gathered true lx r v k _ k xs) (ys-is w)) b ∙ rw (le-ltb k (at lx v) h)
 
   -- where it does
-  pub left-long : (xs w : List Float) {one two three : List Float} {lo : ℕ} {ax ar : List ℕ} → lo ≡ firstTurn (at lx v) k → one ≡ gathered true lx r v k lo k xs (part n (n + k * at sr v) w) → two ≡ table (length one) (negatedAt one)
-      → k < at lx v → ax ≡ after v lx → ar ≡ after v r → {a : List Float} → a ≡ rowAt lx v k xs → three ≡ table (count ar) (λ i. joinAt false (getD two i nan) (block ax (multipliedBy k a)) (index ar i))
+  pub left-long : (xs w : List Float) {one two three : List Float} {lo : ℕ} {ax ar : List ℕ}
+      → lo ≡ firstTurn (at lx v) k → one ≡ gathered true lx r v k lo k xs (part n (n + k * at sr v) w)
+      → two ≡ table (length one) (negatedAt one)
+      → k < at lx v → ax ≡ after v lx → ar ≡ after v r → {a : List Float} → a ≡ rowAt lx v k xs
+      → three ≡ table (count ar) (λ i. joinAt false (getD two i nan) (block ax (multipliedBy k a)) (index ar i))
       → three ≡ leftRow lx r v k xs (part n (n + k * inRow r v) w)
   unfolding leftRow
   left-long xs w {one} {two} {three} e a b h ex er f t =
       let ys : List Float = part n (n + k * inRow r v) w in
       let c : two ≡ table (inRow r v) (takenAt lx r v k xs ys) = turned-is xs ys e (a ∙ ap (gathered true lx r v k _ k xs) (ys-is w)) b in
-      let d : three ≡ table (count (after v r)) (λ i. joinAt false (getD two i nan) (block (after v lx) (multipliedBy k (rowAt lx v k xs))) (index (after v r) i)) = t ∙ rw (ex, er, f) in
-      d ∙ (ap (λ (m : ℕ). table m (λ i. joinAt false (getD two i nan) (block (after v lx) (multipliedBy k (rowAt lx v k xs))) (index (after v r) i))) (count-after r v (p .some))
+      let d : three ≡ table (count (after v r))
+      (λ i. joinAt false (getD two i nan) (block (after v lx) (multipliedBy k (rowAt lx v k xs)))
+      (index (after v r) i)) = t ∙ rw (ex, er, f) in
+      d
+      ∙ (ap (λ (m : ℕ). table m (λ i. joinAt false (getD two i nan)
+      (block (after v lx) (multipliedBy k (rowAt lx v k xs))) (index (after v r) i))) (count-after r v (p .some))
       ∙ (table-same _ _ (inRow r v) (λ i l.
-      ap (λ (z : Float). joinAt false z (block (after v lx) (multipliedBy k (rowAt lx v k xs))) (index (after v r) i)) (ap (λ (z : List Float). getD z i nan) c ∙ table-at nan (takenAt lx r v k xs ys) (inRow r v) i l)
-      ∙ ap (joinAt false (takenAt lx r v k xs ys i) (block (after v lx) (multipliedBy k (rowAt lx v k xs)))) (sym (index-after r (g .strided .result) v (p .some) i l)))
+      ap (λ (z : Float). joinAt false z (block (after v lx) (multipliedBy k (rowAt lx v k xs))) (index (after v r) i))
+      (ap (λ (z : List Float). getD z i nan) c ∙ table-at nan (takenAt lx r v k xs ys) (inRow r v) i l)
+      ∙ ap (joinAt false (takenAt lx r v k xs ys i) (block (after v lx) (multipliedBy k (rowAt lx v k xs))))
+      (sym (index-after r (g .strided .result) v (p .some) i l)))
       ∙ rw (lt-ltb k (at lx v) h)))

@@ -24,7 +24,7 @@ use Rattle.model.specs.Add.{joinAt}
 use Rattle.model.specs.General.{productAt}
 use Rattle.model.specs.Quotient.{recurred}
 use Rattle.model.specs.Series.{after, timesWhole, overWhole}
-use Rattle.blocks.specs.Fill.{part-table}
+use Rattle.lists.specs.Fill.{part-table}
 use Rattle.product_general.specs.Index.{inRow}
 use Rattle.product_general.specs.Product.{span-more}
 use Rattle.series_gathering.specs.Gather.{rowAt, pairAt}
@@ -62,13 +62,16 @@ lessAt lx r v k xs q i = neg (walk (turnAt lx r v k xs q i) (k - firstTurn (at l
 unfoldable pub leftOfRows : List ℕ → List ℕ → ℕ → ℕ → List Float → List Float → List Float
 leftOfRows lx r v k xs q =
     table (inRow r v)
-    (λ i. cond (ltb k (at lx v)) (joinAt false (lessAt lx r v k xs q i) (block (after v lx) (multipliedBy k (rowAt lx v k xs))) (index r i)) (lessAt lx r v k xs q i))
+    (λ i. cond (ltb k (at lx v)) (joinAt false (lessAt lx r v k xs q i)
+    (block (after v lx) (multipliedBy k (rowAt lx v k xs))) (index r i)) (lessAt lx r v k xs q i))
 
 -- the row k of log from the rows before it
 abbrev pub logStep : List ℕ → List ℕ → ℕ → List Float → ℕ → List Float → List Float
 logStep lx r v xs k q = overWhole k (recurred (block (after v r) (leftOfRows lx r v k xs q)) (block (after v lx) (rowAt lx v 0 xs)) (after v r))
 
-left-weighed : (lx r : List ℕ) (v k : ℕ) (xs ys q : List Float) → ((j : ℕ) → 1 ≤ j → j < k → rowAt r v j ys ≡ timesWhole j (rowAt r v j q)) → leftRow lx r v k xs ys ≡ leftOfRows lx r v k xs q
+left-weighed : (lx r : List ℕ) (v k : ℕ) (xs ys q : List Float)
+    → ((j : ℕ) → 1 ≤ j → j < k → rowAt r v j ys ≡ timesWhole j (rowAt r v j q))
+    → leftRow lx r v k xs ys ≡ leftOfRows lx r v k xs q
 unfolding leftRow leftOfRows
 left-weighed lx r v k xs ys q h =
     let lo : ℕ = firstTurn (at lx v) k in
@@ -103,7 +106,8 @@ under : {j k : ℕ} (s : ℕ) → j < k → j * s + s ≤ k * s
 under {j} {k} s h = let m : suc j * s ≤ k * s = mul-le-mul-right s h in omega (arith, m, suc-mul j s)
 
 pub log-more : (lx r : List ℕ) (v : ℕ) (xs : List Float) {n m k : ℕ} {first w w' : List Float} → LogStacked (inRow r v) (logStep lx r v xs) first n m k w
-    → Rowed n (k * inRow r v) (k * inRow r v + inRow r v) k (dividedRow lx r v k xs (part n (n + k * inRow r v) w)) w w' → k * inRow r v + inRow r v ≤ n → n + n ≤ m
+    → Rowed n (k * inRow r v) (k * inRow r v + inRow r v) k (dividedRow lx r v k xs (part n (n + k * inRow r v) w)) w w'
+    → k * inRow r v + inRow r v ≤ n → n + n ≤ m
     → LogStacked (inRow r v) (logStep lx r v xs) first n m (k + 1) w'
 log-more lx r v xs {n} {m} {k} {first} {w} {w'} t a h big =
     let s : ℕ = inRow r v in
@@ -122,7 +126,8 @@ log-more lx r v xs {n} {m} {k} {first} {w} {w'} t a h big =
     let weigh : (j : ℕ) → 1 ≤ j → j < k → rowAt r v j (part n (n + k * s) w) ≡ timesWhole j (rowAt r v j q) = λ j o l.
     part-in n (k * s) (j * s) s w (under s l) (omega arith) ∙ (t .scaled j o l ∙ ap (timesWhole j) (sym (in-q j l))) in
     let made : dividedRow lx r v k xs (part n (n + k * s) w) ≡ f k q =
-    ap (λ (l : List Float). overWhole k (recurred (block (after v r) l) (block (after v lx) (rowAt lx v 0 xs)) (after v r))) (left-weighed lx r v k xs (part n (n + k * s) w) q weigh) in
+    ap (λ (l : List Float). overWhole k (recurred (block (after v r) l) (block (after v lx) (rowAt lx v 0 xs))
+    (after v r))) (left-weighed lx r v k xs (part n (n + k * s) w) q weigh) in
     let new : take s (drop (k * s) w') ≡ f (k - 1 + 1) (stack (k - 1) f first) =
     sym (row-at k s w') ∙ (a .row ∙ (made ∙ (ap (f k) (t .rows) ∙ ap (λ (i : ℕ). f i (stack (k - 1) f first)) (sym z)))) in
     record {
@@ -145,7 +150,8 @@ log-more lx r v xs {n} {m} {k} {first} {w} {w'} t a h big =
           rw e (sym (row-of n k s w') ∙ (a .scaled ∙ ap (timesWhole k) (sym (a .row) ∙ row-at k s w'))));
     }
 
-pub log-all : (r : List ℕ) {v : ℕ} {f : ℕ → List Float → List Float} {first w : List Float} {n m k : ℕ} → v < 4 → LogStacked (inRow r v) f first n m k w → k ≡ at r v
+pub log-all : (r : List ℕ) {v : ℕ} {f : ℕ → List Float → List Float} {first w : List Float} {n m k : ℕ} → v < 4
+    → LogStacked (inRow r v) f first n m k w → k ≡ at r v
     → take (span r (4 - v) v) w ≡ stack (at r v - 1) f first
 log-all r {v} {f} {first} {w} h t e =
     ap (λ (i : ℕ). take i w) (span-more r h) ∙ (ap (λ (i : ℕ). take (i * inRow r v) w) (sym e) ∙ (t .rows ∙ ap (λ (i : ℕ). stack (i - 1) f first) e))

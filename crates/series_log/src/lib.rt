@@ -1,5 +1,6 @@
 // log, row by row; it recurses over the variables. One long variable has its own order of operations.
-// At the front of the work lie the finished rows, and from n on the same rows, each times its number; the rest is for the inner quotient.
+// At the front of the work lie the finished rows, and from n on the same rows, each times its number; the rest is for
+// the inner quotient.
 // A row is gathered in the buffer of the result.
 ghost use mathlib.Core.Path.{_≡_};
 ghost use mathlib.Core.Bool.{true, false, cond};
@@ -54,13 +55,16 @@ fn add_operand(
     row: &mut [f64],
 )
     requires { ⌜ k < 64 ⌝ ∗ ⌜ length (now times) ≡ length (now a) ⌝ ∗ ⌜ Joining ax ar (length (now a)) (length (now row)) ⌝ }
-    ensures { λ _. ⌜ now (row .exit) ≡ table (count ar) (λ i. joinAt false (getD (now (row .entry)) i nan) (block ax (multipliedBy k (now (a .entry)))) (index ar i)) ⌝ }
+    ensures { λ _. ⌜ now (row .exit) ≡ table (count ar)
+        (λ i. joinAt false (getD (now (row .entry)) i nan)
+        (block ax (multipliedBy k (now (a .entry)))) (index ar i)) ⌝ }
 {
     series_scaling::multiply(k, a, times);
     blocks::join_block(false, times, ax, ar, row);
 }
 
-// The row k of the variable v before it is divided: gathered from the rows before it, negated, k times the operand's row k added, where it is stored.
+// The row k of the variable v before it is divided: gathered from the rows before it, negated, k times the operand's
+// row k added, where it is stored.
 fn log_gather(
     xs: &[f64],
     lx: [usize; 4],
@@ -119,7 +123,9 @@ fn log_row(
     row: &mut [f64],
 )
     requires { ⌜ Shaped lx sx r sr ⌝ ∗ ⌜ LogRoom lx r v k n (length (now xs)) (length (now work)) (length (now row)) ⌝ }
-    ensures { λ _. ⌜ Rowed n (k * inRow r v) (k * inRow r v + inRow r v) k (dividedRow lx r v k (now (xs .entry)) (part n (n + k * inRow r v) (now (work .entry)))) (now (work .entry)) (now (work .exit)) ⌝ }
+    ensures { λ _. ⌜ Rowed n (k * inRow r v) (k * inRow r v + inRow r v) k
+        (dividedRow lx r v k (now (xs .entry)) (part n (n + k * inRow r v) (now (work .entry))))
+        (now (work .entry)) (now (work .exit)) ⌝ }
 {
     let s = sr[v];
     let t = sx[v];
@@ -147,7 +153,8 @@ fn log_rows(
     row: &mut [f64],
 )
     requires { ⌜ Shaped lx sx r sr ⌝ ∗ ⌜ RowsRoom lx r v n (length (now xs)) (length (now work)) (length (now row)) ⌝ ∗ ⌜ v < 4 ⌝ }
-    ensures { λ _. ⌜ take (span r (4 - v) v) (now (work .exit)) ≡ stack (at r v - 1) (logStep lx r v (now (xs .entry))) (take (inRow r v) (now (work .entry))) ⌝ }
+    ensures { λ _. ⌜ take (span r (4 - v) v) (now (work .exit))
+        ≡ stack (at r v - 1) (logStep lx r v (now (xs .entry))) (take (inRow r v) (now (work .entry))) ⌝ }
 {
     let s = sr[v];
     let m = r[v];

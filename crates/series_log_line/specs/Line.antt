@@ -45,13 +45,16 @@ lineSum m xs q = walk (lineTerm xs q (length q)) (length q - firstTurn m (length
 
 unfoldable pub nextPlace : ℕ → List Float → List Float → Float
 nextPlace m xs q =
-    div binary64 (div binary64 (sub binary64 (mul binary64 (cond (ltb (length q) m) (getD xs (length q) nan) zeroF) (wholeF (length q))) (lineSum m xs q)) (getD xs 0 nan)) (wholeF (length q))
+    div binary64 (div binary64
+    (sub binary64 (mul binary64 (cond (ltb (length q) m) (getD xs (length q) nan) zeroF) (wholeF (length q)))
+    (lineSum m xs q)) (getD xs 0 nan)) (wholeF (length q))
 
 pub next-is : (head : Float) (lx r : List ℕ) (v : ℕ) (xs : List Float) → nextPlace (at lx v) xs ≡ logNext head lx r v xs
 unfolding nextPlace lineSum logNext
 next-is head lx r v xs = refl
 
-pub line-end : (m : ℕ) (xs q : List Float) {lo j : ℕ} {z : Float} → lo ≡ firstTurn m (length q) → Walked (lineTerm xs q (length q)) lo j zeroF z → j ≡ lo + (length q - lo) → z ≡ lineSum m xs q
+pub line-end : (m : ℕ) (xs q : List Float) {lo j : ℕ} {z : Float} → lo ≡ firstTurn m (length q)
+    → Walked (lineTerm xs q (length q)) lo j zeroF z → j ≡ lo + (length q - lo) → z ≡ lineSum m xs q
 unfolding lineSum
 line-end m xs q {lo} e w h = walked-end (length q - lo) w h ∙ ap (λ (i : ℕ). walk (lineTerm xs q (length q)) (length q - i) i zeroF) e
 
@@ -68,7 +71,8 @@ grown-one {f} {head} to e h = record { from = omega arith; len = length-set to 0
     one [] h = absurd (omega arith)
     one (x ∷ to) h = refl
 
-pub grown-more : {f : List Float → Float} {head : Float} {n k : ℕ} {to : List Float} {z : Float} → Grown f head n k to → k < n → z ≡ f (take k to) → Grown f head n (k + 1) (set to k z)
+pub grown-more : {f : List Float → Float} {head : Float} {n k : ℕ} {to : List Float} {z : Float} → Grown f head n k to
+    → k < n → z ≡ f (take k to) → Grown f head n (k + 1) (set to k z)
 grown-more {f} {head} {n} {k} {to} {z} g h e =
     let o = g .from in
     let l = g .len in

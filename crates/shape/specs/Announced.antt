@@ -1,9 +1,9 @@
--- An announced header is a header that keeps the rules, its count aside; its limits are as document 01 says; its lengths are at most its limits.
+-- An announced header is a header that keeps the rules, its count aside; its limits are as document 01 says; its
+-- lengths are at most its limits.
 -- Whatever v, n and e are: no gate is asked.
-use Prim.Native.Nat.{ℕ, _+_, _-_, _*_, _≤_, _<_, min, max}
-use mathlib.Core.List.{List}
+use Prim.Native.Nat.{ℕ, _-_, _≤_, _<_, min, max}
 use mathlib.Core.Bool.{Bool, true, false, cond}
-use mathlib.Core.Path.{_≡_, refl, sym, ap, _∙_}
+use mathlib.Core.Path.{_≡_, refl, sym, _∙_}
 use native.Mathlib.Omega.{arith}
 use lib.Dec.{ltb, eqb}
 use Rattle.lists.specs.Test.{of-both}
@@ -15,7 +15,7 @@ use Rattle.model.specs.Header.{header, limit, len, noHeader}
 use Rattle.model.specs.Limits.{minDegreesP1}
 use Rattle.model.specs.Announced.{lessIn, limitAfter, lengthAfter, single, paired, announced}
 use Rattle.shape_words.specs.Rules.{GoodVar, Ruled, Regular, ruled-at, regular-four, none-regular}
-use Rattle.shape.specs.Limits.{Range, min-degrees-at, min-degrees-range, min-degrees-gone}
+use Rattle.shape.specs.Limits.{min-degrees-range, min-degrees-gone}
 
 -- a length of 1 to l
 record Length (l x : ℕ) : Type 0 where
@@ -68,7 +68,9 @@ single-var (Order v n) = kept-var (Order v n) refl
 pub single-regular : (f : Family) {a : Header} → Ruled a → Regular (single f a)
 unfolding single
 single-regular f {a} g =
-    regular-four (a .vars) (λ k. limitAfter f k (limit a k)) (λ k. lengthAfter f k (limitAfter f k (limit a k)) 1 (len a k) 1) (g .few) (λ k h. single-var f (ruled-at g k h))
+    regular-four (a .vars) (λ k. limitAfter f k (limit a k))
+    (λ k. lengthAfter f k (limitAfter f k (limit a k)) 1 (len a k) 1) (g .few)
+    (λ k h. single-var f (ruled-at g k h))
 
 -- two operands
 
@@ -76,7 +78,9 @@ cut-length : {l x : ℕ} → 1 ≤ l → 1 ≤ x → Length l (min l x)
 cut-length p q = length (omega arith) (omega arith)
 
 paired-var : (f : Family) (p : ℕ) {a b : Header} → Ruled a → Ruled b → (k : ℕ) → k < 4
-    → GoodVar (max (a .vars) (b .vars)) k (at (minDegreesP1 a b) k) (lengthAfter f k (at (minDegreesP1 a b) k) p (min (at (minDegreesP1 a b) k) (len a k)) (min (at (minDegreesP1 a b) k) (len b k)))
+    → GoodVar (max (a .vars) (b .vars)) k (at (minDegreesP1 a b) k)
+    (lengthAfter f k (at (minDegreesP1 a b) k) p (min (at (minDegreesP1 a b) k) (len a k))
+    (min (at (minDegreesP1 a b) k) (len b k)))
 paired-var f p {a} {b} g h k lt =
     let r = min-degrees-range a b g h k lt in
     let n = length-after f k (at (minDegreesP1 a b) k) p _ _ (cut-length (r .lo) (ruled-at g k lt .pos)) (cut-length (r .lo) (ruled-at h k lt .pos)) in
@@ -118,3 +122,8 @@ shift-limits v n a = refl
 pub single-limits : (f : Family) {a : Header} → Regular a → ((k : ℕ) → limitAfter f k (limit a k) ≡ limit a k) → single f a .limits ≡ a .limits
 unfolding single
 single-limits f {a} g h = (rw (h 0, h 1, h 2, h 3)) ∙ sym (g .ls)
+
+-- the announced header of a header that keeps the rules is that header
+pub same-header : {h : Header} → Regular h → announced Same h noHeader ≡ h
+unfolding announced single
+same-header {h} r = let e : h ≡ single Same h = λ i. record { vars = h .vars; limits = r .ls i; lengths = r .ns i } in sym e

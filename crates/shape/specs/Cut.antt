@@ -1,27 +1,26 @@
 -- Cutting keeps what lies inside the limits, at its index, and nothing else.
 use Prim.Native.Nat.{ℕ, _≤_, _<_, min}
 use mathlib.Core.List.{List}
-use mathlib.Core.Bool.{Bool, true, false, cond}
+use mathlib.Core.Bool.{false}
 use mathlib.Core.Path.{_≡_, refl, sym, ap, _∙_}
 use native.Mathlib.Omega.{arith}
 use lib.ListN.{getD, length}
-use lib.Ieee.{Float, nan}
+use lib.Ieee.{nan}
 use Rattle.lists.specs.Test.{decide}
-use Rattle.lists.specs.Table.{table, table-at, length-table}
+use Rattle.lists.specs.Table.{table-at, length-table}
 use Rattle.lists.specs.Four.{at, four, at-four}
 use Rattle.model.specs.declared.Header.{Header}
-use Rattle.model.specs.Header.{header, count, limit, len}
+use Rattle.model.specs.Header.{header, count, len}
 use Rattle.model.specs.Places.{place, offset, index, inside}
 use Rattle.model.specs.Limits.{cutTo}
-use Rattle.model.specs.Refusals.{zeroF}
 use Rattle.model.specs.Poly.{Block, readAt, coefficientAt, cut}
-use Rattle.shape_words.specs.Rules.{GoodVar, Ruled, Regular, regular-four, ruled-at}
+use Rattle.shape_words.specs.Rules.{Ruled, Regular, regular-four, ruled-at}
 use Rattle.shape.specs.Limits.{Range}
 use lib.Dec.{lit<}
 use Rattle.shape_words.specs.Lengths.{Lengths, Inside, inside-is, is-inside, inside-four, inside-at}
 use Rattle.shape_words.specs.Places.{place-lt, index-place}
 
-cut-at : (l n : List ℕ) (k : ℕ) → k < 4 → at (cutTo l n) k ≡ min (at l k) (at n k)
+pub cut-at : (l n : List ℕ) (k : ℕ) → k < 4 → at (cutTo l n) k ≡ min (at l k) (at n k)
 unfolding cutTo
 cut-at l n = at-four (λ k. min (at l k) (at n k))
 
@@ -33,7 +32,16 @@ cut-lengths l g p =
     let p1 = p 1 (lit< tt) in
     let p2 = p 2 (lit< tt) in
     let p3 = p 3 (lit< tt) in
-    record { p0 = omega (arith, g .p0); p1 = omega (arith, g .p1); p2 = omega (arith, g .p2); p3 = omega (arith, g .p3); m0 = omega (arith, g .m0); m1 = omega (arith, g .m1); m2 = omega (arith, g .m2); m3 = omega (arith, g .m3) }
+    record {
+      p0 = omega (arith, g .p0);
+      p1 = omega (arith, g .p1);
+      p2 = omega (arith, g .p2);
+      p3 = omega (arith, g .p3);
+      m0 = omega (arith, g .m0);
+      m1 = omega (arith, g .m1);
+      m2 = omega (arith, g .m2);
+      m3 = omega (arith, g .m3);
+    }
 
 -- what lies inside the cut lengths lies inside the lengths and the limits, and the other way round
 pub cut-inside : (l n : List ℕ) {i : List ℕ} → Inside (cutTo l n) i → Inside n i
@@ -80,7 +88,8 @@ module _ (l : List ℕ) (b : Block) where
   cut-full = length-table _ (count cutLengths)
 
 -- under limits that keep the rules the cut header keeps them
-pub cut-regular : (v : ℕ) (l : ℕ → ℕ) {h : Header} → v ≤ 4 → Ruled h → ((k : ℕ) → k < 4 → Range (l k)) → ((k : ℕ) → k < 4 → v ≤ k → l k ≡ 1) → Regular (header v (four l) (cutTo (four l) (h .lengths)))
+pub cut-regular : (v : ℕ) (l : ℕ → ℕ) {h : Header} → v ≤ 4 → Ruled h → ((k : ℕ) → k < 4 → Range (l k))
+    → ((k : ℕ) → k < 4 → v ≤ k → l k ≡ 1) → Regular (header v (four l) (cutTo (four l) (h .lengths)))
 unfolding cutTo
 cut-regular v l {h} few g r gone =
     regular-four v l (λ k. min (at (four l) k) (len h k)) few

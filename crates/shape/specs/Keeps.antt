@@ -1,16 +1,19 @@
--- What every operation owes of its result, in the one form that a run needs: the true header keeps the rules, has exactly the announced limits and no
--- length above the announced one, and there are as many coefficients as it says.
+-- What every operation owes of its result, in the one form that a run needs: the true header keeps the rules, has
+-- exactly the announced limits and no length above the announced one, and there are as many coefficients as it says.
 use mathlib.Core.Path.{_≡_, refl}
-use Prim.Native.Nat.{ℕ, _≤_}
+use mathlib.Core.List.{List, [], _∷_}
 use lib.ListN.{length}
 use lib.Ieee.{Float}
 use native.Mathlib.Nat.{le-trans}
+use native.Mathlib.Omega.{arith}
 use Rattle.model.specs.declared.Header.{Header}
-use Rattle.model.specs.Header.{stored, noHeader, span}
-use Rattle.model.specs.Poly.{Poly}
+use Rattle.model.specs.Header.{stored, noHeader, span, header, ones}
+use Rattle.model.specs.Poly.{Poly, poly}
 use Rattle.model.specs.Constructed.{constant}
-use Rattle.shape_words.specs.Rules.{Regular, Good, none-regular}
+use Rattle.shape_words.specs.Rules.{Regular, Good, none-regular, GoodVar, ruled-at}
 use Rattle.shape.specs.Under.{Under, under-same, count-under}
+use Prim.Native.Nat.{ℕ}
+use Rattle.lists.specs.Four.{at-four}
 
 -- h the announced header
 pub record Keeps (h : Header) (p : Poly) : Type 0 where
@@ -26,3 +29,33 @@ keeps-good g k = record { regular = k .regular; most = le-trans (count-under (k 
 pub none-keeps : (x : Float) → Keeps noHeader (constant noHeader x)
 unfolding span
 none-keeps x = record { regular = none-regular; under = under-same noHeader; full = refl }
+
+-- a header with all lengths 1
+ones-var : {v k l n : ℕ} → GoodVar v k l n → GoodVar v k l 1
+ones-var g = record { pos = omega arith; fit = omega arith; most = g .most; gone = g .gone }
+
+pub ones-keeps : {h : Header} (x : Float) → Regular h → Keeps h (poly (header (h .vars) (h .limits) ones) (x ∷ []))
+unfolding span
+ones-keeps {h} x r =
+    let g = r .rules in
+    record {
+      regular =
+          record {
+            rules =
+                record {
+                  few = g .few;
+                  v0 = ones-var (g .v0);
+                  v1 = ones-var (g .v1);
+                  v2 = ones-var (g .v2);
+                  v3 = ones-var (g .v3);
+                };
+            ls = r .ls;
+            ns = refl;
+          };
+      under = record { vars = refl; limits = refl; most = λ k p. rw (at-four (λ k. 1) k p) (ruled-at g k p .pos) };
+      full = refl;
+    }
+
+-- a header that is filled
+pub full-keeps : {h : Header} {a : List Float} → Regular h → length a ≡ stored h → Keeps h (poly h a)
+full-keeps {h} r e = record { regular = r; under = under-same h; full = e }

@@ -1,16 +1,14 @@
 -- Laws of limits: the smaller limits of two headers that keep the rules keep them, and cutting keeps what lies inside.
-use Prim.Native.Nat.{ℕ, _+_, _-_, _≤_, _<_, min, max}
-use mathlib.Core.List.{List}
-use mathlib.Core.Bool.{Bool, true, false, cond}
-use mathlib.Core.Path.{_≡_, refl, sym, ap, _∙_}
+use Prim.Native.Nat.{ℕ, _-_, _≤_, _<_, min, max}
+use mathlib.Core.Path.{_≡_, refl, _∙_}
 use native.Mathlib.Omega.{arith}
 use borrow.Author.Tests.{le-ltb}
-use lib.Dec.{ltb, lit<}
+use lib.Dec.{ltb}
 use Rattle.lists.specs.Test.{of-both}
-use Rattle.lists.specs.Four.{at, four, each}
+use Rattle.lists.specs.Four.{at, each}
 use Rattle.model.specs.declared.Header.{Header}
-use Rattle.model.specs.Header.{limit, len}
-use Rattle.model.specs.Limits.{minLimit, minDegreesP1, cutTo}
+use Rattle.model.specs.Header.{limit}
+use Rattle.model.specs.Limits.{minLimit, minDegreesP1}
 use Rattle.shape_words.specs.Rules.{GoodVar, Ruled, ruled-at}
 
 -- a number of 1 to 64
@@ -32,7 +30,9 @@ unfolding minDegreesP1
 min-degrees-at a b = each (λ k. at (minDegreesP1 a b) k ≡ minLimit (a .vars) (b .vars) k (limit a k) (limit b k)) refl refl refl refl
 
 pub min-degrees-range : (a b : Header) → Ruled a → Ruled b → (k : ℕ) → k < 4 → Range (at (minDegreesP1 a b) k)
-min-degrees-range a b g h k l = rw (min-degrees-at a b k l) (min-limit-range (a .vars) (b .vars) k (limit-range (ruled-at g k l)) (limit-range (ruled-at h k l)))
+min-degrees-range a b g h k l =
+    rw (min-degrees-at a b k l) (min-limit-range (a .vars) (b .vars) k (limit-range (ruled-at g k l))
+    (limit-range (ruled-at h k l)))
 
 pub min-limit-pos : (a b : Header) → Ruled a → Ruled b → (k : ℕ) → k < 4 → 1 ≤ at (minDegreesP1 a b) k
 min-limit-pos a b g h k l = min-degrees-range a b g h k l .lo

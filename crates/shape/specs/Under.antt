@@ -1,22 +1,22 @@
--- A header under another: the same variables and limits, no length above the other's. Under smaller lengths every family announces no more.
+-- A header under another: the same variables and limits, no length above the other's. Under smaller lengths every
+-- family announces no more.
 -- With the law that a result's true header is under the announced one, this is what a run's steps need of one another.
-use Prim.Native.Nat.{ℕ, _+_, _-_, _*_, _≤_, _<_, min, max}
-use mathlib.Core.List.{List}
+use Prim.Native.Nat.{ℕ, _-_, _*_, _≤_, _<_, min}
 use mathlib.Core.Bool.{Bool, true, false, cond}
 use mathlib.Core.Path.{_≡_, refl, sym, ap, _∙_}
 use native.Mathlib.Omega.{arith}
 use native.Mathlib.Nat.{mul-le-mul, le-refl, le-trans}
 use lib.Dec.{ltb, eqb, lit<}
-use borrow.Author.Tests.{eqb-true, eqb-false, eq-eqb, ltb-true}
+use borrow.Author.Tests.{eqb-true, eq-eqb, ltb-true}
 use Rattle.lists.specs.Test.{of-both, of-each, decide}
-use Rattle.lists.specs.Four.{at, four, at-four}
+use Rattle.lists.specs.Four.{at, at-four}
 use Rattle.model.specs.declared.Header.{Header}
 use Rattle.model.specs.declared.Family.{Family}
 use Rattle.model.specs.declared.Family.the-variants.{Constant, Same, Sum, Product, Quotient, Series, Power, Shift, Substitution, Term, Order}
 use Rattle.model.specs.Header.{header, limit, len, noHeader, span, stored}
 use Rattle.model.specs.Limits.{minDegreesP1}
 use Rattle.model.specs.Announced.{limitAfter, lengthAfter, single, paired, announced}
-use Rattle.shape_words.specs.Rules.{Ruled, ruled-at, Regular}
+use Rattle.shape_words.specs.Rules.{Ruled, ruled-at}
 use Rattle.shape.specs.Limits.{min-degrees-range}
 
 pub record Under (t a : Header) : Type 0 where
@@ -75,9 +75,13 @@ single-rises Sum k p m h = omega arith
 single-rises Product k p m h = omega arith
 single-rises Quotient k p m h = h
 single-rises Series k p m h = length-rises Series k (record { t1 = p; u1 = le-refl 1; most = m; qp = le-refl 1; ta = h; ub = le-refl 1 })
-single-rises (Power e) k {l} {t} {a} p m h = length-rises (Power e) k {l = l} (record { t1 = p; u1 = le-refl 1; most = m; qp = le-refl 1; ta = h; ub = le-refl 1 })
+single-rises (Power e) k {l} {t} {a} p m h =
+    length-rises (Power e) k {l =
+    l} (record { t1 = p; u1 = le-refl 1; most = m; qp = le-refl 1; ta = h; ub = le-refl 1 })
 single-rises (Shift v n) k p m h = of-each _≤_ (eqb k v) (omega arith) h
-single-rises (Substitution v) k {l} p m h = length-rises (Substitution v) k {l = l} (record { t1 = p; u1 = le-refl 1; most = m; qp = le-refl 1; ta = h; ub = le-refl 1 })
+single-rises (Substitution v) k {l} p m h =
+    length-rises (Substitution v) k {l =
+    l} (record { t1 = p; u1 = le-refl 1; most = m; qp = le-refl 1; ta = h; ub = le-refl 1 })
 single-rises (Term v) k p m h = of-each _≤_ (eqb k v) (le-refl 1) h
 single-rises (Order v n) k p m h = of-each _≤_ (eqb k v) (omega arith) h
 
@@ -87,7 +91,11 @@ single-under f {t} {a} g u =
     record {
       vars = u .vars;
       limits = simp (u .limits);
-      most = λ k h. rw (at-four (λ k. lengthAfter f k (limitAfter f k (limit t k)) 1 (len t k) 1) k h, at-four (λ k. lengthAfter f k (limitAfter f k (limit a k)) 1 (len a k) 1) k h)
+      most =
+          λ k h. rw (
+            at-four (λ k. lengthAfter f k (limitAfter f k (limit t k)) 1 (len t k) 1) k h,
+            at-four (λ k. lengthAfter f k (limitAfter f k (limit a k)) 1 (len a k) 1) k h,
+          )
           (rw (← u .limits) (single-rises f k (ruled-at g k h .pos) (ruled-at g k h .fit) (u .most k h)));
     }
 
@@ -105,8 +113,14 @@ paired-under f {q} {p} {t} {a} {u} {b} le g h x y =
     record {
       vars = simp (x .vars, y .vars);
       limits = e;
-      most = λ k lt. rw (at-four (λ k. lengthAfter f k (at (minDegreesP1 t u) k) q (min (at (minDegreesP1 t u) k) (len t k)) (min (at (minDegreesP1 t u) k) (len u k))) k lt, at-four (λ k. lengthAfter f k (at (minDegreesP1 a b) k) p (min (at (minDegreesP1 a b) k) (len a k)) (min (at (minDegreesP1 a b) k) (len b k))) k lt)
-          (rw (← e) (length-rises f k (cut-rise (min-degrees-range t u g h k lt .lo) (ruled-at g k lt .pos) (ruled-at h k lt .pos) le (x .most k lt) (y .most k lt))));
+      most =
+          λ k lt. rw (
+            at-four (λ k. lengthAfter f k (at (minDegreesP1 t u) k) q
+                (min (at (minDegreesP1 t u) k) (len t k)) (min (at (minDegreesP1 t u) k) (len u k))) k lt,
+            at-four (λ k. lengthAfter f k (at (minDegreesP1 a b) k) p (min (at (minDegreesP1 a b) k) (len a k)) (min (at (minDegreesP1 a b) k) (len b k))) k lt,
+          )
+          (rw (← e) (length-rises f k (cut-rise (min-degrees-range t u g h k lt .lo) (ruled-at g k lt .pos)
+          (ruled-at h k lt .pos) le (x .most k lt) (y .most k lt))));
     }
 
 -- two choices by one test

@@ -1,4 +1,5 @@
-// The header that each family of operations announces, from its operands' headers alone (document 01, 'Announced limits and lengths').
+// The header that each family of operations announces, from its operands' headers alone (document 01, 'Announced limits
+// and lengths').
 use crate::limits::cut_to;
 use crate::limits::least;
 use crate::limits::min_degrees_p1;

@@ -1,7 +1,7 @@
 -- Place and index are inverse on the places of a block, and a place stays below the count.
-use Prim.Native.Nat.{ℕ, _+_, _*_, _/_, _%_, _^_, _≤_, _<_}
+use Prim.Native.Nat.{ℕ, _+_, _*_, _/_, _%_, _≤_, _<_}
 use mathlib.Core.List.{List, [], _∷_}
-use mathlib.Core.Path.{_≡_, refl, sym, ap, _∙_}
+use mathlib.Core.Path.{_≡_, refl, sym, _∙_}
 use native.Mathlib.Omega.{arith}
 use native.Mathlib.Nat.{div-add-mod', mul-assoc, add-mul, mul-one, mod-lt, div-lt-iff-lt-mul}
 use lib.Arith.{digits-lt, digits-div, digits-mod}
@@ -78,7 +78,8 @@ module _ (n i : List ℕ) (g : Sizes n) (z : at i 3 ≡ 0) where
   rowOf = (at i 0 * at n 1 + at i 1) * at n 2 + at i 2
 
   -- an index j whose row is the next one
-  next : (j : List ℕ) → at j 1 < at n 1 → at j 2 < at n 2 → at j 3 ≡ 0 → (at j 0 * at n 1 + at j 1) * at n 2 + at j 2 ≡ rowOf + 1 → four (at j) ≡ index n (place n i + at n 3)
+  next : (j : List ℕ) → at j 1 < at n 1 → at j 2 < at n 2 → at j 3 ≡ 0
+      → (at j 0 * at n 1 + at j 1) * at n 2 + at j 2 ≡ rowOf + 1 → four (at j) ≡ index n (place n i + at n 3)
   next j j1 j2 j3 e =
       let p : place n j ≡ place n i + at n 3 = rw (horner n j, horner n i, j3, z) (rows-add rowOf _ (at j 2) (at n 2) (at n 3) e) in
       rw (← p) (sym (index-back n j j1 j2 (let q = g .p3 in omega arith)))
@@ -87,7 +88,10 @@ module _ (n i : List ℕ) (g : Sizes n) (z : at i 3 ≡ 0) where
   next-2 i1 h = next (at i 0 ∷ at i 1 ∷ (at i 2 + 1) ∷ 0 ∷ []) i1 h refl (omega arith)
 
   pub next-1 : at i 1 + 1 < at n 1 → at n 2 ≡ at i 2 + 1 → at i 0 ∷ (at i 1 + 1) ∷ 0 ∷ 0 ∷ [] ≡ index n (place n i + at n 3)
-  next-1 i1 h = next (at i 0 ∷ (at i 1 + 1) ∷ 0 ∷ 0 ∷ []) i1 (g .p2) refl (let e : (at i 0 * at n 1 + (at i 1 + 1)) * at n 2 + 0 ≡ (at i 0 * at n 1 + at i 1) * at n 2 + at n 2 = omega arith in omega (arith, h, e))
+  next-1 i1 h =
+      next (at i 0 ∷ (at i 1 + 1) ∷ 0 ∷ 0 ∷ []) i1 (g .p2) refl
+      (let e : (at i 0 * at n 1 + (at i 1 + 1)) * at n 2 + 0 ≡ (at i 0 * at n 1 + at i 1) * at n 2 + at n 2 =
+      omega arith in omega (arith, h, e))
 
   pub next-0 : at n 1 ≡ at i 1 + 1 → at n 2 ≡ at i 2 + 1 → (at i 0 + 1) ∷ 0 ∷ 0 ∷ 0 ∷ [] ≡ index n (place n i + at n 3)
   next-0 i1 h =

@@ -1,8 +1,7 @@
 -- Headers that keep the rules, as a record of facts beside the test of crate model, both directions.
 use Prim.Native.Nat.{ℕ, _≤_, _<_}
-use mathlib.Core.List.{List}
-use mathlib.Core.Bool.{Bool, true, false, _&&_, _||_}
-use mathlib.Core.Path.{_≡_, refl, sym, ap, _∙_}
+use mathlib.Core.Bool.{Bool, true, _&&_, _||_}
+use mathlib.Core.Path.{_≡_, refl}
 use native.Mathlib.Omega.{arith}
 use borrow.Author.Tests.{leb-true, eqb-true, le-ltb, ltb-false, le-leb, eq-eqb}
 use lib.Dec.{leb, ltb, eqb, lit<}

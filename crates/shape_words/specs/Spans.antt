@@ -1,4 +1,5 @@
--- Lengths whose product is 1 (document 01, port order 3 and 4: stored count 1; exactly one length above 1): each of them is 1.
+-- Lengths whose product is 1 (document 01, port order 3 and 4: stored count 1; exactly one length above 1): each of
+-- them is 1.
 use mathlib.Core.Path.{_≡_, refl, _∙_}
 use mathlib.Core.List.{List}
 use Prim.Native.Nat.{ℕ, zero, suc, _+_, _*_, _≤_, _<_}
@@ -33,7 +34,8 @@ ones-of-span l (suc n) v h e w p q =
     let b = span-pos l n (suc v) t in
     decide (eqb w v)
     (λ i. let j : w ≡ v = eqb-true w v i in rw j (one-left (at l v) (span l n (suc v)) a b e))
-    (λ i. ones-of-span l n (suc v) t (one-left (span l n (suc v)) (at l v) b a (mul-comm (span l n (suc v)) (at l v) ∙ e)) w (omega (arith, eqb-false w v i)) (omega arith))
+    (λ i. ones-of-span l n (suc v) t (one-left (span l n (suc v)) (at l v) b a
+    (mul-comm (span l n (suc v)) (at l v) ∙ e)) w (omega (arith, eqb-false w v i)) (omega arith))
 
 -- of four lengths
 pub count-one : (n : List ℕ) → ((k : ℕ) → k < 4 → 1 ≤ at n k) → count n ≡ 1 → (k : ℕ) → k < 4 → at n k ≡ 1

@@ -1,16 +1,15 @@
 -- Header words: unpacking a packed header gives it back, and packing an unpacked good word gives the word back.
 use Prim.Native.Nat.{ℕ, _+_, _-_, _*_, _/_, _%_, _^_, _≤_, _<_}
-use mathlib.Core.List.{List, [], _∷_}
-use mathlib.Core.Bool.{Bool, true, _&&_}
+use mathlib.Core.List.{[], _∷_}
+use mathlib.Core.Bool.{true}
 use mathlib.Core.Path.{_≡_, refl, sym, ap, _∙_}
 use native.Mathlib.Omega.{arith}
 use lib.Pow.{shr-shr, shl-shr}
 use lib.Dec.{eqb}
 use borrow.Author.Tests.{eqb-true, eq-eqb}
 use Rattle.lists.specs.Test.{and-left, and-right}
-use Rattle.lists.specs.Four.{four}
 use Rattle.model.specs.declared.Header.{Header}
-use Rattle.model.specs.Header.{header, limit, len, stored, goodHeader}
+use Rattle.model.specs.Header.{header, limit, len, goodHeader}
 use Rattle.model.specs.Word.{fieldAt, headerOf, goodWord, pushed, fields, wordOf}
 use Rattle.shape_words.specs.Rules.{Ruled, Regular, Good, header-good, header-ruled, header-most}
 

@@ -17,7 +17,9 @@ use Rattle.model_recipes.specs.Recipe.{announcedSteps, total, largest}
 use Rattle.model_recipes.specs.Check.{orElse, checkRefusal}
 use Rattle.model_recipes.specs.Run.{runRefusal}
 use Rattle.model_texts.specs.Printed.{doneText, refusedText}
-use Rattle.model_texts.specs.Sheet.{wordOn, inputCount, stepCount, sheetHeaders, coefficientCount, sheetCoefficients, sheetSteps, ownRefusal, recipeRefusal, readRefusal, sheetRefusal, lastValue, sheetOutput}
+use Rattle.model_texts.specs.Sheet.{wordOn, inputCount, stepCount, sheetHeaders, coefficientCount, sheetCoefficients}
+use Rattle.model_texts.specs.Sheet.{sheetSteps, ownRefusal, recipeRefusal, readRefusal, sheetRefusal, lastValue}
+use Rattle.model_texts.specs.Sheet.{sheetOutput}
 use Rattle.recipes_kinds.specs.Known.{Known}
 use Rattle.recipes_check.specs.Asks.{or-first, or-next}
 use Rattle.sheet_reading.specs.Headers.{good-known}
@@ -99,7 +101,9 @@ module _ {t hs : List ℕ} (o : Opening t hs) where
         take-at part (drop n old) n part-len ∙ (ep ∙ rw (steps-taken, en, ex, opening-count, eh) refl)
 
   -- the run's own refusal comes last
-  pub opening-refusal : {ss : List ℕ} → ss ≡ sheetSteps t → sheetRefusal t ≡ orElse (orElse (checkRefusal hs ss) (ownRefusal hs ss)) (ranRefusal hs (sheetCoefficients t) ss)
+  pub opening-refusal : {ss : List ℕ} → ss ≡ sheetSteps t
+      → sheetRefusal t ≡ orElse (orElse (checkRefusal hs ss) (ownRefusal hs ss))
+      (ranRefusal hs (sheetCoefficients t) ss)
   unfolding sheetRefusal recipeRefusal
   opening-refusal {ss} es =
       or-next (readRefusal t) (recipeRefusal (sheetHeaders t) (sheetCoefficients t) (sheetSteps t)) (o .read)
@@ -111,7 +115,8 @@ module _ {t hs : List ℕ} (o : Opening t hs) where
   judged-refused {ss} {old} {new} {r} es j z =
       sym (opening-refusal es ∙ (ap (λ (x : Refusal). orElse x (ranRefusal hs (sheetCoefficients t) ss)) (sym (j .answer)) ∙ or-first _ z))
 
-  pub running : {ss old new : List ℕ} {r : Refusal} {end : ℕ} → ss ≡ sheetSteps t → OwnJudged hs ss old new r → r .number ≡ 0 → end ≡ length hs + length ss → Running t hs ss (take end new)
+  pub running : {ss old new : List ℕ} {r : Refusal} {end : ℕ} → ss ≡ sheetSteps t → OwnJudged hs ss old new r
+      → r .number ≡ 0 → end ≡ length hs + length ss → Running t hs ss (take end new)
   running {ss} {old} {new} {r} {end} es j z ee =
       record {
         opened = o;

@@ -19,9 +19,12 @@ use Rattle.model_recipes.specs.Check.{orElse, rightSizes, formed, stepRefusal, 
 use Rattle.model_recipes.specs.Run.{inputValues, operations, stepValue, values, stepValues, gates, stepGate, nineRefusal, lentRefusal, runRefusal}
 use Rattle.model_texts.specs.Hex.{isDigit, digitOf, digitFor, isLine, wordAt, hexLine, hexLines}
 use Rattle.model_texts.specs.Printed.{digits, decimal, doneText, refusedText}
-use Rattle.model_texts.specs.Sheet.{ownRefusal, recipeRefusal, inputCount, stepCount, spare, sheetHeaders, coefficientCount, sheetCoefficients, sheetSteps, headersRefusal, readRefusal, sheetRefusal, lastValue, sheetOutput}
+use Rattle.model_texts.specs.Sheet.{ownRefusal, recipeRefusal, inputCount, stepCount, spare, sheetHeaders}
+use Rattle.model_texts.specs.Sheet.{coefficientCount, sheetCoefficients, sheetSteps, headersRefusal, readRefusal}
+use Rattle.model_texts.specs.Sheet.{sheetRefusal, lastValue, sheetOutput}
 
--- 0101000000000000, 2104000000000000, 4000000000000000, 4008000000000000, 3ff0000000000000, 9000000000004000: [2, 3, 1] shifted down by 1
+-- 0101000000000000, 2104000000000000, 4000000000000000, 4008000000000000, 3ff0000000000000, 9000000000004000: [2, 3, 1]
+-- shifted down by 1
 unfoldable pub exampleSheet : List ℕ
 exampleSheet =
     48 ∷ 49 ∷ 48 ∷ 49 ∷ 48 ∷ 48 ∷ 48 ∷ 48 ∷ 48 ∷ 48 ∷ 48 ∷ 48 ∷ 48 ∷ 48 ∷ 48 ∷ 48 ∷ 10
@@ -46,14 +49,32 @@ unfoldable pub refusedOutput : List ℕ
 refusedOutput = 114 ∷ 101 ∷ 102 ∷ 117 ∷ 115 ∷ 101 ∷ 100 ∷ 32 ∷ 56 ∷ 32 ∷ 54 ∷ 52 ∷ 10 ∷ []
 
 pub example-holds : sheetOutput exampleSheet ≡ exampleOutput
-unfolding exampleSheet exampleOutput sheetOutput lastValue sheetRefusal readRefusal headersRefusal sheetSteps sheetCoefficients coefficientCount sheetHeaders spare stepCount inputCount recipeRefusal ownRefusal refusedText doneText decimal digits hexLines hexLine wordAt isLine digitFor digitOf isDigit runRefusal lentRefusal nineRefusal stepGate gates stepValues values stepValue operations inputValues checkRefusal stepsRefusal inputsRefusal stepRefusal formed rightSizes orElse largest total announcedSteps announcedPlaces announcedStep families rows stepOf shiftDownPoly rowSum rowsFrom inGate announced paired single inside index offset strides wordOf fields goodWord headerOf goodHeader goodVars goodVar span walk table every chain ofBits toBits neg add sub mul div eq ofInt
+unfolding exampleSheet exampleOutput sheetOutput lastValue sheetRefusal readRefusal headersRefusal sheetSteps
+    sheetCoefficients coefficientCount sheetHeaders spare stepCount inputCount recipeRefusal ownRefusal refusedText
+    doneText decimal digits hexLines hexLine wordAt isLine digitFor digitOf isDigit runRefusal lentRefusal nineRefusal
+    stepGate gates stepValues values stepValue operations inputValues checkRefusal stepsRefusal inputsRefusal
+    stepRefusal formed rightSizes orElse largest total announcedSteps announcedPlaces announcedStep families rows stepOf
+    shiftDownPoly rowSum rowsFrom inGate announced paired single inside index offset strides wordOf fields goodWord
+    headerOf goodHeader goodVars goodVar span walk table every chain ofBits toBits neg add sub mul div eq ofInt
 example-holds = refl
 
 -- one byte more, or none at all
 pub byte-behind : sheetOutput (exampleSheet ++ (10 ∷ [])) ≡ refusedOutput
-unfolding exampleSheet refusedOutput sheetOutput lastValue sheetRefusal readRefusal headersRefusal sheetSteps sheetCoefficients coefficientCount sheetHeaders spare stepCount inputCount recipeRefusal ownRefusal refusedText doneText decimal digits hexLines hexLine wordAt isLine digitFor digitOf isDigit runRefusal lentRefusal nineRefusal stepGate gates stepValues values stepValue operations inputValues checkRefusal stepsRefusal inputsRefusal stepRefusal formed rightSizes orElse largest total announcedSteps announcedPlaces announcedStep families rows stepOf shiftDownPoly rowSum rowsFrom inGate announced paired single inside index offset strides wordOf fields goodWord headerOf goodHeader goodVars goodVar span walk table every chain ofBits toBits neg add sub mul div eq ofInt
+unfolding exampleSheet refusedOutput sheetOutput lastValue sheetRefusal readRefusal headersRefusal sheetSteps
+    sheetCoefficients coefficientCount sheetHeaders spare stepCount inputCount recipeRefusal ownRefusal refusedText
+    doneText decimal digits hexLines hexLine wordAt isLine digitFor digitOf isDigit runRefusal lentRefusal nineRefusal
+    stepGate gates stepValues values stepValue operations inputValues checkRefusal stepsRefusal inputsRefusal
+    stepRefusal formed rightSizes orElse largest total announcedSteps announcedPlaces announcedStep families rows stepOf
+    shiftDownPoly rowSum rowsFrom inGate announced paired single inside index offset strides wordOf fields goodWord
+    headerOf goodHeader goodVars goodVar span walk table every chain ofBits toBits neg add sub mul div eq ofInt
 byte-behind = refl
 
 pub nothing-there : sheetOutput [] ≡ refusedOutput
-unfolding refusedOutput sheetOutput lastValue sheetRefusal readRefusal headersRefusal sheetSteps sheetCoefficients coefficientCount sheetHeaders spare stepCount inputCount recipeRefusal ownRefusal refusedText doneText decimal digits hexLines hexLine wordAt isLine digitFor digitOf isDigit runRefusal lentRefusal nineRefusal stepGate gates stepValues values stepValue operations inputValues checkRefusal stepsRefusal inputsRefusal stepRefusal formed rightSizes orElse largest total announcedSteps announcedPlaces announcedStep families rows stepOf shiftDownPoly rowSum rowsFrom inGate announced paired single inside index offset strides wordOf fields goodWord headerOf goodHeader goodVars goodVar span walk table every chain ofBits toBits neg add sub mul div eq ofInt
+unfolding refusedOutput sheetOutput lastValue sheetRefusal readRefusal headersRefusal sheetSteps sheetCoefficients
+    coefficientCount sheetHeaders spare stepCount inputCount recipeRefusal ownRefusal refusedText doneText decimal
+    digits hexLines hexLine wordAt isLine digitFor digitOf isDigit runRefusal lentRefusal nineRefusal stepGate gates
+    stepValues values stepValue operations inputValues checkRefusal stepsRefusal inputsRefusal stepRefusal formed
+    rightSizes orElse largest total announcedSteps announcedPlaces announcedStep families rows stepOf shiftDownPoly
+    rowSum rowsFrom inGate announced paired single inside index offset strides wordOf fields goodWord headerOf
+    goodHeader goodVars goodVar span walk table every chain ofBits toBits neg add sub mul div eq ofInt
 nothing-there = refl

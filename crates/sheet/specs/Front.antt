@@ -1,4 +1,5 @@
--- A sheet is judged by its first 1,115,218 bytes: 65,601 lines, and one byte that would be too many. So a program may stop reading there.
+-- A sheet is judged by its first 1,115,218 bytes: 65,601 lines, and one byte that would be too many. So a program may
+-- stop reading there.
 use Prim.Native.Nat.{ℕ, zero, suc, _+_, _*_, _/_, _%_, _^_, _≤_, _<_}
 use mathlib.Core.List.{List}
 use mathlib.Core.Path.{_≡_, refl, sym, ap, _∙_}
@@ -17,7 +18,9 @@ use Rattle.model_recipes.specs.Recipe.{inputHeads, total}
 use Rattle.model_recipes.specs.Check.{orElse}
 use Rattle.model_texts.specs.Hex.{isDigit, digitOf, byteAt, digitAt, isLine, pushDigit, wordAt}
 use Rattle.model_texts.specs.Printed.{refusedText}
-use Rattle.model_texts.specs.Sheet.{lined, wordOn, inputCount, stepCount, spare, sheetHeaders, coefficientCount, sheetCoefficients, sheetSteps, restCount, headersRefusal, readRefusal, sheetRefusal, lastValue, sheetOutput}
+use Rattle.model_texts.specs.Sheet.{lined, wordOn, inputCount, stepCount, spare, sheetHeaders, coefficientCount}
+use Rattle.model_texts.specs.Sheet.{sheetCoefficients, sheetSteps, restCount, headersRefusal, readRefusal}
+use Rattle.model_texts.specs.Sheet.{sheetRefusal, lastValue, sheetOutput}
 use Rattle.recipes_check.specs.Asks.{or-first}
 use Rattle.sheet_reading.specs.Reading.{Sized, sized, sizesTest, restRefusal, after-sizes, count-small}
 use Rattle.sheet.specs.Opened.{Opened, opened, opened-few}

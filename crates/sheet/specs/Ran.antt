@@ -56,7 +56,8 @@ total-take (h ∷ hs) zero l = omega arith
 total-take (h ∷ hs) (suc i) l = omega (arith, total-take hs i (omega arith))
 
 -- f: where the last value lies in the pool; c: how many coefficients are given
-module _ {t hs ss : List ℕ} {f c : ℕ} (pool : List Float) (words : List ℕ) (scratch : List Float) (r : RunningIn t hs ss f c (length pool) (length words) (length scratch)) where
+module _ {t hs ss : List ℕ} {f c : ℕ} (pool : List Float) (words : List ℕ) (scratch : List Float)
+    (r : RunningIn t hs ss f c (length pool) (length words) (length scratch)) where
   in-steps : length ss ≡ stepCount t
   in-steps = ap length (r .steps) ∙ steps-many t
 
@@ -97,7 +98,12 @@ module _ {t hs ss : List ℕ} {f c : ℕ} (pool : List Float) (words : List ℕ)
 
     given-len : total (inputHeads hs) ≤ length cs
     unfolding sheetCoefficients
-    given-len = omega (arith, ap length e ∙ length-table (λ j. ofBits binary64 (wordOn t (1 + inputCount t + j))) (coefficientCount t), opening-count (r .opened))
+    given-len =
+        omega (
+          arith,
+          ap length e ∙ length-table (λ j. ofBits binary64 (wordOn t (1 + inputCount t + j))) (coefficientCount t),
+          opening-count (r .opened),
+        )
 
     -- ws, ps: words and pool as the run left them, of which `from f on` is read
     module _ (a : Done ≡ runAnswer hs cs ss pool words scratch) {ws : List ℕ} {ps : List Float} (ew : ws ≡ runWords hs cs ss pool words scratch)
@@ -107,7 +113,8 @@ module _ {t hs ss : List ℕ} {f c : ℕ} (pool : List Float) (words : List ℕ)
       none = by-done _ a
 
       follow : Follows (announcedPlaces hs ss) (values hs cs ss)
-      follow = let room : 8 * largest (announcedSteps hs ss) ≤ length scratch = omega (arith, r .scratch) in follows-all hs cs ss (passed hs ss (r .judged) .check) given-len room
+      follow = let room : 8 * largest (announcedSteps hs ss) ≤ length scratch = omega (arith, r .scratch) in
+          follows-all hs cs ss (passed hs ss (r .judged) .check) given-len room
 
       value-last : valueAt (values hs cs ss) (length hs + (length ss - 1)) ≡ lastValue t
       unfolding lastValue stepValues
@@ -154,7 +161,8 @@ module _ {t hs ss : List ℕ} {f c : ℕ} (pool : List Float) (words : List ℕ)
       coefficients-are =
           let xs : List Float = lastValue t .coeffs in
           let kept : take most (drop f ps) ≡ padded most xs =
-          rw (ep, r .from) (coeffs-kept hs cs ss follow pool words scratch none (length ss - 1) last-in ∙ ap (λ (v : Poly). padded most (v .coeffs)) value-last) in
+          rw (ep, r .from) (coeffs-kept hs cs ss follow pool words scratch none (length ss - 1) last-in
+          ∙ ap (λ (v : Poly). padded most (v .coeffs)) value-last) in
           ap (λ (i : ℕ). take i (drop f ps)) count-is
           ∙ (sym (take-take (length xs) most (drop f ps) value-fits) ∙ (ap (take (length xs)) kept ∙ take-at xs (zeros (most - length xs)) (length xs) refl))
 

@@ -36,8 +36,8 @@ pub record Running (t hs ss known : List ℕ) : Type 0 where
   pub judged : orElse (checkRefusal hs ss) (ownRefusal hs ss) .number ≡ 0
   pub places : map headerOf known ≡ announcedPlaces hs ss
 
--- and judged, with buffers as long as it takes: the last value lies in the pool from the place f on, c coefficients, p places of the pool, w words, s places
--- of scratch
+-- and judged, with buffers as long as it takes: the last value lies in the pool from the place f on, c coefficients, p
+-- places of the pool, w words, s places of scratch
 pub record RunningIn (t hs ss : List ℕ) (f c p w s : ℕ) : Type 0 where
   pub opened : Opening t hs
   pub steps : ss ≡ sheetSteps t
@@ -58,7 +58,8 @@ roomOf k hs =
 abbrev pub backOf : List ℕ → ℕ → List ℕ
 backOf ws k = take (length ws - k) (drop k ws)
 
-pub room-is : (ws : List ℕ) (k : ℕ) {a b c d : ℕ} → a ≡ total (map headerOf (take k ws)) → b ≡ total (map headerOf (take (length (backOf ws k) - 1) (backOf ws k)))
+pub room-is : (ws : List ℕ) (k : ℕ) {a b c d : ℕ} → a ≡ total (map headerOf (take k ws))
+    → b ≡ total (map headerOf (take (length (backOf ws k) - 1) (backOf ws k)))
     → c ≡ total (map headerOf (backOf ws k)) → d ≡ largest (map headerOf (backOf ws k))
     → _≡_ {A = Room} (record { given = a; from = b; pool = c; scratch = 8 * d }) (roomOf k (map headerOf ws))
 room-is ws k {a} {b} {c} {d} ea eb ec ed =
@@ -133,7 +134,8 @@ module _ {t hs ss known : List ℕ} (r : Running t hs ss known) where
   pub running-many : length known ≡ length hs + length ss
   unfolding announcedPlaces
   running-many =
-      sym (length-map known headerOf) ∙ (ap length (r .places) ∙ (length-chain announcedStep (inputHeads hs) ss ∙ ap (λ (n : ℕ). n + length ss) (length-map hs headerOf)))
+      sym (length-map known headerOf) ∙ (ap length (r .places)
+      ∙ (length-chain announcedStep (inputHeads hs) ss ∙ ap (λ (n : ℕ). n + length ss) (length-map hs headerOf)))
 
   -- what the run takes, out of buffers of 2,048 floats and one of 64 words
   module _ {m : Room} (e : m ≡ roomOf (length hs) (map headerOf known)) where
@@ -160,4 +162,14 @@ module _ {t hs ss known : List ℕ} (r : Running t hs ss known) where
 
     pub running-in : {c p w s : ℕ} → c ≡ m .given → p ≡ m .pool → w ≡ length ss → s ≡ m .scratch → RunningIn t hs ss (m .from) c p w s
     running-in ec ep ew es =
-        record { opened = r .opened; steps = r .steps; judged = r .judged; from = room-from; given = ec ∙ room-given; pool = ep ∙ room-pool; words = ew; scratch = es ∙ room-scratch }
+        record {
+          opened = r .opened;
+          steps = r .steps;
+          judged = r .judged;
+          from = room-from;
+          given = ec
+              ∙ room-given;
+          pool = ep ∙ room-pool;
+          words = ew;
+          scratch = es ∙ room-scratch;
+        }

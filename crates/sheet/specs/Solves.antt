@@ -74,7 +74,8 @@ pub record Solution (t hs ss ks : List ℕ) (ps : List Float) (s : Solved) : Typ
   pub last : LastAt t ps (s .header) (s .from) (s .count)
 
 -- the headers stand at the front of the buffer hs' too
-pub solution-front : {t hs ss ks : List ℕ} {ps : List Float} {s : Solved} (hs' : List ℕ) → Solution t hs ss ks ps s → take (inputCount t) hs' ≡ sheetHeaders t → Solution t hs' ss ks ps s
+pub solution-front : {t hs ss ks : List ℕ} {ps : List Float} {s : Solved} (hs' : List ℕ) → Solution t hs ss ks ps s
+    → take (inputCount t) hs' ≡ sheetHeaders t → Solution t hs' ss ks ps s
 solution-front hs' d h =
     record {
       inputs = d .inputs;

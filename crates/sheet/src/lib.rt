@@ -27,8 +27,8 @@ pub const OUTPUT: usize = 4378;
 // As many bytes of a sheet as can matter: 65,601 lines, and one byte that would be too many.
 pub const INPUT: usize = 1115218;
 
-// Why a sheet is refused. Where it is not: how many inputs and steps it has, the header word of the last value, where in the pool its coefficients lie, and
-// how many they are.
+// Why a sheet is refused. Where it is not: how many inputs and steps it has, the header word of the last value, where
+// in the pool its coefficients lie, and how many they are.
 pub struct Solved {
     pub refusal: Refusal,
     pub inputs: usize,
@@ -67,8 +67,8 @@ impl Solved {
     }
 }
 
-// How a sheet ends. Where it is not refused, its input headers, its steps and the words that its places announce stand at the front of `headers`, `steps`
-// and `known`, and the coefficients of the last value in `pool`.
+// How a sheet ends. Where it is not refused, its input headers, its steps and the words that its places announce stand
+// at the front of `headers`, `steps` and `known`, and the coefficients of the last value in `pool`.
 pub fn solve(
     text: &[u8],
     headers: &mut [u64],
@@ -77,7 +77,8 @@ pub fn solve(
     pool: &mut [f64],
 ) -> Solved
     requires { ⌜ Buffers (length (now headers)) (length (now steps)) (length (now known)) (length (now pool)) ⌝ }
-    ensures { λ s. ⌜ Solves (now (text .entry)) (now (headers .entry)) (now (steps .entry)) (now (known .entry)) (now (pool .entry)) (now (headers .exit)) (now (steps .exit)) (now (known .exit)) (now (pool .exit)) s ⌝ }
+    ensures { λ s. ⌜ Solves (now (text .entry)) (now (headers .entry)) (now (steps .entry)) (now (known .entry))
+        (now (pool .entry)) (now (headers .exit)) (now (steps .exit)) (now (known .exit)) (now (pool .exit)) s ⌝ }
 {
     let refusal = read(text, headers);
     if refusal.number != 0 {

@@ -17,7 +17,8 @@ ghost use Rattle.recipes_kinds.specs.Known.{Known};
 ghost use Rattle.sheet.specs.Running.{Opening, Running, RunningIn, roomOf};
 ghost use Rattle.sheet.specs.Solves.{Lent, Ends, Ended};
 
-// How many coefficients are given, where in the pool the last value lies and how long the pool is, how much scratch a run takes.
+// How many coefficients are given, where in the pool the last value lies and how long the pool is, how much scratch a
+// run takes.
 pub struct Room {
     pub given: usize,
     pub from: usize,
@@ -53,7 +54,8 @@ fn room_of(known: &[u64], inputs: usize) -> Room
     }
 }
 
-// A recipe that the check and the limits let pass, in memory of exactly the lengths that it takes; the last value lies in the pool from the place `from` on.
+// A recipe that the check and the limits let pass, in memory of exactly the lengths that it takes; the last value lies
+// in the pool from the place `from` on.
 fn run_in(
     text: &[u8],
     headers: &[u64],
@@ -64,7 +66,8 @@ fn run_in(
     words: &mut [u64],
     scratch: &mut [f64],
 ) -> Solved
-    requires { ⌜ RunningIn (now text) (now headers) (now steps) from (length (now coefficients)) (length (now pool)) (length (now words)) (length (now scratch)) ⌝ }
+    requires { ⌜ RunningIn (now text) (now headers) (now steps) from (length (now coefficients)) (length (now pool))
+        (length (now words)) (length (now scratch)) ⌝ }
     ensures { λ s. ⌜ Ends (now (text .entry)) (now (headers .entry)) (now (steps .entry)) (now (pool .exit)) s ⌝ }
 {
     let n = steps.len();

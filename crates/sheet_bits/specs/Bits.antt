@@ -1,11 +1,10 @@
 -- Which floats and words are NaNs, as the code tests it.
-use Prim.Native.Nat.{ℕ, zero, suc, _*_, _/_, _%_, _^_}
-use mathlib.Core.Bool.{Bool, true, false, not, _&&_, _||_, cond, Bool·beq, true≢false}
-use mathlib.Core.Path.{_≡_, refl, sym, ap, _∙_}
-use native.Mathlib.Omega.{arith}
+use Prim.Native.Nat.{ℕ, _*_, _/_, _%_, _^_}
+use mathlib.Core.Bool.{Bool, true, false, not, _&&_, _||_, Bool·beq, true≢false}
+use mathlib.Core.Path.{_≡_, refl, sym, _∙_}
 use lib.Dec.{T, eqb}
 use lib.Ieee.{Float, nan, inf, fin, div, eq, isNan, binary64, ofBits, ofFields, nanBits, up, down}
-use borrow.Author.Tests.{eq-eqb, eqb-true, eqb-false}
+use borrow.Author.Tests.{eq-eqb, eqb-true}
 
 -- a float that equals itself is no NaN, and a NaN is the only one that does not
 pub itself : (x : Float) → eq x x ≡ true → T (not (isNan x))

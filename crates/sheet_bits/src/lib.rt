@@ -1,4 +1,5 @@
-// Words to floats and back. A NaN's pattern becomes a NaN, and a NaN becomes 7ff8000000000000: which bits a NaN has is not promised anywhere.
+// Words to floats and back. A NaN's pattern becomes a NaN, and a NaN becomes 7ff8000000000000: which bits a NaN has is
+// not promised anywhere.
 ghost use mathlib.Core.Path.{_≡_};
 ghost use lib.Ieee.{binary64, ofBits, toBits};
 

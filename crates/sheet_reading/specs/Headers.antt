@@ -12,7 +12,7 @@ use borrow.Author.Tests.{eqb-true, eqb-false}
 use Rattle.lists.specs.All.{All, all-below}
 use Rattle.lists.specs.Table.{table, length-table, table-at, Filled, filled-none, filled-more}
 use Rattle.lists.specs.Test.{decide}
-use Rattle.blocks.specs.Fill.{filled-all}
+use Rattle.lists.specs.Fill.{filled-all}
 use Rattle.model.specs.declared.Header.{Header}
 use Rattle.model.specs.declared.Refusal.{Refusal}
 use Rattle.model.specs.Header.{noHeader, span, stored}
@@ -49,7 +49,9 @@ module _ {t old new : List ℕ} {i : ℕ} (h : HeadersReading t old new i) where
   pub headers-len : length new ≡ length old
   headers-len = h .filled .len
 
-  ahead : i < length old → headersRefusal t (length old) 0 ≡ askAt (lined t (1 + i)) 8 64 (askAt (goodWord (headerOn t i)) 1 i (headersRefusal t (length old - (i + 1)) (i + 1)))
+  ahead : i < length old → headersRefusal t (length old) 0
+      ≡ askAt (lined t (1 + i)) 8 64 (askAt (goodWord (headerOn t i)) 1 i
+      (headersRefusal t (length old - (i + 1)) (i + 1)))
   unfolding headersRefusal
   ahead l =
       let e : length old - i ≡ suc (length old - (i + 1)) = omega arith in

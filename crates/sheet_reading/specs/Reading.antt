@@ -136,9 +136,17 @@ module _ (t old : List ℕ) {n : ℕ} (s : Sized t) (e : n ≡ inputCount t) (m 
       mid-taken = sym (length-take-le n (mid n part old) (omega (arith, mid-len, few-places)))
 
       pub mid-total : total (inputHeads (take n (mid n part old))) ≤ 65536
-      mid-total = omega (arith, total-most (inputHeads (take n (mid n part old))) (λ p. mid-good .at p .most), length-map (take n (mid n part old)) headerOf, mid-taken, s .few)
+      mid-total =
+          omega (
+            arith,
+            total-most (inputHeads (take n (mid n part old))) (λ p. mid-good .at p .most),
+            length-map (take n (mid n part old)) headerOf,
+            mid-taken,
+            s .few,
+          )
 
-      pub read-rest : {x y : ℕ} {q : Refusal} → x ≡ total (inputHeads (take n (mid n part old))) → y ≡ stepCount t → q ≡ restRefusal t (x + y) (1 + n) → Read t old (mid n part old) q
+      pub read-rest : {x y : ℕ} {q : Refusal} → x ≡ total (inputHeads (take n (mid n part old))) → y ≡ stepCount t
+          → q ≡ restRefusal t (x + y) (1 + n) → Read t old (mid n part old) q
       unfolding coefficientCount
       read-rest {x} {y} {q} ex ey f =
           let c : x ≡ coefficientCount t = ex ∙ ap (λ (hs : List ℕ). total (inputHeads hs)) mid-headers in

@@ -34,7 +34,8 @@ length-floats xs = length-lines (map (toBits binary64) xs) ∙ ap (λ (n : ℕ).
 floats-more : (xs : List Float) (k : ℕ) → k < length xs → floatLines (take (k + 1) xs) ≡ floatLines (take k xs) ++ hexLine (toBits binary64 (getD xs k nan))
 floats-more xs k l =
     rw (add-one k, take-suc xs k nan l)
-    (ap hexLines (map-append (toBits binary64) (take k xs) (getD xs k nan ∷ [])) ∙ lines-snoc (map (toBits binary64) (take k xs)) (toBits binary64 (getD xs k nan)))
+    (ap hexLines (map-append (toBits binary64) (take k xs) (getD xs k nan ∷ []))
+    ∙ lines-snoc (map (toBits binary64) (take k xs)) (toBits binary64 (getD xs k nan)))
 
 -- after k floats
 pub record PutFloats (xs : List Float) (at : ℕ) (old new : List ℕ) (next k : ℕ) : Type 0 where
@@ -49,7 +50,8 @@ module _ {xs : List Float} {at : ℕ} {old new : List ℕ} {next k : ℕ} (p : P
   pub floats-next : next ≡ at + 17 * k
   floats-next = omega (arith, p .put .behind, length-floats (take k xs), length-take-le k xs (p .most))
 
-  pub floats-put : {w end : ℕ} {new' : List ℕ} → k < length xs → w ≡ toBits binary64 (getD xs k nan) → Put next (hexLine w) new new' end → PutFloats xs at old new' end (k + 1)
+  pub floats-put : {w end : ℕ} {new' : List ℕ} → k < length xs → w ≡ toBits binary64 (getD xs k nan)
+      → Put next (hexLine w) new new' end → PutFloats xs at old new' end (k + 1)
   floats-put {w} l e q = record { most = omega arith; put = rw (floats-more xs k l, ← e) (put-then (p .put) q) }
 
   pub floats-end : length xs ≤ k → Put at (floatLines xs) old new next

@@ -13,7 +13,8 @@ use Rattle.sheet_text.specs.Decimal.{tenth}
 abbrev isDecimal : ℕ → Bool
 isDecimal b = leb 48 b && leb b 57
 
--- the number at the front of a text, n being what was read of it so far; and what stands behind it, without the one byte that ends it
+-- the number at the front of a text, n being what was read of it so far; and what stands behind it, without the one
+-- byte that ends it
 unfoldable pub numberAt : ℕ → List ℕ → ℕ
 numberAt n [] = n
 numberAt n (b ∷ t) = cond (isDecimal b) (numberAt (10 * n + (b - 48)) t) n

@@ -127,7 +127,8 @@ module _ {x y h : Header} {v n ma mb mo mw : ℕ} (g : Given x y h v n ma mb mo 
 
 module _ {v w u ma mb mo ms : ℕ} (g : PairReady (Substitution v) w ma u mb mo ms) where
   -- what the kernel is lent
-  pub entry-given : {x y h : Header} {na nb n : ℕ} → x ≡ headerOf w → y ≡ headerOf u → h ≡ announced (Substitution v) x y → na ≡ stored x → nb ≡ stored y → n ≡ stored h
+  pub entry-given : {x y h : Header} {na nb n : ℕ} → x ≡ headerOf w → y ≡ headerOf u
+      → h ≡ announced (Substitution v) x y → na ≡ stored x → nb ≡ stored y → n ≡ stored h
       → {ka kb ko kw : ℕ} → ka ≡ na → kb ≡ nb → ko ≡ n → kw ≡ 8 * n → Given x y h v n ka kb ko kw
   entry-given ex ey eh ea eb en pa pb po pw = record {
     left = rw ex (g .good-a .regular);
@@ -142,12 +143,17 @@ module _ {v w u ma mb mo ms : ℕ} (g : PairReady (Substitution v) w ma u mb mo 
 
   -- the true header keeps the rules
   pub entry-ruled : (a b : List Float) → ma ≡ length a → Ruled (substitutePoly v (held w a) (held u b) .head)
-  entry-ruled a b e = substitute-keeps v (held w a) (held u b) (g .good-a .regular) (g .good-b .regular) (length-take-le _ a (omega (arith, e, g .full-a))) .regular .rules
+  entry-ruled a b e =
+      substitute-keeps v (held w a) (held u b) (g .good-a .regular) (g .good-b .regular)
+      (length-take-le _ a (omega (arith, e, g .full-a))) .regular .rules
 
 -- the value
-module _ (v w : ℕ) (a : List Float) (u : ℕ) (b : List Float) {x y h : Header} (ex : x ≡ headerOf w) (ey : y ≡ headerOf u) (eh : h ≡ announced (Substitution v) x y) {na nb : ℕ} (ea : na ≡ stored x) (eb : nb ≡ stored y) where
+module _ (v w : ℕ) (a : List Float) (u : ℕ) (b : List Float) {x y h : Header} (ex : x ≡ headerOf w)
+    (ey : y ≡ headerOf u) (eh : h ≡ announced (Substitution v) x y) {na nb : ℕ} (ea : na ≡ stored x)
+    (eb : nb ≡ stored y) where
   entry-is : substitutePoly v (held w a) (held u b) ≡ polyOf h (value v x y (take na a) (take nb b) eh)
-  entry-is = let q = poly-is v x y (take na a) (take nb b) eh in sym (ap (λ (z : Poly). substitutePoly v z (poly y (take nb b))) left ∙ ap (substitutePoly v (held w a)) right) ∙ q
+  entry-is = let q = poly-is v x y (take na a) (take nb b) eh in
+      sym (ap (λ (z : Poly). substitutePoly v z (poly y (take nb b))) left ∙ ap (substitutePoly v (held w a)) right) ∙ q
     where
       left : poly x (take na a) ≡ held w a
       left = rw (ea, ex)
@@ -155,8 +161,10 @@ module _ (v w : ℕ) (a : List Float) (u : ℕ) (b : List Float) {x y h : Header
       right : poly y (take nb b) ≡ held u b
       right = rw (eb, ey)
 
-  pub entry-head : {r : List ℕ} → r ≡ value v x y (take na a) (take nb b) eh .lengths → header (h .vars) (h .limits) r ≡ substitutePoly v (held w a) (held u b) .head
+  pub entry-head : {r : List ℕ} → r ≡ value v x y (take na a) (take nb b) eh .lengths
+      → header (h .vars) (h .limits) r ≡ substitutePoly v (held w a) (held u b) .head
   entry-head e = ap (header (h .vars) (h .limits)) e ∙ ap (λ (z : Poly). z .head) (sym entry-is)
 
-  pub entry-out : (n : ℕ) {o : List Float} → o ≡ padded n (value v x y (take na a) (take nb b) eh .places) → o ≡ padded n (substitutePoly v (held w a) (held u b) .coeffs)
+  pub entry-out : (n : ℕ) {o : List Float} → o ≡ padded n (value v x y (take na a) (take nb b) eh .places)
+      → o ≡ padded n (substitutePoly v (held w a) (held u b) .coeffs)
   entry-out n e = e ∙ ap (λ (z : Poly). padded n (z .coeffs)) (sym entry-is)

@@ -1,4 +1,5 @@
--- Horner's rule, turn by turn: the rows left to do make of the running value what the whole is, and no turn passes the announced lengths.
+-- Horner's rule, turn by turn: the rows left to do make of the running value what the whole is, and no turn passes the
+-- announced lengths.
 use Prim.Native.Nat.{ℕ, zero, suc, _+_, _-_, _*_, _≤_, _<_, min}
 use mathlib.Core.List.{List}
 use mathlib.Core.Bool.{false}
@@ -20,9 +21,10 @@ use Rattle.model.specs.Add.{joinedBlock}
 use Rattle.model.specs.Product.{isZero, constantBlock, multiplied}
 use Rattle.model.specs.Substitute.{rowAt, horner}
 use Rattle.shape_words.specs.Lengths.{lengths-pos}
+use Rattle.shape.specs.Cut.{cut-at}
 use Rattle.blocks.specs.Two.{cutPlaces, cut-is}
 use Rattle.readings_row.specs.Rows.{Picking}
-use Rattle.laws_exact.specs.Sits.{Sits, cut-at, sum-at, max-at, sits-more}
+use Rattle.laws_exact.specs.Sits.{Sits, sum-at, max-at, sits-more}
 use Rattle.laws_exact.specs.Keeps.{joined-sits, joined-under}
 use Rattle.laws_exact.specs.ProductKeeps.{constant-sits, shape-under}
 use Rattle.laws_exact.specs.Running.{multiplied-sits}
@@ -46,7 +48,9 @@ horner-none : (l : List ℕ) (v : ℕ) (a b res : Block) (k : ℕ) → k ≡ 0 �
 unfolding horner
 horner-none l v a b res k e = rw e
 
-module _ (l : List ℕ) (v : ℕ) (a b : Block) (h : v < 4) (pos-l : (k : ℕ) → k < 4 → 1 ≤ at l k) (pos-a : (k : ℕ) → k < 4 → 1 ≤ at (a .lengths) k) (pos-b : (k : ℕ) → k < 4 → 1 ≤ at (b .lengths) k) (z : isZero b ≡ false) where
+module _ (l : List ℕ) (v : ℕ) (a b : Block) (h : v < 4) (pos-l : (k : ℕ) → k < 4 → 1 ≤ at l k)
+    (pos-a : (k : ℕ) → k < 4 → 1 ≤ at (a .lengths) k) (pos-b : (k : ℕ) → k < 4 → 1 ≤ at (b .lengths) k)
+    (z : isZero b ≡ false) where
   pub turns-is : (k : ℕ) {res : Block} → Sits l res → turns l v a k (cut l b) res ≡ horner l v a k b res
   unfolding turns horner
   turns-is zero s = refl
@@ -54,14 +58,17 @@ module _ (l : List ℕ) (v : ℕ) (a b : Block) (h : v < 4) (pos-l : (k : ℕ) �
       rw (put-is l res b z s) (turns-is k (joined-under false (multiplied-sits l res b pos-l (s .lo) pos-b) (row-sits l v a h pos-l pos-a k)))
 
   -- the first turn multiplies a zero
-  pub horner-first : (k : ℕ) → at (a .lengths) v ≡ suc k → horner l v a (at (a .lengths) v) b (constantBlock zeroF) ≡ horner l v a k b (joinedBlock false (constantBlock zeroF) (rowAt l v a k))
+  pub horner-first : (k : ℕ) → at (a .lengths) v ≡ suc k
+      → horner l v a (at (a .lengths) v) b (constantBlock zeroF)
+      ≡ horner l v a k b (joinedBlock false (constantBlock zeroF) (rowAt l v a k))
   unfolding horner
   horner-first k e = rw (e, zero-first l v a h pos-l pos-a b pos-b)
 
 -- ---- a turn
 
 -- what a loaded row is
-row-is : (l : List ℕ) (v : ℕ) (la : List ℕ) (a : List Float) (k : ℕ) {c : List ℕ} {xs : List Float} → c ≡ rowOf l v la → xs ≡ table (count c) (λ p. readAt (block la a) (set (index c p) v k)) → block c xs ≡ rowAt l v (block la a) k
+row-is : (l : List ℕ) (v : ℕ) (la : List ℕ) (a : List Float) (k : ℕ) {c : List ℕ} {xs : List Float} → c ≡ rowOf l v la
+    → xs ≡ table (count c) (λ p. readAt (block la a) (set (index c p) v k)) → block c xs ≡ rowAt l v (block la a) k
 row-is l v la a k e f = let q = row-parts l v la a k e f in block-is (q .0) (q .1)
 
 module _ {la : List ℕ} {v k : ℕ} {r b c l : List ℕ} {n ma mo mw : ℕ} (g : Hornering la v (suc k) r b c l n ma mo mw) where
@@ -111,23 +118,31 @@ pub record Runs (la : List ℕ) (v : ℕ) (a : List Float) (k : ℕ) (r b c l : 
   pub front : take (count r) out ≡ part n (n + count r) w
   pub rest : turns l v (block la a) k (putIn b w) (valueIn n r w) ≡ p
 
-module _ {la : List ℕ} {v : ℕ} {a : List Float} {k : ℕ} {r b c l : List ℕ} {n ma : ℕ} {p : Block} {out w : List Float} (s : Runs la v a k r b c l n ma p out w) where
+module _ {la : List ℕ} {v : ℕ} {a : List Float} {k : ℕ} {r b c l : List ℕ} {n ma : ℕ} {p : Block} {out w : List Float}
+    (s : Runs la v a k r b c l n ma p out w) where
   value-small : count r ≤ n
-  value-small = omega (arith, s .room .all, count-less (s .room .most) r (λ j h. le-trans (omega (arith, s .room .in-r j h, s .room .value .hi j h)) (s .room .fits j h)))
+  value-small =
+      omega (
+        arith,
+        s .room .all,
+        count-less (s .room .most) r (λ j h. le-trans (omega (arith, s .room .in-r j h, s .room .value .hi j h)) (s .room .fits j h)),
+      )
 
   pub runs-end : k ≤ 0 → Stands p out r
   unfolding turns
   runs-end h =
       let e : k ≡ 0 = omega arith in
       let q : valueIn n r w ≡ p = rw e at (s .rest) in
-      let f : length (part n (n + count r) w) ≡ count r = length-part n (n + count r) w (omega arith) (omega (arith, s .room .work, value-small)) ∙ omega arith in
+      let f : length (part n (n + count r) w) ≡ count r =
+      length-part n (n + count r) w (omega arith) (omega (arith, s .room .work, value-small)) ∙ omega arith in
       rw (← q) (record { lengths = refl; front = ap (λ (j : ℕ). take j out) f ∙ s .front })
 
   pub runs-less : (m : ℕ) → k ≡ suc m → Runs la v a (suc m) r b c l n ma p out w
   runs-less m e = rw e at s
 
 -- what the next turn makes
-module _ {la : List ℕ} {v : ℕ} {a : List Float} {k : ℕ} {r b c l : List ℕ} {n ma : ℕ} {p : Block} {out w : List Float} (s : Runs la v a (suc k) r b c l n ma p out w) where
+module _ {la : List ℕ} {v : ℕ} {a : List Float} {k : ℕ} {r b c l : List ℕ} {n ma : ℕ} {p : Block} {out w : List Float}
+    (s : Runs la v a (suc k) r b c l n ma p out w) where
   g : Hornering la v (suc k) r b c l n ma (length out) (length w)
   g = s .room
 
@@ -219,7 +234,8 @@ module _ {la : List ℕ} {v : ℕ} {a : List Float} {k : ℕ} {r b c l : List �
 abbrev firstOf : List ℕ → ℕ → Block → ℕ → Block
 firstOf l v a k = joinedBlock false (constantBlock zeroF) (rowAt l v a k)
 
-module _ {la lb l : List ℕ} {v n ma mb mo mw : ℕ} (p : Puts la lb l v n ma mb mo mw) (a b : List Float) (z : isZero (block lb b) ≡ false) {k : ℕ} (ek : at la v ≡ suc k) {c : List ℕ} (ec : c ≡ rowOf l v la)
+module _ {la lb l : List ℕ} {v n ma mb mo mw : ℕ} (p : Puts la lb l v n ma mb mo mw) (a b : List Float)
+    (z : isZero (block lb b) ≡ false) {k : ℕ} (ek : at la v ≡ suc k) {c : List ℕ} (ec : c ≡ rowOf l v la)
     {w w1 : List Float} (k1 : Kept (2 * n) (2 * n + count c) (table (count c) (λ q. readAt (block la a) (set (index c q) v k))) w w1)
     {r : List ℕ} {o w2 : List Float} (t : Turned (joinedBlock false (constantBlock zeroF) (block c (part (2 * n) (2 * n + count c) w1))) n w1 w2 o r) where
   t1 : Turned (firstOf l v (block la a) k) n w1 w2 o r
@@ -237,7 +253,9 @@ module _ {la lb l : List ℕ} {v n ma mb mo mw : ℕ} (p : Puts la lb l v n ma m
   -- one row alone
   pub start-one : k ≡ 0 → Stands (horner l v poly (at la v) put (constantBlock zeroF)) o r
   unfolding horner
-  start-one e = let q : horner l v poly k put (firstOf l v poly k) ≡ firstOf l v poly k = horner-none l v poly put (firstOf l v poly k) k e in rw (whole-is ∙ q) (t1 .stands)
+  start-one e = let q : horner l v poly k put (firstOf l v poly k) ≡ firstOf l v poly k =
+      horner-none l v poly put (firstOf l v poly k) k e in
+      rw (whole-is ∙ q) (t1 .stands)
 
   row-sits-k : Sits l (rowAt l v poly k)
   row-sits-k = row-sits l v poly (p .var) (p .positive) (lengths-pos (p .left)) k
@@ -290,7 +308,8 @@ module _ {la lb l : List ℕ} {v n ma mb mo mw : ℕ} (p : Puts la lb l v n ma m
       work = e2 ∙ p .work;
     }
 
-    pub start-stands : {x : List ℕ} {o2 : List Float} → Stands (turns l v poly k (putIn cb w3) (valueIn n r w3)) o2 x → Stands (horner l v poly (at la v) put (constantBlock zeroF)) o2 x
+    pub start-stands : {x : List ℕ} {o2 : List Float} → Stands (turns l v poly k (putIn cb w3) (valueIn n r w3)) o2 x
+        → Stands (horner l v poly (at la v) put (constantBlock zeroF)) o2 x
     start-stands s =
         let e1 : putIn cb w3 ≡ cut l put = ap (block cb) (k3 .holds) ∙ cut-is l lb b eb in
         let e2 : valueIn n r w3 ≡ firstOf l v poly k = block-is (t1 .stands .lengths) (value-same ∙ t1 .kept) in

@@ -14,8 +14,7 @@ use Rattle.model.specs.Limits.{cutTo}
 use Rattle.model.specs.Poly.{block, readAt}
 use Rattle.model.specs.Substitute.{powered}
 use Rattle.product_linear.specs.Rows.{Rows}
-use Rattle.product.specs.Room.{Raising}
-use Rattle.product.specs.Raise.{raise-rows, raise-small, row-of}
+use Rattle.product_linear.specs.Raise.{raise-rows, raise-small, row-of, Raising}
 use Rattle.substitution_powers.specs.Powers.{power, byPart, Whole}
 use Rattle.substitution.specs.Room.{Cuts}
 
@@ -41,7 +40,8 @@ module _ {la c : List ℕ} {v ma mo : ℕ} (t : Cuts la c v ma mo) where
     rows-small = raise-small (own ez) es refl refl .0
 
 -- every place was loaded, and then scaled
-pub powered-put : (limits la : List ℕ) (v : ℕ) (m : Float) (a : List Float) {c : List ℕ} {ma mo z s k : ℕ} {xs o : List Float} → Cuts la c v ma mo → c ≡ cutTo limits la → z ≡ count c → s ≡ at (strides c) v
+pub powered-put : (limits la : List ℕ) (v : ℕ) (m : Float) (a : List Float) {c : List ℕ} {ma mo z s k : ℕ}
+    {xs o : List Float} → Cuts la c v ma mo → c ≡ cutTo limits la → z ≡ count c → s ≡ at (strides c) v
     → xs ≡ table (count c) (λ p. readAt (block la a) (index c p)) → o ≡ table k (byPart m s (at c v * s) xs) → k ≡ z
     → (c ≡ powered limits v (block la a) m .lengths) × (o ≡ powered limits v (block la a) m .places)
 unfolding powered
@@ -50,7 +50,10 @@ powered-put limits la v m a {c} {s = s} {xs = xs} t ec ez es ex eo ek = (
   eo ∙ (ap (λ (n : ℕ). table n (byPart m s (at c v * s) xs)) (ek ∙ ez)
       ∙ (table-same _ _ (count c) (λ p h.
       let r : at (index c p) v ≡ p % (at c v * s) / s = row-of (own t refl) es refl refl p h in
-      let x : getD xs p nan ≡ readAt (block la a) (index c p) = ap (λ (l : List Float). getD l p nan) ex ∙ table-at nan (λ p. readAt (block la a) (index c p)) (count c) p h in
-      ap (λ (y : Float). mul binary64 y (power m (p % (at c v * s) / s))) x ∙ ap (λ (q : ℕ). mul binary64 (readAt (block la a) (index c p)) (power m q)) (sym r))
+      let x : getD xs p nan ≡ readAt (block la a) (index c p) =
+      ap (λ (l : List Float). getD l p nan) ex
+      ∙ table-at nan (λ p. readAt (block la a) (index c p)) (count c) p h in
+      ap (λ (y : Float). mul binary64 y (power m (p % (at c v * s) / s))) x
+      ∙ ap (λ (q : ℕ). mul binary64 (readAt (block la a) (index c p)) (power m q)) (sym r))
       ∙ (rw ec))),
 )

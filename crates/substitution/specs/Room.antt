@@ -63,7 +63,8 @@ unfoldable pub turns : List ℕ → ℕ → Block → ℕ → Block → Block �
 turns l v a zero b res = res
 turns l v a (suc k) b res = turns l v a k b (joinedBlock false (timesPut l res b) (rowAt l v a k))
 
--- k rows are left to do: no turn makes a length above `bound`, which grows by one less than what is put has, nor above the limit
+-- k rows are left to do: no turn makes a length above `bound`, which grows by one less than what is put has, nor above
+-- the limit
 pub record Hornering (la : List ℕ) (v k : ℕ) (r b c limits : List ℕ) (n ma mo mw : ℕ) : Type 0 where
   pub left : Lengths la
   pub var : v < 4

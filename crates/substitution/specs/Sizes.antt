@@ -1,4 +1,5 @@
--- What the announced lengths have room for: a row, what is put where there are two rows at least, and the result of every way.
+-- What the announced lengths have room for: a row, what is put where there are two rows at least, and the result of
+-- every way.
 use Prim.Native.Nat.{ℕ, _+_, _-_, _*_, _≤_, _<_, min}
 use mathlib.Core.List.{List, []}
 use mathlib.Core.Path.{_≡_, ap, _∙_}
@@ -14,12 +15,13 @@ use Rattle.model.specs.Limits.{cutTo}
 use Rattle.model.specs.Poly.{Block, block, readAt, cut}
 use Rattle.model.specs.Substitute.{rowAt, powered, substituted}
 use Rattle.shape_words.specs.Lengths.{Lengths, lengths-pos}
-use Rattle.blocks.specs.Rows.{Cutting}
+use Rattle.shape.specs.Cut.{cut-at}
+use Rattle.blocks.specs.Rows.{Cutting, inner-of}
 use Rattle.readings_row.specs.Rows.{Picking}
-use Rattle.laws_exact.specs.Sits.{cut-at, cut-sits}
+use Rattle.laws_exact.specs.Sits.{cut-sits}
 use Rattle.laws_exact.specs.SubstituteKeeps.{row-sits, substituted-most}
 use Rattle.product.specs.Room.{Under}
-use Rattle.product.specs.Ways.{under-lengths, inner-of, count-less, sits-under, ones-under}
+use Rattle.product.specs.Ways.{under-lengths, count-less, sits-under, ones-under}
 use Rattle.substitution.specs.Room.{rowOf, Puts, Cuts}
 use Rattle.substitution_turn.specs.Room.{Adding}
 
@@ -41,7 +43,16 @@ module _ {la c : List ℕ} {v ma mo : ℕ} (t : Cuts la c v ma mo) {r : List ℕ
   cuts-fits k = omega (arith, k, ap count e, t .fits)
 
   pub cuts-picks : {m : ℕ} → m ≡ count r → Picking la r v 0 ma m
-  cuts-picks k = record { from = t .left; to = cuts-lens; var = t .var; row = lengths-pos (t .left) v (t .var); inner = rw e (t .inner); room = omega (arith, t .full); full = k }
+  cuts-picks k =
+      record {
+        from = t .left;
+        to = cuts-lens;
+        var = t .var;
+        row = lengths-pos (t .left) v (t .var);
+        inner = rw e (t .inner);
+        room = omega (arith, t .full);
+        full = k;
+      }
 
   pub cuts-loads : {m : ℕ} → m ≡ count r → Cutting la r ma m
   cuts-loads k = record { from = t .left; to = cuts-lens; inner = rw e (inner-of (t .inner)); room = omega (arith, t .full); full = k }
@@ -50,7 +61,8 @@ module _ {la c : List ℕ} {v ma mo : ℕ} (t : Cuts la c v ma mo) {r : List ℕ
   cuts-own = rw e t
 
 -- a row's lengths and places
-pub row-parts : (l : List ℕ) (v : ℕ) (la : List ℕ) (a : List Float) (k : ℕ) {c : List ℕ} {xs : List Float} → c ≡ rowOf l v la → xs ≡ table (count c) (λ p. readAt (block la a) (set (index c p) v k))
+pub row-parts : (l : List ℕ) (v : ℕ) (la : List ℕ) (a : List Float) (k : ℕ) {c : List ℕ} {xs : List Float}
+    → c ≡ rowOf l v la → xs ≡ table (count c) (λ p. readAt (block la a) (set (index c p) v k))
     → (c ≡ rowAt l v (block la a) k .lengths) × (xs ≡ rowAt l v (block la a) k .places)
 unfolding rowAt
 row-parts l v la a k e f = (e, f ∙ (rw e))
@@ -73,10 +85,27 @@ module _ {la lb l : List ℕ} {v n ma mb mo mw : ℕ} (p : Puts la lb l v n ma m
   row-lens = under-lengths row-under (p .caps)
 
   pub row-cuts : Cuts la (rowOf l v la) v ma mo
-  row-cuts = record { left = p .left; to = row-lens; var = p .var; inner = row-in-la l la (p .var) (p .left); full = p .full-a; fits = omega (arith, p .out, row-small) }
+  row-cuts =
+      record {
+        left = p .left;
+        to = row-lens;
+        var = p .var;
+        inner = row-in-la l la (p .var) (p .left);
+        full = p .full-a;
+        fits = omega (arith, p .out, row-small);
+      }
 
   pub row-picks : {c : List ℕ} {k m : ℕ} → c ≡ rowOf l v la → k < at la v → m ≡ count c → Picking la c v k ma m
-  row-picks e h f = rw e (record { from = p .left; to = row-lens; var = p .var; row = h; inner = row-in-la l la (p .var) (p .left); room = omega (arith, p .full-a); full = rw e at f })
+  row-picks e h f =
+      rw e (record {
+        from = p .left;
+        to = row-lens;
+        var = p .var;
+        row = h;
+        inner = row-in-la l la (p .var) (p .left);
+        room = omega (arith, p .full-a);
+        full = rw e at f;
+      })
 
   pub put-under : Under l (cutTo l lb)
   unfolding cut
@@ -86,7 +115,14 @@ module _ {la lb l : List ℕ} {v n ma mb mo mw : ℕ} (p : Puts la lb l v n ma m
   put-lens e = rw e (under-lengths put-under (p .caps))
 
   pub put-loads : {c : List ℕ} {m : ℕ} → c ≡ cutTo l lb → m ≡ count c → Cutting lb c mb m
-  put-loads e k = record { from = p .right; to = put-lens e; inner = rw e (inner-of (λ k h. rw (cut-at l lb k h) (omega arith))); room = omega (arith, p .full-b); full = k }
+  put-loads e k =
+      record {
+        from = p .right;
+        to = put-lens e;
+        inner = rw e (inner-of (λ k h. rw (cut-at l lb k h) (omega arith)));
+        room = omega (arith, p .full-b);
+        full = k;
+      }
 
   -- where there are two rows at least
   put-most : 2 ≤ at la v → (k : ℕ) → k < 4 → at (cutTo l lb) k ≤ at (p .most) k

@@ -1,5 +1,6 @@
-// What is put for a variable of a polynomial. Scratch is used in blocks of n places, n the announced count: first what is put, cut to the
-// limits, then the running value of Horner's rule, then one row of the polynomial, then what the product needs.
+// What is put for a variable of a polynomial. Scratch is used in blocks of n places, n the announced count: first what
+// is put, cut to the limits, then the running value of Horner's rule, then one row of the polynomial, then what the
+// product needs.
 use model::Header;
 use readings_row::pick;
 use shape_words::places::count_of;
@@ -51,7 +52,9 @@ pub fn load_row(
     work: &mut [f64],
 )
     requires { ⌜ Picking la c v k (length (now a)) (count c) ⌝ ∗ ⌜ at + count c ≤ length (now work) ⌝ }
-    ensures { λ _. ⌜ Kept at (at + count c) (table (count c) (λ p. readAt (block la (now (a .entry))) (set (index c p) v k))) (now (work .entry)) (now (work .exit)) ⌝ }
+    ensures { λ _.
+        ⌜ Kept at (at + count c) (table (count c) (λ p. readAt (block la (now (a .entry))) (set (index c p) v k)))
+        (now (work .entry)) (now (work .exit)) ⌝ }
 {
     let e = at + count_of(c);
     pick(a, la, c, v, k, &mut work[at..e]);
@@ -95,7 +98,8 @@ pub fn line_put(
     c
 }
 
-// Horner's rule over the rows below k, the highest first: r the lengths of the running value, b those of what is put, c those of a row.
+// Horner's rule over the rows below k, the highest first: r the lengths of the running value, b those of what is put, c
+// those of a row.
 fn horner_rows(
     a: &[f64],
     la: [usize; 4],
@@ -109,8 +113,11 @@ fn horner_rows(
     out: &mut [f64],
     work: &mut [f64],
 ) -> [usize; 4]
-    requires { ⌜ Hornering la v k r b c limits n (length (now a)) (length (now out)) (length (now work)) ⌝ ∗ ⌜ take (count r) (now out) ≡ part n (n + count r) (now work) ⌝ }
-    ensures { λ x. ⌜ Stands (turns limits v (block la (now (a .entry))) k (block b (part 0 (count b) (now (work .entry)))) (block r (part n (n + count r) (now (work .entry))))) (now (out .exit)) x ⌝ }
+    requires { ⌜ Hornering la v k r b c limits n (length (now a)) (length (now out)) (length (now work)) ⌝
+        ∗ ⌜ take (count r) (now out) ≡ part n (n + count r) (now work) ⌝ }
+    ensures { λ x.
+        ⌜ Stands (turns limits v (block la (now (a .entry))) k (block b (part 0 (count b) (now (work .entry))))
+        (block r (part n (n + count r) (now (work .entry))))) (now (out .exit)) x ⌝ }
 {
     let mut left = k;
     let mut value = r;
@@ -123,7 +130,8 @@ fn horner_rows(
     value
 }
 
-// Neither: Horner's rule from the highest power of v, every power counted. Where there is one row alone, b is not needed, and may be too large.
+// Neither: Horner's rule from the highest power of v, every power counted. Where there is one row alone, b is not
+// needed, and may be too large.
 fn horner_put(
     a: &[f64],
     la: [usize; 4],
@@ -199,7 +207,8 @@ pub fn substitute_into(
 ) -> [usize; 4]
     requires { ⌜ Given x y h v n (length (now a)) (length (now b)) (length (now out)) (length (now work)) ⌝ }
     ensures lengths { λ r. ⌜ r ≡ putFor (x .vars) (h .limits) v (block (x .lengths) (now (a .entry))) (block (y .lengths) (now (b .entry))) .lengths ⌝ }
-    ensures written { λ r. ⌜ now (out .exit) ≡ padded n (putFor (x .vars) (h .limits) v (block (x .lengths) (now (a .entry))) (block (y .lengths) (now (b .entry))) .places) ⌝ }
+    ensures written { λ r. ⌜ now (out .exit) ≡ padded n (putFor (x .vars) (h .limits) v (block (x .lengths) (now (a .entry)))
+        (block (y .lengths) (now (b .entry))) .places) ⌝ }
 {
     let r = substitute_front(a, x, b, y, v, h, n, out, work);
     let z = count_of(r);

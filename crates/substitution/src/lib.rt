@@ -1,4 +1,5 @@
-// A polynomial put for a variable of another (document 01, port order 7). The entry takes any words, numbers and buffers.
+// A polynomial put for a variable of another (document 01, port order 7). The entry takes any words, numbers and
+// buffers.
 pub mod kernel;
 
 use model::Answer;

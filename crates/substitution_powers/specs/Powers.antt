@@ -11,7 +11,7 @@ use borrow.Rule.Slice.PartMut.{putMid}
 use Rattle.lists.specs.Table.{table, Filled, table-same}
 use Rattle.lists.specs.Walk.{walk, walk-more}
 use Rattle.model.specs.Readings.{oneF}
-use Rattle.blocks.specs.Fill.{filled-rest}
+use Rattle.lists.specs.Fill.{filled-rest}
 use Rattle.product_linear.specs.Rows.{Rows}
 use Rattle.product_linear.specs.Raised.{row-fits, rows-more}
 
@@ -53,8 +53,12 @@ pub begins-fits : {s mt at' : ℕ} → Whole s mt → Begins s at' → at' < mt 
 begins-fits w b h = row-fits (whole-rows w) (record { turns = b .turns; is-from = b .is; is-at = b .is }) h .1
 
 -- each place of a lent part was changed by g, which is what f is to do there
-pub part-more : (f g : ℕ → Float → Float) (w q : ℕ) {at' : ℕ} {d out o : List Float} → Filled at' (λ p. f p (getD d p nan)) d out → o ≡ table (length (take q (drop at' out))) (λ k. g k (getD (take q (drop at' out)) k nan))
-    → at' + w ≤ length d → q ≡ w → length (take q (drop at' out)) ≡ w → ((k : ℕ) (x : Float) → k < w → g k x ≡ f (at' + k) x) → Filled (at' + w) (λ p. f p (getD d p nan)) d (putMid at' q out o)
+pub part-more : (f g : ℕ → Float → Float) (w q : ℕ) {at' : ℕ} {d out o : List Float}
+    → Filled at' (λ p. f p (getD d p nan)) d out
+    → o ≡ table (length (take q (drop at' out))) (λ k. g k (getD (take q (drop at' out)) k nan))
+    → at' + w ≤ length d → q ≡ w → length (take q (drop at' out)) ≡ w
+    → ((k : ℕ) (x : Float) → k < w → g k x ≡ f (at' + k) x)
+    → Filled (at' + w) (λ p. f p (getD d p nan)) d (putMid at' q out o)
 part-more f g w q {at'} {d} {out} e r h eq l same =
     rows-more w q e
     (r ∙ (ap (λ (n : ℕ). table n (λ k. g k (getD (take q (drop at' out)) k nan))) l
@@ -85,8 +89,10 @@ power-next {m} {s} p e =
       is = e ∙ (ap (λ (x : Float). mul binary64 x m) (p .is) ∙ sym (walk-more (λ j f. mul binary64 f m) (p .turns) 0 oneF));
     }
 
-pub row-power : {m : Float} {s at' : ℕ} {f : Float} → Power m s at' f → (k : ℕ) (x : Float) → k < s → mul binary64 x f ≡ mul binary64 x (power m ((at' + k) / s))
+pub row-power : {m : Float} {s at' : ℕ} {f : Float} → Power m s at' f → (k : ℕ) (x : Float) → k < s
+    → mul binary64 x f ≡ mul binary64 x (power m ((at' + k) / s))
 row-power {m} {s} p k x h = ap (mul binary64 x) (p .is ∙ ap (power m) (sym (ap (λ (y : ℕ). (y + k) / s) (p .begins) ∙ digits-div (p .turns) h)))
 
-pub part-power : (m : Float) (s : ℕ) {width at' : ℕ} → Begins width at' → (k : ℕ) (x : Float) → k < width → mul binary64 x (power m (k / s)) ≡ mul binary64 x (power m ((at' + k) % width / s))
+pub part-power : (m : Float) (s : ℕ) {width at' : ℕ} → Begins width at' → (k : ℕ) (x : Float) → k < width
+    → mul binary64 x (power m (k / s)) ≡ mul binary64 x (power m ((at' + k) % width / s))
 part-power m s {width} b k x h = ap (λ (y : ℕ). mul binary64 x (power m (y / s))) (sym (ap (λ (y : ℕ). (y + k) % width) (b .is) ∙ digits-mod (b .turns) h))

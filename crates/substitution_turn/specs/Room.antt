@@ -47,7 +47,9 @@ timesPut l a b = cond (isZero a) (constantBlock zeroF) (productOf 1 l a b)
 
 -- what one turn makes of the three blocks
 abbrev pub turnOf : List ℕ → ℕ → List ℕ → List ℕ → List ℕ → List Float → Block
-turnOf l n r b c w = joinedBlock false (timesPut l (block r (part n (n + count r) w)) (block b (part 0 (count b) w))) (block c (part (2 * n) (2 * n + count c) w))
+turnOf l n r b c w =
+    joinedBlock false (timesPut l (block r (part n (n + count r) w)) (block b (part 0 (count b) w)))
+    (block c (part (2 * n) (2 * n + count c) w))
 
 -- p is the running value now, and stands at the front of `out` too; what is put stays
 pub record Turned (p : Block) (n : ℕ) (w w' out : List Float) (r : List ℕ) : Type 0 where

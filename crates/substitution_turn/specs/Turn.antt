@@ -11,7 +11,7 @@ use borrow.Rule.Slice.PartMut.{putMid}
 use lib.Ieee.{Float}
 use Rattle.lists.specs.Test.{of-both}
 use Rattle.lists.specs.Four.{at}
-use Rattle.lists.specs.Part.{part, length-part, Kept, below-less, below-then, below-part}
+use Rattle.lists.specs.Part.{part, length-part, Kept, below-less, below-then, below-part, kept-mid}
 use Rattle.model.specs.Header.{count, ones, span}
 use Rattle.model.specs.Limits.{sumShape, maxShape}
 use Rattle.model.specs.Refusals.{zeroF}
@@ -23,7 +23,8 @@ use Rattle.laws_exact.specs.Sits.{Sits, max-at}
 use Rattle.laws_exact.specs.Keeps.{joined-sits}
 use Rattle.laws_exact.specs.ProductKeeps.{product-sits, constant-sits, left-fits}
 use Rattle.product.specs.Room.{Under, Joins, Room, Put, Stands, Made}
-use Rattle.product.specs.Ways.{under-lengths, count-less, under-sits, sits-under, under-more, shape-under, shape-left, shape-right, put-stands, put-made, kept-mid}
+use Rattle.product.specs.Ways.{under-lengths, count-less, under-sits, sits-under, under-more, shape-under, shape-left}
+use Rattle.product.specs.Ways.{shape-right, put-stands, put-made}
 use Rattle.substitution_turn.specs.Room.{Adding, Turning, timesPut, turnOf, Turned}
 
 -- a block by its lengths and its places
@@ -37,7 +38,8 @@ module _ (limits : List ℕ) (a b : Block) where
   unfolding timesPut
   zero-made t p = rw t (put-made p)
 
-  pub other-made : {s : ℕ} {w w' out : List Float} {r : List ℕ} → isZero a ≡ false → Made (productOf 1 limits a b) s w w' out r → Made (timesPut limits a b) s w w' out r
+  pub other-made : {s : ℕ} {w w' out : List Float} {r : List ℕ} → isZero a ≡ false
+      → Made (productOf 1 limits a b) s w w' out r → Made (timesPut limits a b) s w w' out r
   unfolding timesPut
   other-made t m = rw t m
 
@@ -66,7 +68,8 @@ module _ {k c : List ℕ} {n mo mw : ℕ} (g : Adding k c n mo mw) where
   max-small = omega (arith, g .all, count-less (g .most) (maxShape k c) (max-under .hi))
 
   -- o the buffer whose front holds one, w the work that holds the other; w1 with the first kept
-  module _ (o : List Float) {w w1 : List Float} (lo : length o ≡ mo) (lw : length w ≡ mw) {z y : ℕ} (ez : z ≡ count k) (ey : y ≡ count c) (k1 : Kept (3 * n) (3 * n + z) (take z o) w w1) where
+  module _ (o : List Float) {w w1 : List Float} (lo : length o ≡ mo) (lw : length w ≡ mw) {z y : ℕ} (ez : z ≡ count k)
+      (ey : y ≡ count c) (k1 : Kept (3 * n) (3 * n + z) (take z o) w w1) where
     left-is : part (3 * n) (3 * n + z) w1 ≡ take (count k) o
     left-is = k1 .holds ∙ ap (λ (j : ℕ). take j o) ez
 
@@ -95,7 +98,9 @@ module _ {k c : List ℕ} {n mo mw : ℕ} (g : Adding k c n mo mw) where
     unfolding sum
     sum-sits = joined-sits false (under-sits (g .left) left-full) (under-sits (g .right) right-full)
 
-    module _ {o1 : List Float} {r : List ℕ} (p : Put (joinedBlock false (block k (part (3 * n) (3 * n + z) w1)) (block c (part (2 * n) (2 * n + y) w1))) o o1 r) where
+    module _ {o1 : List Float} {r : List ℕ} (p : Put
+        (joinedBlock false (block k (part (3 * n) (3 * n + z) w1)) (block c (part (2 * n) (2 * n + y) w1))) o o1
+        r) where
       stands : Stands sum o1 r
       unfolding sum
       stands = rw (left-is, right-is) at (put-stands p)
@@ -175,7 +180,13 @@ module _ {r b c limits : List ℕ} {n mo mw : ℕ} (t : Turning r b c limits n m
             left = under-more (λ j h. rw (max-at (sumShape limits r b) c j h) (omega arith)) u;
             right = record { ns = t .row .ns; lo = t .row .lo; hi = λ j h. rw (max-at (sumShape limits r b) c j h) (omega arith) };
             caps = record { most = λ j h. rw (max-at (sumShape limits r b) c j h) (omega (arith, t .caps .most j h, in-shape .hi j h, t .row .hi j h)) };
-            all = omega (arith, t .all, count-less (t .most) (maxShape (sumShape limits r b) c) (λ j h. rw (max-at (sumShape limits r b) c j h) (omega (arith, t .in-p j h, t .in-c j h))));
+            all =
+                omega (
+                  arith,
+                  t .all,
+                  count-less (t .most) (maxShape (sumShape limits r b) c)
+                      (λ j h. rw (max-at (sumShape limits r b) c j h) (omega (arith, t .in-p j h, t .in-c j h))),
+                );
             small = t .small;
             out = e1 ∙ t .out;
             work = e2 ∙ t .work;
@@ -186,10 +197,13 @@ module _ {r b c limits : List ℕ} {n mo mw : ℕ} (t : Turning r b c limits n m
           let f : count k ≡ length (timesPut limits value put .places) = ap count (m .stands .lengths) ∙ sym (made-sits .full) in
           block-is (m .stands .lengths) (ap (λ (j : ℕ). take j o1) f ∙ m .stands .front)
 
-      pub turn-turned : {w2 o2 : List Float} {x : List ℕ} → Turned (joinedBlock false (block k (take (count k) o1)) (block c (part (2 * n) (2 * n + count c) w1))) n w1 w2 o2 x
+      pub turn-turned : {w2 o2 : List Float} {x : List ℕ}
+          → Turned (joinedBlock false (block k (take (count k) o1)) (block c (part (2 * n) (2 * n + count c) w1))) n w1
+          w2 o2 x
           → Turned (turnOf limits n r b c w) n w w2 o2 x
       turn-turned {w2} {o2} {x} d =
-          let q : part (2 * n) (2 * n + count c) w1 ≡ part (2 * n) (2 * n + count c) w = below-part (2 * n) (2 * n + count c) (m .below) (omega arith) (omega (arith, turn-row)) in
+          let q : part (2 * n) (2 * n + count c) w1 ≡ part (2 * n) (2 * n + count c) w =
+          below-part (2 * n) (2 * n + count c) (m .below) (omega arith) (omega (arith, turn-row)) in
           let p : joinedBlock false (block k (take (count k) o1)) (block c (part (2 * n) (2 * n + count c) w1)) ≡ turnOf limits n r b c w =
           rw (made-is, q, ee, ef) in
           let d' : Turned (turnOf limits n r b c w) n w1 w2 o2 x = rw p at d in
@@ -203,9 +217,22 @@ module _ {c : List ℕ} {n mo mw : ℕ} (g : Adding ones c n mo mw) where
 
   module _ {o1 : List Float} {k : List ℕ} {o : List Float} (z : Put (constantBlock zeroF) o o1 k) where
     pub first-adding : {m1 : ℕ} → m1 ≡ mo → Adding k c n m1 mw
-    first-adding e = rw (z .lengths) (record { most = g .most; left = g .left; right = g .right; caps = g .caps; all = g .all; small = g .small; out = e ∙ g .out; work = g .work })
+    first-adding e =
+        rw (z .lengths)
+        (record {
+          most = g .most;
+          left = g .left;
+          right = g .right;
+          caps = g .caps;
+          all = g .all;
+          small = g .small;
+          out = e ∙ g .out;
+          work = g .work;
+        })
 
-    pub first-turned : {w w2 o2 : List Float} {x : List ℕ} → Turned (joinedBlock false (block k (take (count k) o1)) (block c (part (2 * n) (2 * n + count c) w))) n w w2 o2 x
+    pub first-turned : {w w2 o2 : List Float} {x : List ℕ}
+        → Turned (joinedBlock false (block k (take (count k) o1)) (block c (part (2 * n) (2 * n + count c) w))) n w w2
+        o2 x
         → Turned (joinedBlock false (constantBlock zeroF) (block c (part (2 * n) (2 * n + count c) w))) n w w2 o2 x
     unfolding span
     first-turned {w} {w2} {o2} {x} d =
@@ -226,7 +253,8 @@ front-kept w {xs} {o} {z} {m} e l ez h =
     }
 
 -- a part of a buffer became xs
-pub row-kept : (p : ℕ) (w : List Float) {xs o : List Float} {z m : ℕ} → o ≡ xs → length xs ≡ m → z ≡ m → p + m ≤ length w → Kept p (p + m) xs w (putMid p (p + z - p) w o)
+pub row-kept : (p : ℕ) (w : List Float) {xs o : List Float} {z m : ℕ} → o ≡ xs → length xs ≡ m → z ≡ m
+    → p + m ≤ length w → Kept p (p + m) xs w (putMid p (p + z - p) w o)
 row-kept p w {xs} {o} {z} {m} e l ez h =
     let t : take m xs ≡ xs = ap (λ (j : ℕ). take j xs) (sym l) ∙ take-length xs in
     let k : p + z - p ≡ m = omega arith in

@@ -1,5 +1,5 @@
-// One turn of Horner's rule inside a lent buffer, which is used in blocks of n places: what is put, cut to the limits, then the running value, then one row of the
-// polynomial, then what the product needs.
+// One turn of Horner's rule inside a lent buffer, which is used in blocks of n places: what is put, cut to the limits,
+// then the running value, then one row of the polynomial, then what the product needs.
 use product::kernel::add_blocks;
 use product::kernel::is_zero;
 use product::kernel::keep;
@@ -18,7 +18,8 @@ ghost use Rattle.model.specs.Product.{constantBlock};
 ghost use Rattle.product.specs.Room.{Room, Made};
 ghost use Rattle.substitution_turn.specs.Room.{Adding, Turning, timesPut, turnOf, Turned};
 
-// The product of the blocks pa..ea and pb..eb, which are cut to the limits already; the right one was tested for zero before.
+// The product of the blocks pa..ea and pb..eb, which are cut to the limits already; the right one was tested for zero
+// before.
 fn times_put(
     work: &mut [f64],
     pa: usize,
@@ -32,7 +33,9 @@ fn times_put(
     out: &mut [f64],
 ) -> [usize; 4]
     requires { ⌜ Room (now work) pa ea la pb eb lb spare limits 1 (length (now out)) ⌝ }
-    ensures { λ r. ⌜ Made (timesPut limits (block la (part pa ea (now (work .entry)))) (block lb (part pb eb (now (work .entry))))) spare (now (work .entry)) (now (work .exit)) (now (out .exit)) r ⌝ }
+    ensures { λ r.
+        ⌜ Made (timesPut limits (block la (part pa ea (now (work .entry)))) (block lb (part pb eb (now (work .entry)))))
+        spare (now (work .entry)) (now (work .exit)) (now (out .exit)) r ⌝ }
 {
     if is_zero(&work[pa..ea], la) {
         return zero_to(out);
@@ -43,7 +46,10 @@ fn times_put(
 // The block at the front of `out`, whose lengths are k, plus the row: the running value.
 fn plus_row(work: &mut [f64], n: usize, k: [usize; 4], c: [usize; 4], out: &mut [f64]) -> [usize; 4]
     requires { ⌜ Adding k c n (length (now out)) (length (now work)) ⌝ }
-    ensures { λ r. ⌜ Turned (joinedBlock false (block k (take (count k) (now (out .entry)))) (block c (part (2 * n) (2 * n + count c) (now (work .entry))))) n (now (work .entry)) (now (work .exit)) (now (out .exit)) r ⌝ }
+    ensures { λ r.
+        ⌜ Turned (joinedBlock false (block k (take (count k) (now (out .entry))))
+        (block c (part (2 * n) (2 * n + count c) (now (work .entry))))) n (now (work .entry))
+        (now (work .exit)) (now (out .exit)) r ⌝ }
 {
     let row = 2 * n;
     let spare = 3 * n;
@@ -57,7 +63,8 @@ fn plus_row(work: &mut [f64], n: usize, k: [usize; 4], c: [usize; 4], out: &mut 
     r
 }
 
-// One turn of Horner's rule, cut to the limits: the running value, whose lengths are r, times what is put, whose lengths are b, plus the row.
+// One turn of Horner's rule, cut to the limits: the running value, whose lengths are r, times what is put, whose
+// lengths are b, plus the row.
 pub fn turn(
     work: &mut [f64],
     n: usize,
@@ -79,7 +86,10 @@ pub fn turn(
 // The first turn, a zero of stored count 1 times what is put: it asks nothing of that.
 pub fn first_turn(work: &mut [f64], n: usize, c: [usize; 4], out: &mut [f64]) -> [usize; 4]
     requires { ⌜ Adding ones c n (length (now out)) (length (now work)) ⌝ }
-    ensures { λ r. ⌜ Turned (joinedBlock false (constantBlock zeroF) (block c (part (2 * n) (2 * n + count c) (now (work .entry))))) n (now (work .entry)) (now (work .exit)) (now (out .exit)) r ⌝ }
+    ensures { λ r.
+        ⌜ Turned (joinedBlock false (constantBlock zeroF)
+        (block c (part (2 * n) (2 * n + count c) (now (work .entry))))) n (now (work .entry))
+        (now (work .exit)) (now (out .exit)) r ⌝ }
 {
     let k = zero_to(out);
     plus_row(work, n, k, c, out)

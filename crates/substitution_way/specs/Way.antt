@@ -11,7 +11,8 @@ use Rattle.model.specs.Linear.{noLinear, linear}
 use Rattle.model.specs.Product.{isZero, way}
 use Rattle.model.specs.Substitute.{substituted}
 
--- Which way b goes for v, of `vars` variables: 0 the variable is not there, 1 b is zero, 2 b is linear in v with c zero, 3 Horner; with the line.
+-- Which way b goes for v, of `vars` variables: 0 the variable is not there, 1 b is zero, 2 b is linear in v with c
+-- zero, 3 Horner; with the line.
 unfoldable pub wayOf : ℕ → ℕ → Block → Way
 wayOf vars v b =
     let line = linear b in

@@ -1,29 +1,23 @@
 -- What `negate` shows at its returns, over plain values.
 use Prim.Native.Nat.{ℕ, _^_, _≤_, _<_}
-use mathlib.Core.List.{List, _++_}
-use mathlib.Core.Path.{_≡_, refl, sym, ap, _∙_}
+use mathlib.Core.List.{List}
+use mathlib.Core.Path.{_≡_, sym, ap, _∙_}
 use native.Mathlib.Omega.{arith}
-use lib.ListN.{length, getD, take, drop}
+use lib.ListN.{length, take}
 use lib.Seq.{getD-take}
 use lib.Ieee.{Float, nan, neg}
 use Rattle.lists.specs.Table.{table, front, table-same, length-table}
-use Rattle.model.specs.declared.Header.{Header}
 use Rattle.model.specs.declared.Refusal.{Refusal}
 use Rattle.model.specs.declared.Answer.the-variants.{Done, Refused}
 use Rattle.model.specs.declared.Family.the-variants.{Same}
-use Rattle.model.specs.Header.{stored, noHeader, limit, len}
+use Rattle.model.specs.Header.{stored, noHeader}
 use Rattle.model.specs.Word.{headerOf, wordOf}
-use Rattle.model.specs.Announced.{announced, single}
+use Rattle.model.specs.Announced.{announced}
 use Rattle.model.specs.Gates.{announcedOne}
 use Rattle.model.specs.Negate.{negatedAt, negated, negateGate, negateAnswer, negateOut}
-use Rattle.shape_words.specs.Rules.{Regular}
 use Rattle.shape_words.specs.Words.{pack-unpack}
+use Rattle.shape.specs.Announced.{same-header}
 use Rattle.gates.specs.Gate.{OneReady, one-ready, answer-no, answer-yes, leaves-no, leaves-yes, written-full}
-
--- the announced header of a header that keeps the rules is that header
-pub same-header : {h : Header} → Regular h → announced Same h noHeader ≡ h
-unfolding announced single
-same-header {h} r = let e : h ≡ single Same h = λ i. record { vars = h .vars; limits = r .ls i; lengths = r .ns i } in sym e
 
 -- refused
 module _ (w : ℕ) (a out : List Float) {r : Refusal} (e : r ≡ negateGate w a out) (n : r .number ≡ 0 → ⊥) where
@@ -57,4 +51,6 @@ module _ (w : ℕ) (a out : List Float) {r : Refusal} (fit : w < 2 ^ 64) (e : r 
       rw (← e, h, k, t) (written-full m _ out (length-table (negatedAt (take m a)) m) ∙ leaves-yes r _ out z)
 
 pub negate-room : (w : ℕ) (a out : List Float) {n : ℕ} → OneReady Same w (length a) (length out) → n ≡ stored (headerOf w) → (n ≤ length a) × (n ≤ length out)
-negate-room w a out g k = let h : stored (announcedOne Same w) ≡ stored (headerOf w) = ap stored (same-header (g .good .regular)) in (omega (arith, g .full), omega (arith, g .room))
+negate-room w a out g k = let h : stored (announcedOne Same w) ≡ stored (headerOf w) =
+    ap stored (same-header (g .good .regular)) in
+    (omega (arith, g .full), omega (arith, g .room))

@@ -1,33 +1,31 @@
 -- What the sum of two operands asks, and what its entry shows.
-use Prim.Native.Nat.{ℕ, _+_, _-_, _*_, _≤_, _<_, min, max}
-use mathlib.Core.List.{List, [], _∷_, _++_}
-use mathlib.Core.Bool.{Bool, true, false}
+use Prim.Native.Nat.{ℕ, _-_, _*_, _≤_, _<_}
+use mathlib.Core.List.{List}
+use mathlib.Core.Bool.{Bool}
 use mathlib.Core.Path.{_≡_, refl, sym, ap, _∙_}
 use native.Mathlib.Omega.{arith}
-use native.Mathlib.Nat.{mul-le-mul, le-refl}
-use lib.ListN.{length, take, drop}
-use lib.Seq.{length-take-le}
+use lib.ListN.{take, drop}
 use lib.Ieee.{Float}
-use Rattle.lists.specs.Four.{at, four, at-four, each}
-use Rattle.lists.specs.Table.{table, length-table}
+use Rattle.lists.specs.Four.{at}
+use Rattle.lists.specs.Table.{length-table}
 use Rattle.model.specs.declared.Header.{Header}
 use Rattle.model.specs.declared.Family.the-variants.{Sum}
-use Rattle.model.specs.Header.{header, count, stored, len, limit}
+use Rattle.model.specs.Header.{header, count, stored}
 use Rattle.model.specs.Word.{headerOf}
-use Rattle.model.specs.Limits.{cutTo, maxShape, minDegreesP1}
+use Rattle.model.specs.Limits.{cutTo, maxShape}
 use Rattle.model.specs.Announced.{announced, paired}
-use Rattle.model.specs.Poly.{Block, block, held, cut}
+use Rattle.model.specs.Poly.{block, held, cut}
 use Rattle.model.specs.Add.{joined, joinedBlock, combined}
 use Rattle.gates.specs.Gate.{PairReady}
-use Rattle.shape_words.specs.Rules.{Ruled, Regular, Good, ruled-at}
-use Rattle.shape_words.specs.Lengths.{Lengths, lengths-of, count-is}
-use Rattle.shape.specs.Limits.{min-degrees-range}
+use Rattle.shape_words.specs.Rules.{Ruled, ruled-at}
+use Rattle.shape_words.specs.Lengths.{Lengths, lengths-of}
 use Rattle.shape.specs.Cut.{cut-lengths}
-use Rattle.blocks.specs.Rows.{Inner}
+use Rattle.blocks.specs.Rows.{Inner, count-inner}
 use Rattle.blocks.specs.Two.{Two, Holds, cutPlaces, cut-is}
 use Rattle.blocks.specs.Combine.{Combining}
 
--- la and lb the operands' lengths, l the limits, r the result's lengths, n its count; the rest the lengths of the buffers
+-- la and lb the operands' lengths, l the limits, r the result's lengths, n its count; the rest the lengths of the
+-- buffers
 pub record Summing (la lb l r : List ℕ) (n ma mb mo mw : ℕ) : Type 0 where
   pub left : Lengths la
   pub right : Lengths lb
@@ -43,10 +41,6 @@ pub record Summing (la lb l r : List ℕ) (n ma mb mo mw : ℕ) : Type 0 where
 cut-inner : (l n : List ℕ) → Inner n (cutTo l n)
 unfolding cutTo
 cut-inner l n = record { c0 = omega arith; c1 = omega arith; c2 = omega arith; c3 = omega arith }
-
--- lengths that are no greater have no greater count
-count-inner : {n c : List ℕ} → Inner n c → count c ≤ count n
-count-inner {n} {c} i = rw (count-is n, count-is c) (mul-le-mul (i .c0) (mul-le-mul (i .c1) (mul-le-mul (i .c2) (i .c3))))
 
 shape-left : (n m : List ℕ) → Inner (maxShape n m) n
 unfolding maxShape
@@ -112,7 +106,8 @@ module _ {la lb l r : List ℕ} {n ma mb mo mw : ℕ} (s : Summing la lb l r n m
 -- The entry.
 
 -- the announced lengths are those of the joined block
-sum-lengths : (a b : Header) → maxShape (cutTo (announced Sum a b .limits) (a .lengths)) (cutTo (announced Sum a b .limits) (b .lengths)) ≡ announced Sum a b .lengths
+sum-lengths : (a b : Header) → maxShape (cutTo (announced Sum a b .limits) (a .lengths))
+    (cutTo (announced Sum a b .limits) (b .lengths)) ≡ announced Sum a b .lengths
 unfolding announced paired maxShape cutTo
 sum-lengths a b = refl
 
@@ -139,12 +134,14 @@ module _ {w u ma mb mo ms : ℕ} (g : PairReady Sum w ma u mb mo ms) where
       }
 
 -- the value
-module _ (minus : Bool) (w : ℕ) (a : List Float) (u : ℕ) (b : List Float) {x y h : Header} (ex : x ≡ headerOf w) (ey : y ≡ headerOf u) (eh : h ≡ announced Sum x y) where
+module _ (minus : Bool) (w : ℕ) (a : List Float) (u : ℕ) (b : List Float) {x y h : Header} (ex : x ≡ headerOf w)
+    (ey : y ≡ headerOf u) (eh : h ≡ announced Sum x y) where
   pub sum-head : h ≡ combined minus (held w a) (held u b) .head
   unfolding combined joinedBlock cut
   sum-head =
       let k : h ≡ announced Sum (headerOf w) (headerOf u) = eh ∙ (rw (ex, ey)) in
-      k ∙ ap (λ (n : List ℕ). header (announced Sum (headerOf w) (headerOf u) .vars) (announced Sum (headerOf w) (headerOf u) .limits) n) (sym (sum-lengths (headerOf w) (headerOf u)))
+      k ∙ ap (λ (n : List ℕ). header (announced Sum (headerOf w) (headerOf u) .vars)
+      (announced Sum (headerOf w) (headerOf u) .limits) n) (sym (sum-lengths (headerOf w) (headerOf u)))
 
   pub sum-coeffs : {na nb : ℕ} {o : List Float} → na ≡ stored x → nb ≡ stored y
       → o ≡ joinedBlock minus (cut (h .limits) (block (x .lengths) (take na a))) (cut (h .limits) (block (y .lengths) (take nb b))) .places

@@ -5,7 +5,8 @@ ghost use Rattle.model.specs.Poly.{block, cut};
 ghost use Rattle.model.specs.Add.{joinedBlock};
 ghost use Rattle.sums_cut.specs.Summing.{Summing};
 
-// The sum or the difference of two polynomials with the lengths la and lb, cut to the limits; r are the lengths of the result, n its count.
+// The sum or the difference of two polynomials with the lengths la and lb, cut to the limits; r are the lengths of the
+// result, n its count.
 pub fn sum_into(
     minus: bool,
     a: &[f64],

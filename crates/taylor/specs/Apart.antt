@@ -1,5 +1,6 @@
--- The face: the two kinds of answer cannot be confused. The low five bits of an answered word are the refusal's number, 0 where there is none:
--- a header word ends in 13 zero bits, and gates refuse by 1 to 6. What was answered is read back from the word.
+-- The face: the two kinds of answer cannot be confused. The low five bits of an answered word are the refusal's number,
+-- 0 where there is none: a header word ends in 13 zero bits, and gates refuse by 1 to 6. What was answered is read back
+-- from the word.
 use Prim.Native.Nat.{ℕ, zero, suc, _+_, _/_, _%_, _^_, _≤_, _<_}
 use mathlib.Core.List.{List}
 use mathlib.Core.Bool.{Bool, true, false, _&&_, cond}
@@ -22,11 +23,15 @@ use Rattle.model.specs.Header.{limit, zeroWith, varWith}
 use Rattle.model.specs.Word.{headerOf, goodWord, wordOf}
 use Rattle.model.specs.Places.{inside}
 use Rattle.model.specs.Refusals.{refusedAt, noRefusal, isNone, ask, fits, roomy, answerBy, readBy, linearBy}
-use Rattle.model.specs.Gates.{full, noMissing, readGate, indexGate, tailGate, oneGate, workGate, inGate, pairGate, goodLimit, goodLimits, withGate, varWithGate, varHeader, varGate, announcedOne, announcedPair}
+use Rattle.model.specs.Gates.{full, noMissing, readGate, indexGate, tailGate, oneGate, workGate, inGate, pairGate}
+use Rattle.model.specs.Gates.{goodLimit, goodLimits, withGate, varWithGate, varHeader, varGate, announcedOne}
+use Rattle.model.specs.Gates.{announcedPair}
 use Rattle.model.specs.Poly.{Poly, Block, blockOf, held}
 use Rattle.model.specs.Linear.{linearIn, lineOf, linearFrom, linear}
 use Rattle.model.specs.Answers.{answered}
-use Rattle.model.specs.Readings.{coefficientAnswer, constantTermAnswer, evaluateAllOneAnswer, extractLinearAnswer, taylorPolynomialGate, taylorPolynomialAnswer, coefficientsOfTermGate, coefficientsOfTermAnswer}
+use Rattle.model.specs.Readings.{coefficientAnswer, constantTermAnswer, evaluateAllOneAnswer, extractLinearAnswer}
+use Rattle.model.specs.Readings.{taylorPolynomialGate, taylorPolynomialAnswer, coefficientsOfTermGate}
+use Rattle.model.specs.Readings.{coefficientsOfTermAnswer}
 use Rattle.model.specs.Tail.{tailAnswer}
 use Rattle.model.specs.Negate.{negateGate, negateAnswer}
 use Rattle.model.specs.Add.{sumGate, sumAnswer}

@@ -1,5 +1,6 @@
--- The face: one word an answer. Done, the header word; refused, number + 256 * place. A reading that gives a float answers 0 and writes the
--- float, or answers the refusal and writes nothing; `extract_linear` answers 0 for no, 1 + variable for yes, and a refusal + 2^32.
+-- The face: one word an answer. Done, the header word; refused, number + 256 * place. A reading that gives a float
+-- answers 0 and writes the float, or answers the refusal and writes nothing; `extract_linear` answers 0 for no, 1 +
+-- variable for yes, and a refusal + 2^32.
 use Prim.Native.Nat.{ℕ, _+_, _*_, _^_}
 use mathlib.Core.Bool.{cond}
 use mathlib.Core.List.{List, [], _∷_}

@@ -1,5 +1,6 @@
--- The face: what the check and the run of a recipe answered is read back, from the word and, of the check, from the totals that were written. Both refuse by
--- 1 to 7, so that the 0 of accepted or done stands for nothing else. What stood where the totals go makes no difference.
+-- The face: what the check and the run of a recipe answered is read back, from the word and, of the check, from the
+-- totals that were written. Both refuse by 1 to 7, so that the 0 of accepted or done stands for nothing else. What
+-- stood where the totals go makes no difference.
 use Prim.Native.Nat.{ℕ, _<_}
 use mathlib.Core.Bool.{false, cond}
 use mathlib.Core.List.{List}
@@ -50,7 +51,8 @@ module _ (r : Refusal) (few : r .number < 256) where
 -- ---- the entries
 
 pub check-back : (hs ss : List ℕ) (pool largest inputs : ℕ)
-    → checkFrom (wordOfCheck (checkAnswer hs ss)) (poolAfter (checkAnswer hs ss) pool) (largestAfter (checkAnswer hs ss) largest) (inputsAfter (checkAnswer hs ss) inputs)
+    → checkFrom (wordOfCheck (checkAnswer hs ss)) (poolAfter (checkAnswer hs ss) pool)
+    (largestAfter (checkAnswer hs ss) largest) (inputsAfter (checkAnswer hs ss) inputs)
     ≡ checkAnswer hs ss
 unfolding checkAnswer
 check-back hs ss pool largest inputs = by-check (checkRefusal hs ss) (omega (arith, check-small hs ss)) _ _ _ pool largest inputs

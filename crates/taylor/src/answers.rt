@@ -7,7 +7,9 @@ use model_recipes::CheckAnswer;
 use model_recipes::RunAnswer;
 ghost use mathlib.Core.Path.{_≡_};
 ghost use Prim.Native.Nat.{_<_};
-ghost use Rattle.taylor.specs.Face.{wordOfRefusal, wordOfAnswer, wordOfReading, valueAfter, variableOf, wordOfLinear, constantAfter, factorAfter, wordOfCheck, poolAfter, largestAfter, inputsAfter, wordOfRun};
+ghost use Rattle.taylor.specs.Face.{wordOfRefusal, wordOfAnswer, wordOfReading, valueAfter, variableOf};
+ghost use Rattle.taylor.specs.Face.{wordOfLinear, constantAfter, factorAfter, wordOfCheck, poolAfter};
+ghost use Rattle.taylor.specs.Face.{largestAfter, inputsAfter, wordOfRun};
 
 // A refusal as one word.
 fn refusal_word(r: Refusal) -> u64

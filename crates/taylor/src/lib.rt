@@ -1,5 +1,6 @@
 // The face for C, Rust and Python: every entry under its name with `taylor_` before it, its answer as one word.
-// A header word's low five bits are zero, a refusal's are not (specs/Face.antt, specs/Apart.antt). Four limits or four indices are four words.
+// A header word's low five bits are zero, a refusal's are not (specs/Face.antt, specs/Apart.antt). Four limits or four
+// indices are four words.
 mod answers;
 
 use answers::put;
@@ -15,7 +16,9 @@ ghost use Rattle.model.specs.Refusals.{zeroF};
 ghost use Rattle.model.specs.Gates.{withGate, varWithGate, varHeader, varGate};
 ghost use Rattle.model.specs.Answers.{answered, outAfter};
 ghost use Rattle.model.specs.Constructed.{constant, wholeF, variable};
-ghost use Rattle.model.specs.Readings.{oneF, coefficientAnswer, constantTermAnswer, evaluateAllOneAnswer, extractLinearAnswer, taylorPolynomialAnswer, taylorPolynomialOut, coefficientsOfTermAnswer, coefficientsOfTermOut};
+ghost use Rattle.model.specs.Readings.{oneF, coefficientAnswer, constantTermAnswer, evaluateAllOneAnswer};
+ghost use Rattle.model.specs.Readings.{extractLinearAnswer, taylorPolynomialAnswer, taylorPolynomialOut};
+ghost use Rattle.model.specs.Readings.{coefficientsOfTermAnswer, coefficientsOfTermOut};
 ghost use Rattle.model.specs.Tail.{tailAnswer};
 ghost use Rattle.model.specs.Negate.{negateAnswer, negateOut};
 ghost use Rattle.model.specs.Add.{sumAnswer, sumOut, sumScratch};
@@ -27,7 +30,8 @@ ghost use Rattle.model.specs.Shifts.{derivativeAnswer, derivativeOut, expansion
 ghost use Rattle.model.specs.Substitute.{substituteAnswer, substituteOut, substituteScratch};
 ghost use Rattle.model_recipes.specs.Check.{checkAnswer};
 ghost use Rattle.model_recipes.specs.Run.{runAnswer, runPool, runWords, runScratch};
-ghost use Rattle.taylor.specs.Face.{fourOf, wordOfAnswer, wordOfReading, valueAfter, wordOfLinear, constantAfter, factorAfter, wordOfCheck, poolAfter, largestAfter, inputsAfter, wordOfRun};
+ghost use Rattle.taylor.specs.Face.{fourOf, wordOfAnswer, wordOfReading, valueAfter, wordOfLinear, constantAfter};
+ghost use Rattle.taylor.specs.Face.{factorAfter, wordOfCheck, poolAfter, largestAfter, inputsAfter, wordOfRun};
 
 // +0.0, with no variables: refusal 5.
 #[no_mangle]
@@ -51,7 +55,8 @@ pub extern "C" fn taylor_one(out: &mut [f64]) -> u64
 #[no_mangle]
 pub extern "C" fn taylor_from_u32(c: u32, out: &mut [f64]) -> u64
     ensures answer { λ r. ⌜ r ≡ wordOfAnswer (answered (withGate 0 ones (length (now (out .entry)))) (constant noHeader (wholeF c))) ⌝ }
-    ensures written { λ r. ⌜ now (out .exit) ≡ outAfter (withGate 0 ones (length (now (out .entry)))) noHeader (constant noHeader (wholeF c)) (now (out .entry)) ⌝ }
+    ensures written { λ r. ⌜ now (out .exit) ≡ outAfter (withGate 0 ones (length (now (out .entry)))) noHeader
+        (constant noHeader (wholeF c)) (now (out .entry)) ⌝ }
 {
     word_of(readings::from_u32(c, out))
 }
@@ -66,8 +71,11 @@ pub extern "C" fn taylor_zero_with(
     l3: u64,
     out: &mut [f64],
 ) -> u64
-    ensures answer { λ r. ⌜ r ≡ wordOfAnswer (answered (withGate vars (fourOf l0 l1 l2 l3) (length (now (out .entry)))) (constant (zeroWith vars (fourOf l0 l1 l2 l3)) zeroF)) ⌝ }
-    ensures written { λ r. ⌜ now (out .exit) ≡ outAfter (withGate vars (fourOf l0 l1 l2 l3) (length (now (out .entry)))) (zeroWith vars (fourOf l0 l1 l2 l3)) (constant (zeroWith vars (fourOf l0 l1 l2 l3)) zeroF) (now (out .entry)) ⌝ }
+    ensures answer { λ r. ⌜ r ≡ wordOfAnswer (answered (withGate vars (fourOf l0 l1 l2 l3) (length (now (out .entry))))
+        (constant (zeroWith vars (fourOf l0 l1 l2 l3)) zeroF)) ⌝ }
+    ensures written { λ r. ⌜ now (out .exit) ≡ outAfter (withGate vars (fourOf l0 l1 l2 l3) (length (now (out .entry))))
+        (zeroWith vars (fourOf l0 l1 l2 l3)) (constant (zeroWith vars (fourOf l0 l1 l2 l3)) zeroF)
+        (now (out .entry)) ⌝ }
 {
     word_of(readings::zero_with(
         vars as usize,
@@ -87,8 +95,11 @@ pub extern "C" fn taylor_from_u32_with(
     l3: u64,
     out: &mut [f64],
 ) -> u64
-    ensures answer { λ r. ⌜ r ≡ wordOfAnswer (answered (withGate vars (fourOf l0 l1 l2 l3) (length (now (out .entry)))) (constant (zeroWith vars (fourOf l0 l1 l2 l3)) (wholeF c))) ⌝ }
-    ensures written { λ r. ⌜ now (out .exit) ≡ outAfter (withGate vars (fourOf l0 l1 l2 l3) (length (now (out .entry)))) (zeroWith vars (fourOf l0 l1 l2 l3)) (constant (zeroWith vars (fourOf l0 l1 l2 l3)) (wholeF c)) (now (out .entry)) ⌝ }
+    ensures answer { λ r. ⌜ r ≡ wordOfAnswer (answered (withGate vars (fourOf l0 l1 l2 l3) (length (now (out .entry))))
+        (constant (zeroWith vars (fourOf l0 l1 l2 l3)) (wholeF c))) ⌝ }
+    ensures written { λ r. ⌜ now (out .exit) ≡ outAfter (withGate vars (fourOf l0 l1 l2 l3) (length (now (out .entry))))
+        (zeroWith vars (fourOf l0 l1 l2 l3)) (constant (zeroWith vars (fourOf l0 l1 l2 l3)) (wholeF c))
+        (now (out .entry)) ⌝ }
 {
     word_of(readings::from_u32_with(
         c,
@@ -110,8 +121,10 @@ pub extern "C" fn taylor_var_with_degrees_p1(
     l3: u64,
     out: &mut [f64],
 ) -> u64
-    ensures answer { λ r. ⌜ r ≡ wordOfAnswer (answered (varWithGate v vars (fourOf l0 l1 l2 l3) (length (now (out .entry)))) (variable (varWith v vars (fourOf l0 l1 l2 l3)) x)) ⌝ }
-    ensures written { λ r. ⌜ now (out .exit) ≡ outAfter (varWithGate v vars (fourOf l0 l1 l2 l3) (length (now (out .entry)))) (varWith v vars (fourOf l0 l1 l2 l3)) (variable (varWith v vars (fourOf l0 l1 l2 l3)) x) (now (out .entry)) ⌝ }
+    ensures answer { λ r. ⌜ r ≡ wordOfAnswer (answered (varWithGate v vars (fourOf l0 l1 l2 l3) (length (now (out .entry))))
+        (variable (varWith v vars (fourOf l0 l1 l2 l3)) x)) ⌝ }
+    ensures written { λ r. ⌜ now (out .exit) ≡ outAfter (varWithGate v vars (fourOf l0 l1 l2 l3) (length (now (out .entry))))
+        (varWith v vars (fourOf l0 l1 l2 l3)) (variable (varWith v vars (fourOf l0 l1 l2 l3)) x) (now (out .entry)) ⌝ }
 {
     word_of(readings::var_with_degrees_p1(
         v as usize,
@@ -126,7 +139,8 @@ pub extern "C" fn taylor_var_with_degrees_p1(
 #[no_mangle]
 pub extern "C" fn taylor_var(v: u64, x: f64, limit: u64, out: &mut [f64]) -> u64
     ensures answer { λ r. ⌜ r ≡ wordOfAnswer (answered (varGate v limit (length (now (out .entry)))) (variable (varHeader v limit) x)) ⌝ }
-    ensures written { λ r. ⌜ now (out .exit) ≡ outAfter (varGate v limit (length (now (out .entry)))) (varHeader v limit) (variable (varHeader v limit) x) (now (out .entry)) ⌝ }
+    ensures written { λ r. ⌜ now (out .exit) ≡ outAfter (varGate v limit (length (now (out .entry)))) (varHeader v limit)
+        (variable (varHeader v limit) x) (now (out .entry)) ⌝ }
 {
     word_of(readings::var(v as usize, x, limit as usize, out))
 }
@@ -135,7 +149,8 @@ pub extern "C" fn taylor_var(v: u64, x: f64, limit: u64, out: &mut [f64]) -> u64
 #[no_mangle]
 pub extern "C" fn taylor_var_at_zero(v: u64, limit: u64, out: &mut [f64]) -> u64
     ensures answer { λ r. ⌜ r ≡ wordOfAnswer (answered (varGate v limit (length (now (out .entry)))) (variable (varHeader v limit) zeroF)) ⌝ }
-    ensures written { λ r. ⌜ now (out .exit) ≡ outAfter (varGate v limit (length (now (out .entry)))) (varHeader v limit) (variable (varHeader v limit) zeroF) (now (out .entry)) ⌝ }
+    ensures written { λ r. ⌜ now (out .exit) ≡ outAfter (varGate v limit (length (now (out .entry)))) (varHeader v limit)
+        (variable (varHeader v limit) zeroF) (now (out .entry)) ⌝ }
 {
     word_of(readings::var_at_zero(v as usize, limit as usize, out))
 }
@@ -407,7 +422,8 @@ pub extern "C" fn taylor_subst_var(
     word_of(substitution::subst_var(ah, a, bh, b, v as usize, out, scratch))
 }
 
-// Whether a recipe can be run, from words alone: the pool total, the largest announced step count and the input coefficient total; refusals 1, 3, 4, 5, 7.
+// Whether a recipe can be run, from words alone: the pool total, the largest announced step count and the input
+// coefficient total; refusals 1, 3, 4, 5, 7.
 #[no_mangle]
 pub extern "C" fn taylor_check(
     headers: &[u64],
@@ -424,7 +440,8 @@ pub extern "C" fn taylor_check(
     put_totals(recipes::check(headers, steps), pool, largest, inputs)
 }
 
-// A recipe's steps, their values end to end in the pool and their header words in `words`: refusals 1 to 7; 0 when done.
+// A recipe's steps, their values end to end in the pool and their header words in `words`: refusals 1 to 7; 0 when
+// done.
 #[no_mangle]
 pub extern "C" fn taylor_run(
     headers: &[u64],
@@ -434,10 +451,14 @@ pub extern "C" fn taylor_run(
     words: &mut [u64],
     scratch: &mut [f64],
 ) -> u64
-    ensures answer { λ r. ⌜ r ≡ wordOfRun (runAnswer (now (headers .entry)) (now (coefficients .entry)) (now (steps .entry)) (now (pool .entry)) (now (words .entry)) (now (scratch .entry))) ⌝ }
-    ensures values { λ r. ⌜ now (pool .exit) ≡ runPool (now (headers .entry)) (now (coefficients .entry)) (now (steps .entry)) (now (pool .entry)) (now (words .entry)) (now (scratch .entry)) ⌝ }
-    ensures heads { λ r. ⌜ now (words .exit) ≡ runWords (now (headers .entry)) (now (coefficients .entry)) (now (steps .entry)) (now (pool .entry)) (now (words .entry)) (now (scratch .entry)) ⌝ }
-    ensures cleared { λ r. ⌜ now (scratch .exit) ≡ runScratch (now (headers .entry)) (now (coefficients .entry)) (now (steps .entry)) (now (pool .entry)) (now (words .entry)) (now (scratch .entry)) ⌝ }
+    ensures answer { λ r. ⌜ r ≡ wordOfRun (runAnswer (now (headers .entry)) (now (coefficients .entry)) (now (steps .entry))
+        (now (pool .entry)) (now (words .entry)) (now (scratch .entry))) ⌝ }
+    ensures values { λ r. ⌜ now (pool .exit) ≡ runPool (now (headers .entry)) (now (coefficients .entry)) (now (steps .entry))
+        (now (pool .entry)) (now (words .entry)) (now (scratch .entry)) ⌝ }
+    ensures heads { λ r. ⌜ now (words .exit) ≡ runWords (now (headers .entry)) (now (coefficients .entry))
+        (now (steps .entry)) (now (pool .entry)) (now (words .entry)) (now (scratch .entry)) ⌝ }
+    ensures cleared { λ r. ⌜ now (scratch .exit) ≡ runScratch (now (headers .entry)) (now (coefficients .entry))
+        (now (steps .entry)) (now (pool .entry)) (now (words .entry)) (now (scratch .entry)) ⌝ }
 {
     word_of_run(recipes::run(headers, coefficients, steps, pool, words, scratch))
 }

@@ -1,15 +1,12 @@
-use Rattle.lists.specs.Table.{Filled, filled-none, filled-more, filled-end, table-take}
-use Rattle.blocks.specs.Fill.{filled-all, filled-here, filled-front}
+use Rattle.lists.specs.Table.{Filled, filled-none, filled-more}
+use Rattle.lists.specs.Fill.{filled-all}
 use native.Mathlib.Omega.{arith}
-use mathlib.Core.Path.{_≡_, refl, sym, ap, _∙_}
-use Prim.Native.Nat.{ℕ, _≤_, _-_}
-use lib.ListN.{length, getD}
-use lib.Ieee.{nan}
+use mathlib.Core.Path.{_≡_, refl}
+use Prim.Native.Nat.{_≤_, _-_}
+use lib.ListN.{length}
 use Rattle.model.specs.Refusals.{zeroF}
 use Rattle.blocks.proofs.clear.Statement.{statement}
 use Rattle.blocks.proofs.clear.Tie as tie
-use Rattle.blocks.proofs.clear.Reads as reads
-use Rattle.blocks.proofs.clear.Lts as lts
 
 abbrev Inv-loop : tie.InvT-loop
 Inv-loop to₀ n i₀ to i = (i ≤ n) × ((n ≡ length to₀) × Filled i (λ j. zeroF) to₀ to)
@@ -35,11 +32,5 @@ clear-spec =
     (tie.spec
     Inv-loop
     μ-loop
-    loop-holds
-    (λ c. omega arith)
-    (λ c. omega arith)
-    (λ c. omega arith)
-    (λ c. omega arith)
-    loop-again
-    same-length
+    loop-holds (λ c. omega arith) (λ c. omega arith) (λ c. omega arith) (λ c. omega arith) loop-again same-length
     returns)

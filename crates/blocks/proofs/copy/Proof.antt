@@ -1,14 +1,12 @@
-use Rattle.lists.specs.Table.{Filled, filled-none, filled-more, filled-end, table-take}
-use Rattle.blocks.specs.Fill.{filled-all, filled-here, filled-front}
+use Rattle.lists.specs.Table.{Filled, filled-none, filled-more, table-take}
+use Rattle.lists.specs.Fill.{filled-all}
 use native.Mathlib.Omega.{arith}
-use mathlib.Core.Path.{_≡_, refl, sym, ap, _∙_}
-use Prim.Native.Nat.{ℕ, _≤_, _-_}
+use mathlib.Core.Path.{_≡_, refl, _∙_}
+use Prim.Native.Nat.{_≤_, _-_}
 use lib.ListN.{length, getD}
 use lib.Ieee.{nan}
 use Rattle.blocks.proofs.copy.Statement.{statement}
 use Rattle.blocks.proofs.copy.Tie as tie
-use Rattle.blocks.proofs.copy.Reads as reads
-use Rattle.blocks.proofs.copy.Lts as lts
 
 abbrev Inv-loop : tie.InvT-loop
 Inv-loop from to₀ n k₀ to k = (k ≤ n) × ((n ≡ length to₀) × Filled k (λ j. getD from j nan) to₀ to)
@@ -34,13 +32,5 @@ copy-spec =
     (tie.spec
     Inv-loop
     μ-loop
-    loop-holds
-    (λ c. omega arith)
-    (λ c. omega arith)
-    (λ c. omega arith)
-    (λ c. omega arith)
-    (λ c. omega arith)
-    (λ c. omega arith)
-    loop-again
-    same-length
-    returns)
+    loop-holds (λ c. omega arith) (λ c. omega arith) (λ c. omega arith) (λ c. omega arith) (λ c. omega arith)
+    (λ c. omega arith) loop-again same-length returns)

@@ -3,8 +3,6 @@ use Rattle.blocks.specs.Same.{sameLengths}
 use borrow.Author.Needs.{needs}
 use Rattle.blocks.proofs.is_same.Statement.{statement}
 use Rattle.blocks.proofs.is_same.Tie as tie
-use Rattle.blocks.proofs.is_same.Reads as reads
-use Rattle.blocks.proofs.is_same.Lts as lts
 
 returns : tie.Need-returns
 unfolding sameLengths
@@ -14,12 +12,5 @@ pub is-same-spec : {M : Type 1} → statement M
 is-same-spec =
     tie.close
     (tie.spec
-    (λ c. search needs)
-    (λ c. search needs)
-    (λ c. search needs)
-    (λ c. search needs)
-    (λ c. search needs)
-    (λ c. search needs)
-    (λ c. search needs)
-    (λ c. search needs)
-    returns)
+    (λ c. search needs) (λ c. search needs) (λ c. search needs) (λ c. search needs) (λ c. search needs)
+    (λ c. search needs) (λ c. search needs) (λ c. search needs) returns)

@@ -4,10 +4,6 @@ use Rattle.blocks.specs.Merge.{joining-merged, join-merged}
 use borrow.Author.Needs.{needs}
 use Rattle.blocks.proofs.join_block.Statement.{statement}
 use Rattle.blocks.proofs.join_block.Tie as tie
-use Rattle.blocks.proofs.join_block.Reads as reads
-use Rattle.blocks.proofs.join_block.Lts as lts
-use Rattle.blocks.proofs.join_rows.Reads as join-rows-reads
-use Rattle.blocks.proofs.longest_rows.Reads as longest-rows-reads
 
 longest-rows-requires : tie.Need-longest-rows-requires
 longest-rows-requires c κs = (sizes-of ((c .before .before) .pre .from), sizes-of ((c .before .before) .pre .to))
@@ -19,7 +15,10 @@ same-length : tie.Need-same-length
 same-length c = search needs
 
 returns : tie.Need-returns
-returns c = let a = (c .before .before .before .before .before .before .before .before .before) .args in c .before .before .join-rows .ensures ∙ join-merged (c .before .before .before .before .before .before .longest-rows .ensures) (a .minus) (a .a .now) (a .to .now)
+returns c =
+    let start = c .before .before .before .before .before .before .before .before .before in let a = start .args in
+    c .before .before .join-rows .ensures ∙ join-merged
+    (c .before .before .before .before .before .before .longest-rows .ensures) (a .minus) (a .a .now) (a .to .now)
 
 pub join-block-spec : {M : Type 1} → statement M
 join-block-spec = tie.close (tie.spec longest-rows-requires join-rows-requires same-length returns)

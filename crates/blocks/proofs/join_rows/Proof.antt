@@ -1,25 +1,18 @@
 use native.Mathlib.Omega.{arith}
-use mathlib.Core.Path.{_≡_, refl, sym, ap, _∙_}
-use mathlib.Core.List.{List, _++_}
+use mathlib.Core.Path.{_≡_, refl, sym, _∙_}
 use Prim.Native.Nat.{ℕ, _+_, _-_, _≤_, _<_}
 use lib.ListN.{length, take, drop, getD, length-take, length-drop}
-use lib.Ieee.{Float, nan}
-use lib.Seq.{take-take, length-take-le}
+use lib.Ieee.{nan}
 use Rattle.lists.specs.Four.{at}
 use Rattle.lists.specs.Table.{table}
 use Rattle.model.specs.Header.{count}
-use Rattle.model.specs.Places.{place, index}
-use Rattle.model.specs.Poly.{block, readAt}
+use Rattle.model.specs.Places.{index}
+use Rattle.model.specs.Poly.{block}
 use Rattle.model.specs.Add.{joinAt}
-use Rattle.shape_words.specs.Lengths.{Lengths, RowAt}
-use Rattle.blocks.specs.Rows.{JoiningRows, alongRow}
-use Rattle.blocks.specs.ByRow.{ByRow, by-none, by-put, by-end, by-fits, by-len, cut-begins, cut-inside, cut-from, cut-row, join-begins, joined-row}
+use Rattle.blocks.specs.Rows.{alongRow}
+use Rattle.blocks.specs.ByRow.{ByRow, by-none, by-put, by-end, by-fits, by-len, join-begins, joined-row}
 use Rattle.blocks.proofs.join_rows.Statement.{statement}
 use Rattle.blocks.proofs.join_rows.Tie as tie
-use Rattle.blocks.proofs.join_rows.Reads as reads
-use Rattle.blocks.proofs.join_rows.Lts as lts
-use Rattle.blocks.proofs.join_row.Reads as join-row-reads
-use Rattle.shape_words.proofs.places.next_row.Reads as next-row-reads
 
 abbrev Inv-loop : tie.InvT-loop
 Inv-loop minus a n to₀ r w p₀ i₀ to p i = (w ≡ at r 3) × ByRow r (λ k. joinAt minus (getD to₀ k nan) (block n a) (index r k)) to₀ to p i
@@ -43,18 +36,23 @@ to-fits c =
     by-fits (p .to) (p .full) (c .before .loop .inv .1) (more c)
 
 rowed : (c : tie.After-join-row Inv-loop μ-loop)
-    → c .join-row .last .1 .1 .1 .1 .0 ≡ table (at ((c .before .before .before .before .before .before) .args .t4) 3) (λ k. joinAt ((c .before .before .before .before .before .before) .args .minus) (getD (take (at ((c .before .before .before .before .before .before) .args .t4) 3) (drop (c .before .before .before .loop .at) (c .before .before .before .loop .to))) k nan) (block ((c .before .before .before .before .before .before) .args .n) ((c .before .before .before .before .before .before) .args .a .now)) (alongRow (c .before .before .before .loop .i) k))
+    → c .join-row .last .1 .1 .1 .1 .0 ≡ table (at ((c .before .before .before .before .before .before) .args .t4) 3)
+    (λ k. joinAt ((c .before .before .before .before .before .before) .args .minus)
+    (getD (take (at ((c .before .before .before .before .before .before) .args .t4) 3)
+    (drop (c .before .before .before .loop .at) (c .before .before .before .loop .to))) k nan)
+    (block ((c .before .before .before .before .before .before) .args .n)
+    ((c .before .before .before .before .before .before) .args .a .now))
+    (alongRow (c .before .before .before .loop .i) k))
 rowed c =
-    let w : ℕ = at ((c .before .before .before .before .before .before) .args .t4) 3 in
+    let c3 = c .before .before .before in
+    let w : ℕ = at (c .before .before .before .before .before .before .args .t4) 3 in
     let p = to-fits (c .before .before) in
-    let k : c .before .before .before .loop .at + w - c .before .before .before .loop .at ≡ w = omega arith in
-    let m : length (take w (drop (c .before .before .before .loop .at) (c .before .before .before .loop .to))) ≡ w = simp (length-take, length-drop) (omega arith) in
+    let k : c3 .loop .at + w - c3 .loop .at ≡ w = omega arith in
+    let m : length (take w (drop (c3 .loop .at) (c3 .loop .to))) ≡ w = simp (length-take, length-drop) (omega arith) in
     (rw k at (c .join-row .ensures)) ∙ (rw m)
 
 loop-holds : tie.Need-loop-holds Inv-loop μ-loop
-loop-holds c =
-    let p = (c .before .before) .pre in
-    (refl, by-none (p .to) (p .full))
+loop-holds c = let p = (c .before .before) .pre in (refl, by-none (p .to) (p .full))
 
 add-join-row : tie.Need-add-join-row Inv-loop μ-loop
 add-join-row c = omega (arith, to-fits (c))
@@ -67,27 +65,46 @@ part-join-row-end c = omega (arith, to-fits (c))
 
 join-row-requires : tie.Need-join-row-requires Inv-loop μ-loop
 join-row-requires c κs =
-    let a = (c .before .before .before .before .before) .args in
-    let p' = (c .before .before .before .before .before) .pre in
-    (p' .from, ((p' .room, (let p = to-fits (c .before) in let q = p' .inner .c3 in simp (length-take, length-drop) (omega arith))), join-begins (a .minus) (a .n) (a .t4) (a .a .now) (a .to .now) (p') (c .before .before .loop .inv .1) (more (c .before)) .begins))
+    let start = c .before .before .before .before .before in let a = start .args in
+    let p' = start .pre in (
+      p' .from,
+      (
+        (
+          p' .room,
+          (let p = to-fits (c .before) in let q = p' .inner .c3 in simp (length-take, length-drop) (omega arith)),
+        ),
+        join-begins (a .minus) (a .n) (a .t4) (a .a .now) (a .to .now) (p') (c .before .before .loop .inv .1) (more (c .before)) .begins,
+      ),
+    )
 
 add-at : tie.Need-add-at Inv-loop μ-loop
 add-at c = omega (arith, to-fits (c .before .before .before .before))
 
 next-row-requires : tie.Need-next-row-requires Inv-loop μ-loop
 next-row-requires c κs =
-    let a = (c .before .before .before .before .before .before .before .before) .args in
-    let p = (c .before .before .before .before .before .before .before .before) .pre in
-    (p .to, join-begins (a .minus) (a .n) (a .t4) (a .a .now) (a .to .now) (p) (c .before .before .before .before .before .loop .inv .1) (more (c .before .before .before .before)))
+    let start = c .before .before .before .before .before .before .before .before in let a = start .args in
+    let p = start .pre in (
+      p .to,
+      join-begins (a .minus) (a .n) (a .t4) (a .a .now) (a .to .now) (p)
+          (c .before .before .before .before .before .loop .inv .1) (more (c .before .before .before .before)),
+    )
 
 loop-less : tie.Need-loop-less Inv-loop μ-loop
-loop-less c = let q = (c .before .before .before .before .before .before .before .before .before) .pre .to .p3 in omega (arith, to-fits (c .before .before .before .before .before), to-len (c .before .before .before .before .before))
+loop-less c =
+    let c5 = c .before .before .before .before .before in let start = c5 .before .before .before .before in
+    let q = start .pre .to .p3 in omega (arith, to-fits c5, to-len c5)
 
 loop-again : tie.Need-loop-again Inv-loop μ-loop
 loop-again c =
-    let a = (c .before .before .before .before .before .before .before .before .before) .args in
-    let p = (c .before .before .before .before .before .before .before .before .before) .pre in
-    (refl, by-put (p .to) (p .full) (c .before .before .before .before .before .before .loop .inv .1) (more (c .before .before .before .before .before)) (let e : c .before .before .before .before .before .before .loop .at + at (a .t4) 3 - c .before .before .before .before .before .before .loop .at ≡ at (a .t4) 3 = omega arith in e) (joined-row (a .minus) (a .n) (a .t4) (a .a .now) (a .to .now) (p) (c .before .before .before .before .before .before .loop .inv .1) (more (c .before .before .before .before .before)) (rowed (c .before .before .before))) (c .next-row .ensures))
+    let c5 = c .before .before .before .before .before in let c6 = c5 .before in
+    let start = c6 .before .before .before in let a = start .args in
+    let p = start .pre in (
+      refl,
+      by-put (p .to) (p .full) (c6 .loop .inv .1) (more c5)
+          (let e : c6 .loop .at + at (a .t4) 3 - c6 .loop .at ≡ at (a .t4) 3 = omega arith in e)
+          (joined-row (a .minus) (a .n) (a .t4) (a .a .now) (a .to .now) (p) (c6 .loop .inv .1) (more c5)
+          (rowed (c .before .before .before))) (c .next-row .ensures),
+    )
 
 same-length : tie.Need-same-length Inv-loop μ-loop
 same-length c =
@@ -105,17 +122,5 @@ join-rows-spec =
     (tie.spec
     Inv-loop
     μ-loop
-    (λ c. omega arith)
-    loop-holds
-    add-join-row
-    mul-join-row
-    (λ c. omega arith)
-    (λ c. omega arith)
-    part-join-row-end
-    join-row-requires
-    add-at
-    next-row-requires
-    loop-less
-    loop-again
-    same-length
-    returns)
+    (λ c. omega arith) loop-holds add-join-row mul-join-row (λ c. omega arith) (λ c. omega arith) part-join-row-end
+    join-row-requires add-at next-row-requires loop-less loop-again same-length returns)

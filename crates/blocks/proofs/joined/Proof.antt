@@ -1,8 +1,6 @@
 use borrow.Author.Tests.{not-true, not-false}
 use Rattle.blocks.proofs.joined.Statement.{statement}
 use Rattle.blocks.proofs.joined.Tie as tie
-use Rattle.blocks.proofs.joined.Reads as reads
-use Rattle.blocks.proofs.joined.Lts as lts
 
 returns : tie.Need-returns
 returns c = simp (not-true (c .before .args .minus) (c .if1 .taken))

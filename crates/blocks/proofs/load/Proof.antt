@@ -1,6 +1,6 @@
 use native.Mathlib.Omega.{arith}
 use mathlib.Core.Path.{_≡_, sym, ap, _∙_}
-use Prim.Native.Nat.{ℕ, _≤_}
+use Prim.Native.Nat.{ℕ}
 use lib.ListN.{length, take}
 use Rattle.model.specs.Header.{count}
 use Rattle.shape_words.specs.Lengths.{sizes-of}
@@ -9,14 +9,10 @@ use Rattle.blocks.specs.Merge.{cutting-merged, cut-merged}
 use borrow.Author.Needs.{needs}
 use Rattle.blocks.proofs.load.Statement.{statement}
 use Rattle.blocks.proofs.load.Tie as tie
-use Rattle.blocks.proofs.load.Reads as reads
-use Rattle.blocks.proofs.load.Lts as lts
-use Rattle.blocks.proofs.copy.Reads as copy-reads
-use Rattle.blocks.proofs.is_same.Reads as is-same-reads
-use Rattle.blocks.proofs.load_rows.Reads as load-rows-reads
-use Rattle.blocks.proofs.longest_rows.Reads as longest-rows-reads
 
-same : (c : tie.Then1) → Same ((c .before .before .before .before) .args .n) ((c .before .before .before .before) .args .c)
+same : (c : tie.Then1) →
+    let start = c .before .before .before .before in
+    Same (start .args .n) (start .args .c)
 same c = same-is _ _ (sym (c .before .is-same .ensures) ∙ c .if1 .taken)
 
 copy-requires : tie.Need-copy-requires
@@ -24,29 +20,29 @@ copy-requires c κs = let p = (c .before .before .before .before .before) .pre i
 
 returns : tie.Need-returns
 returns c =
-    let a = (c .before .before .before .before .before .before .before .before) .args in
-    let p = (c .before .before .before .before .before .before .before .before) .pre in
+    let c4 = c .before .before .before .before in let start = c4 .before .before .before .before in
+    let a = start .args in let p = start .pre in
     let e : take (length (a .to .now)) (a .a .now) ≡ take (count (a .c)) (a .a .now) = ap (λ (k : ℕ). take k (a .a .now)) (p .full) in
-    c .before .before .copy .ensures ∙ (e ∙ cut-front (a .n) (a .c) (a .a .now) (same (c .before .before .before .before)) (omega (arith, p .room, same-count (same (c .before .before .before .before)))))
+    c .before .before .copy .ensures ∙ (e ∙ cut-front (a .n) (a .c) (a .a .now) (same c4) (omega (arith, p .room, same-count (same c4))))
 
 longest-rows-requires : tie.Need-longest-rows-requires
-longest-rows-requires c κs = (sizes-of ((c .before .before .before .before) .pre .from), sizes-of ((c .before .before .before .before) .pre .to))
+longest-rows-requires c κs =
+    let start = c .before .before .before .before in
+    (sizes-of (start .pre .from), sizes-of (start .pre .to))
 
 load-rows-requires : tie.Need-load-rows-requires
-load-rows-requires c κs = cutting-merged (c .before .before .before .longest-rows .ensures) ((c .before .before .before .before .before .before .before .before) .pre)
+load-rows-requires c κs =
+    let start = c .before .before .before .before .before .before .before .before in
+    cutting-merged (c .before .before .before .longest-rows .ensures) (start .pre)
 
 returns-2 : tie.Need-returns-2
-returns-2 c = c .before .before .load-rows .ensures ∙ cut-merged (c .before .before .before .before .before .before .longest-rows .ensures) ((c .before .before .before .before .before .before .before .before .before .before .before) .args .a .now)
+returns-2 c =
+    let start = c .before .before .before .before .before .before .before .before .before .before .before in
+    c .before .before .load-rows .ensures ∙ cut-merged (c .before .before .before .before .before .before .longest-rows .ensures) (start .args .a .now)
 
 pub load-spec : {M : Type 1} → statement M
 load-spec =
     tie.close
     (tie.spec
-    (λ c κs. search needs)
-    copy-requires
-    (λ c. search needs)
-    returns
-    longest-rows-requires
-    load-rows-requires
-    (λ c. search needs)
-    returns-2)
+    (λ c κs. search needs) copy-requires (λ c. search needs) returns longest-rows-requires load-rows-requires
+    (λ c. search needs) returns-2)

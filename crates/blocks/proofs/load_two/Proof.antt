@@ -1,18 +1,12 @@
 use native.Mathlib.Omega.{arith}
-use mathlib.Core.Path.{_≡_, refl, sym, ap, _∙_}
-use Prim.Native.Nat.{ℕ, _+_, _-_, _≤_}
-use lib.ListN.{length, take, drop, length-take, length-drop, length-append}
+use mathlib.Core.Path.{sym, _∙_}
+use Prim.Native.Nat.{_+_, _-_, _≤_}
+use lib.ListN.{length}
 use lib.Seq.{length-take-le}
-use Rattle.lists.specs.Table.{length-table}
-use Rattle.model.specs.Header.{count}
-use Rattle.blocks.specs.Two.{cutting-a, cutting-b, two-held}
+use Rattle.blocks.specs.Two.{cutting-a, two-held}
 use borrow.Author.Needs.{needs}
 use Rattle.blocks.proofs.load_two.Statement.{statement}
 use Rattle.blocks.proofs.load_two.Tie as tie
-use Rattle.blocks.proofs.load_two.Reads as reads
-use Rattle.blocks.proofs.load_two.Lts as lts
-use Rattle.blocks.proofs.load.Reads as load-reads
-use Rattle.shape_words.proofs.places.count_of.Reads as count-of-reads
 
 fits-a : (c : tie.After-count-of) → c .count-of .result ≤ length ((c .before .before .before .before) .args .work .now)
 fits-a c =
@@ -27,23 +21,17 @@ load-requires c κs = cutting-a ((c .before .before .before .before .before) .pr
 
 returns : tie.Need-returns
 returns c =
-    let a = (c .before .before .before .before .before .before .before .before .before .before .before .before .before) .args in
-    two-held (a .la) (a .ca) (a .lb) (a .cb) (a .n + c .before .before .before .before .count-of2 .result - a .n) (a .a .now) (a .b .now) (a .work .now) ((c .before .before .before .before .before .before .before .before .before .before .before .before .before) .pre) (c .before .before .before .before .before .before .before .load .ensures) (c .before .before .load2 .ensures) (c .before .before .before .before .before .before .before .before .before .count-of .ensures)
+    let c9 = c .before .before .before .before .before .before .before .before .before in
+    let start = c9 .before .before .before .before in let a = start .args in
+    two-held (a .la) (a .ca) (a .lb) (a .cb) (a .n + c .before .before .before .before .count-of2 .result - a .n)
+    (a .a .now) (a .b .now) (a .work .now) (start .pre)
+    (c .before .before .before .before .before .before .before .load .ensures)
+    (c .before .before .load2 .ensures) (c9 .count-of .ensures)
 
 pub load-two-spec : {M : Type 1} → statement M
 load-two-spec =
     tie.close
     (tie.spec
-    (λ c κs. search needs)
-    (λ c. search needs)
-    slice-aggregate-load
-    load-requires
-    (λ c κs. search needs)
-    (λ c. search needs)
-    (λ c. search needs)
-    (λ c. search needs)
-    (λ c. search needs)
-    (λ c. search needs)
-    (λ c κs. search needs)
-    (λ c. search needs)
-    returns)
+    (λ c κs. search needs) (λ c. search needs) slice-aggregate-load load-requires (λ c κs. search needs)
+    (λ c. search needs) (λ c. search needs) (λ c. search needs) (λ c. search needs) (λ c. search needs)
+    (λ c κs. search needs) (λ c. search needs) returns)

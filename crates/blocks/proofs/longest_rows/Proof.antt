@@ -1,7 +1,6 @@
 use native.Mathlib.Omega.{arith}
-use mathlib.Core.Path.{_≡_, refl, sym, ap, _∙_}
-use mathlib.Core.Bool.{true, _&&_}
-use Prim.Native.Nat.{ℕ, _<_}
+use mathlib.Core.Path.{_≡_}
+use Prim.Native.Nat.{_<_}
 use lib.Dec.{ltb, eqb}
 use borrow.Author.Tests.{ltb-true, eqb-true}
 use Rattle.lists.specs.Four.{at}
@@ -9,9 +8,6 @@ use Rattle.lists.specs.Test.{and-left, and-right}
 use Rattle.blocks.specs.Merge.{Merged, merged-none, merged-more}
 use Rattle.blocks.proofs.longest_rows.Statement.{statement}
 use Rattle.blocks.proofs.longest_rows.Tie as tie
-use Rattle.blocks.proofs.longest_rows.Reads as reads
-use Rattle.blocks.proofs.longest_rows.Lts as lts
-use Rattle.blocks.proofs.merged.Reads as merged-reads
 
 abbrev Inv-loop : tie.InvT-loop
 Inv-loop m₀ d₀ left₀ m d left = Merged m₀ d₀ m d
@@ -24,8 +20,10 @@ loop-holds c = merged-none (c .pre .0) (c .pre .1)
 
 tested : (c : tie.In-loop Inv-loop μ-loop) → (0 < c .before .loop .left) × (at (c .before .loop .m) 3 ≡ at (c .before .loop .d) 3)
 tested c =
-    let h = c .loop-test .taken in
-    (ltb-true _ _ (and-left (ltb 0 (c .before .loop .left)) _ h), eqb-true _ _ (and-right (ltb 0 (c .before .loop .left)) (eqb (at (c .before .loop .m) 3) (at (c .before .loop .d) 3)) h))
+    let h = c .loop-test .taken in (
+      ltb-true _ _ (and-left (ltb 0 (c .before .loop .left)) _ h),
+      eqb-true _ _ (and-right (ltb 0 (c .before .loop .left)) (eqb (at (c .before .loop .m) 3) (at (c .before .loop .d) 3)) h),
+    )
 
 merged-requires : tie.Need-merged-requires Inv-loop μ-loop
 merged-requires c κs = c .before .loop .inv .from
@@ -51,12 +49,5 @@ longest-rows-spec =
     (tie.spec
     Inv-loop
     μ-loop
-    loop-holds
-    (λ c. omega arith)
-    (λ c. omega arith)
-    merged-requires
-    merged-requires-2
-    sub-left
-    loop-less
-    loop-again
+    loop-holds (λ c. omega arith) (λ c. omega arith) merged-requires merged-requires-2 sub-left loop-less loop-again
     returns)

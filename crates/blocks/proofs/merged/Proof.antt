@@ -4,8 +4,6 @@ use Rattle.blocks.specs.Merge.{merge, merge-low}
 use borrow.Author.Needs.{needs}
 use Rattle.blocks.proofs.merged.Statement.{statement}
 use Rattle.blocks.proofs.merged.Tie as tie
-use Rattle.blocks.proofs.merged.Reads as reads
-use Rattle.blocks.proofs.merged.Lts as lts
 
 array-read-t5 : tie.Need-array-read-t5
 array-read-t5 c = search needs
@@ -27,5 +25,4 @@ unfolding merge
 returns c = refl
 
 pub merged-spec : {M : Type 1} → statement M
-merged-spec =
-    tie.close (tie.spec array-read-t5 array-read-t8 array-read-t11 array-read-t14 mul-t15 returns)
+merged-spec = tie.close (tie.spec array-read-t5 array-read-t8 array-read-t11 array-read-t14 mul-t15 returns)

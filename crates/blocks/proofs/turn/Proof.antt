@@ -1,16 +1,13 @@
-use Rattle.lists.specs.Table.{Filled, filled-none, filled-more, filled-end, table-take}
-use Rattle.blocks.specs.Fill.{filled-all, filled-here, filled-front}
+use Rattle.lists.specs.Table.{Filled, filled-none, filled-more}
+use Rattle.lists.specs.Fill.{filled-all, filled-here}
 use native.Mathlib.Omega.{arith}
-use mathlib.Core.Path.{_≡_, refl, sym, ap, _∙_}
-use Prim.Native.Nat.{ℕ, _≤_, _-_}
-use lib.ListN.{length, getD}
-use lib.Ieee.{nan}
+use mathlib.Core.Path.{_≡_, refl, ap}
+use Prim.Native.Nat.{_≤_, _-_}
+use lib.ListN.{length}
+use lib.Ieee.{nan, neg}
 use Rattle.model.specs.Negate.{negatedAt}
-use lib.Ieee.{neg}
 use Rattle.blocks.proofs.turn.Statement.{statement}
 use Rattle.blocks.proofs.turn.Tie as tie
-use Rattle.blocks.proofs.turn.Reads as reads
-use Rattle.blocks.proofs.turn.Lts as lts
 
 abbrev Inv-loop : tie.InvT-loop
 Inv-loop to₀ n k₀ to k = (k ≤ n) × ((n ≡ length to₀) × Filled k (negatedAt to₀) to₀ to)
@@ -22,7 +19,13 @@ loop-holds : tie.Need-loop-holds Inv-loop μ-loop
 loop-holds c = (omega arith, (refl, filled-none))
 
 loop-again : tie.Need-loop-again Inv-loop μ-loop
-loop-again c = (omega arith, (c .before .before .loop .inv .1 .0, filled-more (c .before .before .loop .inv .1 .1) (ap neg (filled-here nan (c .before .before .loop .inv .1 .1) (omega arith))) (omega arith)))
+loop-again c = (
+  omega arith,
+  (
+    c .before .before .loop .inv .1 .0,
+    filled-more (c .before .before .loop .inv .1 .1) (ap neg (filled-here nan (c .before .before .loop .inv .1 .1) (omega arith))) (omega arith),
+  ),
+)
 
 same-length : tie.Need-same-length Inv-loop μ-loop
 same-length c = c .before .loop .inv .1 .1 .len
@@ -36,13 +39,5 @@ turn-spec =
     (tie.spec
     Inv-loop
     μ-loop
-    loop-holds
-    (λ c. omega arith)
-    (λ c. omega arith)
-    (λ c. omega arith)
-    (λ c. omega arith)
-    (λ c. omega arith)
-    (λ c. omega arith)
-    loop-again
-    same-length
-    returns)
+    loop-holds (λ c. omega arith) (λ c. omega arith) (λ c. omega arith) (λ c. omega arith) (λ c. omega arith)
+    (λ c. omega arith) loop-again same-length returns)

@@ -34,6 +34,4 @@ returns : tie.Need-returns Inv-loop μ-loop
 returns c = walked-end (c .before .before .args .n) (c .before .loop .inv .1) (omega arith)
 
 pub factorial-spec : {M : Type 1} → statement M
-factorial-spec =
-    tie.close
-    (tie.spec Inv-loop μ-loop loop-holds add-i int-to-float-product loop-less loop-again returns)
+factorial-spec = tie.close (tie.spec Inv-loop μ-loop loop-holds add-i int-to-float-product loop-less loop-again returns)

@@ -11,7 +11,10 @@ same-length : tie.Need-same-length
 same-length c = search needs
 
 returns : tie.Need-returns
-returns c = put-plain (c .before .before .before .before .before .before .before .args .factor) (length (c .before .before .before .before .before .before .before .args .to .now)) (c .before .before .before .before .before .before .before .args .a .now) (c .before .before .before .before .if1 .taken) ((c .before .before .before .before .before .before .before) .pre) (c .before .before .copy .ensures)
+returns c =
+    let start = c .before .before .before .before .before .before .before in
+    put-plain (start .args .factor) (length (start .args .to .now)) (start .args .a .now)
+    (c .before .before .before .before .if1 .taken) (start .pre) (c .before .before .copy .ensures)
 
 scale-row-requires : tie.Need-scale-row-requires
 scale-row-requires c κs = search needs
@@ -20,9 +23,10 @@ same-length-2 : tie.Need-same-length-2
 same-length-2 c = search needs
 
 returns-2 : tie.Need-returns-2
-returns-2 c = put-scaled (c .before .before .before .before .before .before .before .args .factor) (length (c .before .before .before .before .before .before .before .args .to .now)) (c .before .before .before .before .before .before .before .args .a .now) (c .before .before .before .before .if1 .left) (c .before .before .scale-row .ensures)
+returns-2 c =
+    let start = c .before .before .before .before .before .before .before in
+    put-scaled (start .args .factor) (length (start .args .to .now)) (start .args .a .now)
+    (c .before .before .before .before .if1 .left) (c .before .before .scale-row .ensures)
 
 pub put-row-spec : {M : Type 1} → statement M
-put-row-spec =
-    tie.close
-    (tie.spec copy-requires same-length returns scale-row-requires same-length-2 returns-2)
+put-row-spec = tie.close (tie.spec copy-requires same-length returns scale-row-requires same-length-2 returns-2)

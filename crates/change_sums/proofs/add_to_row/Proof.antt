@@ -1,5 +1,5 @@
 use Rattle.lists.specs.Table.{Filled, filled-none, filled-more}
-use Rattle.blocks.specs.Fill.{filled-all, filled-here}
+use Rattle.lists.specs.Fill.{filled-all, filled-here}
 use native.Mathlib.Omega.{arith}
 use mathlib.Core.Path.{_≡_, refl, ap}
 use Prim.Native.Nat.{_≤_, _-_}
@@ -18,7 +18,16 @@ loop-holds : tie.Need-loop-holds Inv-loop μ-loop
 loop-holds c = (omega arith, (refl, filled-none))
 
 loop-again : tie.Need-loop-again Inv-loop μ-loop
-loop-again c = (omega arith, (c .before .before .before .loop .inv .1 .0, filled-more (c .before .before .before .loop .inv .1 .1) (ap (λ (x : Float). add binary64 (getD (c .before .before .before .before .args .row .now) (c .before .before .before .loop .k) nan) x) (filled-here nan (c .before .before .before .loop .inv .1 .1) (omega arith))) (omega arith)))
+loop-again c =
+    let c3 = c .before .before .before in (
+      omega arith,
+      (
+        c3 .loop .inv .1 .0,
+        filled-more (c3 .loop .inv .1 .1)
+            (ap (λ (x : Float). add binary64 (getD (c .before .before .before .before .args .row .now)
+            (c3 .loop .k) nan) x) (filled-here nan (c3 .loop .inv .1 .1) (omega arith))) (omega arith),
+      ),
+    )
 
 same-length : tie.Need-same-length Inv-loop μ-loop
 same-length c = c .before .loop .inv .1 .1 .len
@@ -32,15 +41,5 @@ add-to-row-spec =
     (tie.spec
     Inv-loop
     μ-loop
-    loop-holds
-    (λ c. omega arith)
-    (λ c. omega arith)
-    (λ c. omega arith)
-    (λ c. omega arith)
-    (λ c. omega arith)
-    (λ c. omega arith)
-    (λ c. omega arith)
-    (λ c. omega arith)
-    loop-again
-    same-length
-    returns)
+    loop-holds (λ c. omega arith) (λ c. omega arith) (λ c. omega arith) (λ c. omega arith) (λ c. omega arith)
+    (λ c. omega arith) (λ c. omega arith) (λ c. omega arith) loop-again same-length returns)

@@ -15,14 +15,24 @@ abbrev μ-loop : tie.MeasureT-loop
 whole : (c : tie.After-clear Inv-loop μ-loop) → length (c .clear .last .0) ≡ length (c .before .before .before .before .args .to .now)
 whole c = c .clear .kept .0
 
-fits : (c : tie.In-loop Inv-loop μ-loop) → c .before .loop .at + length (c .before .before .before .before .clear .last .0) ≤ length (c .before .before .before .before .before .before .before .before .args .a .now)
-fits c = row-below (length (c .before .before .before .before .clear .last .0)) (c .before .loop .j) (c .before .before .before .before .before .before .before .before .args .m) (c .before .loop .inv .1 .0) (omega arith) (rw (whole (c .before .before .before .before)) ((c .before .before .before .before .before .before .before .before) .pre))
+fits : (c : tie.In-loop Inv-loop μ-loop) →
+    let start = c .before .before .before .before .before .before .before .before in
+    c .before .loop .at + length (c .before .before .before .before .clear .last .0) ≤ length (start .args .a .now)
+fits c =
+    let c4 = c .before .before .before .before in let start = c4 .before .before .before .before in
+    row-below (length (c4 .clear .last .0)) (c .before .loop .j) (start .args .m) (c .before .loop .inv .1 .0) (omega arith) (rw (whole c4) (start .pre))
 
 clear-requires : tie.Need-clear-requires Inv-loop μ-loop
 clear-requires c κs = tt
 
 loop-holds : tie.Need-loop-holds Inv-loop μ-loop
-loop-holds c = (omega arith, (omega arith, sum-none (c .before .before .before .before .before .before .args .a .now) (c .before .before .clear .ensures) (sym (c .before .before .clear .kept .0))))
+loop-holds c = (
+  omega arith,
+  (
+    omega arith,
+    sum-none (c .before .before .before .before .before .before .args .a .now) (c .before .before .clear .ensures) (sym (c .before .before .clear .kept .0)),
+  ),
+)
 
 add-add-row : tie.Need-add-add-row Inv-loop μ-loop
 add-add-row c = omega (arith, fits (c))
@@ -34,19 +44,34 @@ part-add-row-end : tie.Need-part-add-row-end Inv-loop μ-loop
 part-add-row-end c = omega (arith, fits (c))
 
 add-row-requires : tie.Need-add-row-requires Inv-loop μ-loop
-add-row-requires c κs = let f = fits (c .before .before) in let l = c .before .before .before .loop .inv .1 .1 .len in simp (length-take, length-drop) (omega arith)
+add-row-requires c κs = let f = fits (c .before .before) in
+    let l = c .before .before .before .loop .inv .1 .1 .len in
+    simp (length-take, length-drop) (omega arith)
 
 add-at : tie.Need-add-at Inv-loop μ-loop
 add-at c = omega (arith, fits (c .before .before .before .before .before))
 
 loop-again : tie.Need-loop-again Inv-loop μ-loop
-loop-again c = let e : c .before .before .before .before .before .before .loop .at + length (c .before .before .before .before .before .before .before .before .before .clear .last .0) - c .before .before .before .before .before .before .loop .at ≡ length (c .before .before .before .before .before .before .before .before .before .clear .last .0) = omega arith in (omega arith, (omega (arith, c .before .before .before .before .before .before .loop .inv .1 .0), sum-more (c .before .before .before .before .before .before .loop .at + length (c .before .before .before .before .before .before .before .before .before .clear .last .0) - c .before .before .before .before .before .before .loop .at) _ (c .before .before .before .before .before .before .loop .inv .1 .1) (c .before .before .before .before .before .before .loop .inv .1 .0) refl e (c .before .before .before .before .before .before .loop .inv .1 .1 .len) (c .before .before .add-row .ensures)))
+loop-again c =
+    let c6 = c .before .before .before .before .before .before in let c9 = c6 .before .before .before in
+    let e : c6 .loop .at + length (c9 .clear .last .0) - c6 .loop .at ≡ length (c9 .clear .last .0) = omega arith in (
+      omega arith,
+      (
+        omega (arith, c6 .loop .inv .1 .0),
+        sum-more (c6 .loop .at + length (c9 .clear .last .0) - c6 .loop .at) _ (c6 .loop .inv .1 .1)
+            (c6 .loop .inv .1 .0) refl e (c6 .loop .inv .1 .1 .len) (c .before .before .add-row .ensures),
+      ),
+    )
 
 same-length : tie.Need-same-length Inv-loop μ-loop
 same-length c = c .before .loop .inv .1 .1 .len ∙ whole (c .before .before .before .before)
 
 returns : tie.Need-returns Inv-loop μ-loop
-returns c = let j : c .before .loop .j ≡ c .before .before .before .before .before .before .before .before .args .m = omega arith in let w = whole (c .before .before .before .before) in (c .before .loop .inv .1 .0 ∙ (rw (j, w)), c .before .loop .inv .1 .1 .is ∙ (rw (j, w)))
+returns c =
+    let start = c .before .before .before .before .before .before .before .before in
+    let j : c .before .loop .j ≡ start .args .m = omega arith in
+    let w = whole (c .before .before .before .before) in
+    (c .before .loop .inv .1 .0 ∙ (rw (j, w)), c .before .loop .inv .1 .1 .is ∙ (rw (j, w)))
 
 pub sum-rows-spec : {M : Type 1} → statement M
 sum-rows-spec =
@@ -54,17 +79,5 @@ sum-rows-spec =
     (tie.spec
     Inv-loop
     μ-loop
-    clear-requires
-    loop-holds
-    add-add-row
-    mul-add-row
-    (λ c. omega arith)
-    (λ c. omega arith)
-    part-add-row-end
-    add-row-requires
-    add-at
-    (λ c. omega arith)
-    (λ c. omega arith)
-    loop-again
-    same-length
-    returns)
+    clear-requires loop-holds add-add-row mul-add-row (λ c. omega arith) (λ c. omega arith) part-add-row-end
+    add-row-requires add-at (λ c. omega arith) (λ c. omega arith) loop-again same-length returns)

@@ -18,5 +18,4 @@ returns-2 : tie.Need-returns-2
 returns-2 c = simp (rw (c .before .before .is-fitting .ensures) at (c .before .if1 .left)) (c .by .ensures)
 
 pub fits-gate-spec : {M : Type 1} → statement M
-fits-gate-spec =
-    tie.close (tie.spec is-fitting-requires none-requires by-requires returns returns-2)
+fits-gate-spec = tie.close (tie.spec is-fitting-requires none-requires by-requires returns returns-2)

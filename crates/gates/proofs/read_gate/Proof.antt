@@ -13,29 +13,38 @@ word c = not-false _ (rw (c .before .is-good .ensures) at (c .if1 .left))
 
 returns : tie.Need-returns
 unfolding readGate
-returns c = simp (not-true (goodWord ((c .before .before .before) .args .word)) (rw (c .before .before .is-good .ensures) at (c .before .if1 .taken))) (c .by .ensures)
+returns c =
+    simp (not-true (goodWord ((c .before .before .before) .args .word))
+    (rw (c .before .before .is-good .ensures) at (c .before .if1 .taken))) (c .by .ensures)
 
 is-full-requires : tie.Need-is-full-requires
 is-full-requires c κs = rw (c .header-of .ensures) (good-word _ (word (c .before)) .regular .rules)
 
 returns-2 : tie.Need-returns-2
 unfolding readGate
-returns-2 c = simp (word (c .before .before .before .before), not-true (full ((c .before .before .before .before .before .before) .args .word) ((c .before .before .before .before .before .before) .args .given)) (rw (c .before .before .is-full .ensures, c .before .before .before .header-of .ensures) at (c .before .if2 .taken))) (c .by2 .ensures)
+returns-2 c =
+    let start = c .before .before .before .before .before .before in
+    simp (
+      word (c .before .before .before .before),
+      not-true (full (start .args .word) (start .args .given))
+          (rw (c .before .before .is-full .ensures, c .before .before .before .header-of .ensures) at
+          (c .before .if2 .taken)),
+    ) (c .by2 .ensures)
 
 returns-3 : tie.Need-returns-3
 unfolding readGate
-returns-3 c = simp (word (c .before .before .before .before), not-false (full ((c .before .before .before .before .before .before) .args .word) ((c .before .before .before .before .before .before) .args .given)) (rw (c .before .before .is-full .ensures, c .before .before .before .header-of .ensures) at (c .before .if2 .left))) (c .none .ensures)
+returns-3 c =
+    let start = c .before .before .before .before .before .before in
+    simp (
+      word (c .before .before .before .before),
+      not-false (full (start .args .word) (start .args .given))
+          (rw (c .before .before .is-full .ensures, c .before .before .before .header-of .ensures) at
+          (c .before .if2 .left)),
+    ) (c .none .ensures)
 
 pub read-gate-spec : {M : Type 1} → statement M
 read-gate-spec =
     tie.close
     (tie.spec
-    (λ c κs. search needs)
-    (λ c κs. search needs)
-    returns
-    (λ c κs. search needs)
-    is-full-requires
-    (λ c κs. search needs)
-    returns-2
-    (λ c κs. search needs)
-    returns-3)
+    (λ c κs. search needs) (λ c κs. search needs) returns (λ c κs. search needs) is-full-requires (λ c κs. search needs)
+    returns-2 (λ c κs. search needs) returns-3)

@@ -11,12 +11,16 @@ use Rattle.gates.proofs.var_gate.Tie as tie
 limit : (c : tie.Else1) → goodLimit ((c .before .before) .args .limit) ≡ true
 limit c = not-false _ (rw (c .before .good-limit .ensures) at (c .if1 .left))
 
-header : (c : tie.After-var-with-degrees-p1) → c .var-with-degrees-p1 .result ≡ varHeader ((c .before .before .before .before) .args .v) ((c .before .before .before .before) .args .limit)
+header : (c : tie.After-var-with-degrees-p1) →
+    let start = c .before .before .before .before in
+    c .var-with-degrees-p1 .result ≡ varHeader (start .args .v) (start .args .limit)
 header c = rw (add-one ((c .before .before .before .before) .args .v)) at (c .var-with-degrees-p1 .ensures)
 
 returns : tie.Need-returns
 unfolding varGate
-returns c = simp (not-true (goodLimit ((c .before .before .before) .args .limit)) (rw (c .before .before .good-limit .ensures) at (c .before .if1 .taken))) (c .by .ensures)
+returns c =
+    simp (not-true (goodLimit ((c .before .before .before) .args .limit))
+    (rw (c .before .before .good-limit .ensures) at (c .before .if1 .taken))) (c .by .ensures)
 
 returns-2 : tie.Need-returns-2
 unfolding varGate
@@ -33,12 +37,5 @@ pub var-gate-spec : {M : Type 1} → statement M
 var-gate-spec =
     tie.close
     (tie.spec
-    (λ c κs. search needs)
-    (λ c κs. search needs)
-    returns
-    (λ c κs. search needs)
-    returns-2
-    (λ c. search needs)
-    (λ c κs. search needs)
-    fits-gate-requires
-    returns-3)
+    (λ c κs. search needs) (λ c κs. search needs) returns (λ c κs. search needs) returns-2 (λ c. search needs)
+    (λ c κs. search needs) fits-gate-requires returns-3)

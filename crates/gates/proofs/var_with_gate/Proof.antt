@@ -12,7 +12,10 @@ limits c = not-false _ (rw (c .before .good-limits .ensures) at (c .if1 .left))
 
 returns : tie.Need-returns
 unfolding varWithGate
-returns c = simp (not-true (goodLimits ((c .before .before .before) .args .vars) ((c .before .before .before) .args .limits)) (rw (c .before .before .good-limits .ensures) at (c .before .if1 .taken))) (c .by .ensures)
+returns c =
+    let start = c .before .before .before in
+    simp (not-true (goodLimits (start .args .vars) (start .args .limits))
+    (rw (c .before .before .good-limits .ensures) at (c .before .if1 .taken))) (c .by .ensures)
 
 returns-2 : tie.Need-returns-2
 unfolding varWithGate
@@ -23,17 +26,13 @@ fits-gate-requires c κs = rw (c .var-with-degrees-p1 .ensures) (var-regular (go
 
 returns-3 : tie.Need-returns-3
 unfolding varWithGate
-returns-3 c = simp (limits (c .before .before .before), lt-ltb _ _ (c .before .before .if2 .left)) (rw (c .before .var-with-degrees-p1 .ensures) at (c .fits-gate .ensures))
+returns-3 c =
+    simp (limits (c .before .before .before), lt-ltb _ _ (c .before .before .if2 .left))
+    (rw (c .before .var-with-degrees-p1 .ensures) at (c .fits-gate .ensures))
 
 pub var-with-gate-spec : {M : Type 1} → statement M
 var-with-gate-spec =
     tie.close
     (tie.spec
-    (λ c κs. search needs)
-    (λ c κs. search needs)
-    returns
-    (λ c κs. search needs)
-    returns-2
-    (λ c κs. search needs)
-    fits-gate-requires
-    returns-3)
+    (λ c κs. search needs) (λ c κs. search needs) returns (λ c κs. search needs) returns-2 (λ c κs. search needs)
+    fits-gate-requires returns-3)

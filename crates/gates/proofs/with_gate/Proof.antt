@@ -12,7 +12,10 @@ limits c = not-false _ (rw (c .before .good-limits .ensures) at (c .if1 .left))
 
 returns : tie.Need-returns
 unfolding withGate
-returns c = simp (not-true (goodLimits ((c .before .before .before) .args .vars) ((c .before .before .before) .args .limits)) (rw (c .before .before .good-limits .ensures) at (c .before .if1 .taken))) (c .by .ensures)
+returns c =
+    let start = c .before .before .before in
+    simp (not-true (goodLimits (start .args .vars) (start .args .limits))
+    (rw (c .before .before .good-limits .ensures) at (c .before .if1 .taken))) (c .by .ensures)
 
 fits-gate-requires : tie.Need-fits-gate-requires
 fits-gate-requires c κs = rw (c .zero-with .ensures) (zero-regular (good-limits _ _ (limits (c .before))) .rules)
@@ -25,9 +28,4 @@ pub with-gate-spec : {M : Type 1} → statement M
 with-gate-spec =
     tie.close
     (tie.spec
-    (λ c κs. search needs)
-    (λ c κs. search needs)
-    returns
-    (λ c κs. search needs)
-    fits-gate-requires
-    returns-2)
+    (λ c κs. search needs) (λ c κs. search needs) returns (λ c κs. search needs) fits-gate-requires returns-2)

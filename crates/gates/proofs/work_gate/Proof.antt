@@ -7,20 +7,15 @@ use Rattle.shape_words.specs.Rules.{none-regular}
 use borrow.Author.Needs.{needs}
 use Rattle.gates.proofs.work_gate.Statement.{statement}
 use Rattle.gates.proofs.work_gate.Tie as tie
-use Rattle.gates.proofs.work_gate.Reads as reads
-use Rattle.gates.proofs.work_gate.Lts as lts
-use Rattle.gates.proofs.is_roomy.Reads as is-roomy-reads
-use Rattle.gates.proofs.one_gate.Reads as one-gate-reads
-use Rattle.model.proofs.Header.none.Reads as Header-none-reads
-use Rattle.model.proofs.Refusal.by.Reads as by-reads
-use Rattle.model.proofs.Refusal.none.Reads as Refusal-none-reads
-use Rattle.shape.proofs.announce.announced_of.Reads as announced-of-reads
-use Rattle.shape_words.proofs.word.header_of.Reads as header-of-reads
 
-ready : (c : tie.Else1) → OneReady ((c .before .before .before) .args .f) ((c .before .before .before) .args .word) ((c .before .before .before) .args .given) ((c .before .before .before) .args .lent)
+ready : (c : tie.Else1) →
+    let start = c .before .before .before in
+    OneReady (start .args .f) (start .args .word) (start .args .given) (start .args .lent)
 ready c = one-ready _ _ _ _ (ap (λ r. r .number) (sym (c .before .before .one-gate .ensures)) ∙ c .if1 .left)
 
-is-announced : (c : tie.After-announced-of) → c .announced-of .result ≡ announcedOne ((c .before .before .before .before .before .before) .args .f) ((c .before .before .before .before .before .before) .args .word)
+is-announced : (c : tie.After-announced-of) →
+    let start = c .before .before .before .before .before .before in
+    c .announced-of .result ≡ announcedOne (start .args .f) (start .args .word)
 is-announced c = simp (c .before .before .header-of .ensures, c .before .none .ensures) at (c .announced-of .ensures)
 
 returns : tie.Need-returns
@@ -35,23 +30,26 @@ is-roomy-requires c κs = rw (is-announced (c)) (one-announced _ _ (ready (c .be
 
 returns-2 : tie.Need-returns-2
 unfolding workGate
-returns-2 c = (simp (not-true (roomy (announcedOne ((c .before .before .before .before .before .before .before .before .before) .args .f) ((c .before .before .before .before .before .before .before .before .before) .args .word)) ((c .before .before .before .before .before .before .before .before .before) .args .scratch)) (rw (c .before .before .is-roomy .ensures, is-announced (c .before .before .before)) at (c .before .if2 .taken))) (c .by .ensures)) ∙ one-on ((c .before .before .before .before .before .before .before .before .before) .args .f) ((c .before .before .before .before .before .before .before .before .before) .args .word) ((c .before .before .before .before .before .before .before .before .before) .args .given) ((c .before .before .before .before .before .before .before .before .before) .args .lent) _ (c .before .before .before .before .before .before .before .before .one-gate .ensures) (c .before .before .before .before .before .before .if1 .left)
+returns-2 c =
+    let c8 = c .before .before .before .before .before .before .before .before in let start = c8 .before in
+    (simp (not-true (roomy (announcedOne (start .args .f) (start .args .word)) (start .args .scratch))
+    (rw (c .before .before .is-roomy .ensures, is-announced (c .before .before .before)) at
+    (c .before .if2 .taken))) (c .by .ensures))
+    ∙ one-on (start .args .f) (start .args .word) (start .args .given) (start .args .lent) _ (c8 .one-gate .ensures)
+    (c .before .before .before .before .before .before .if1 .left)
 
 returns-3 : tie.Need-returns-3
 unfolding workGate
-returns-3 c = (simp (not-false (roomy (announcedOne ((c .before .before .before .before .before .before .before .before .before) .args .f) ((c .before .before .before .before .before .before .before .before .before) .args .word)) ((c .before .before .before .before .before .before .before .before .before) .args .scratch)) (rw (c .before .before .is-roomy .ensures, is-announced (c .before .before .before)) at (c .before .if2 .left))) (c .none2 .ensures)) ∙ one-on ((c .before .before .before .before .before .before .before .before .before) .args .f) ((c .before .before .before .before .before .before .before .before .before) .args .word) ((c .before .before .before .before .before .before .before .before .before) .args .given) ((c .before .before .before .before .before .before .before .before .before) .args .lent) _ (c .before .before .before .before .before .before .before .before .one-gate .ensures) (c .before .before .before .before .before .before .if1 .left)
+returns-3 c =
+    let c8 = c .before .before .before .before .before .before .before .before in let start = c8 .before in
+    (simp (not-false (roomy (announcedOne (start .args .f) (start .args .word)) (start .args .scratch))
+    (rw (c .before .before .is-roomy .ensures, is-announced (c .before .before .before)) at (c .before .if2 .left)))
+    (c .none2 .ensures)) ∙ one-on (start .args .f) (start .args .word) (start .args .given) (start .args .lent) _
+    (c8 .one-gate .ensures) (c .before .before .before .before .before .before .if1 .left)
 
 pub work-gate-spec : {M : Type 1} → statement M
 work-gate-spec =
     tie.close
     (tie.spec
-    (λ c κs. search needs)
-    returns
-    (λ c κs. search needs)
-    (λ c κs. search needs)
-    announced-of-requires
-    is-roomy-requires
-    (λ c κs. search needs)
-    returns-2
-    (λ c κs. search needs)
-    returns-3)
+    (λ c κs. search needs) returns (λ c κs. search needs) (λ c κs. search needs) announced-of-requires is-roomy-requires
+    (λ c κs. search needs) returns-2 (λ c κs. search needs) returns-3)

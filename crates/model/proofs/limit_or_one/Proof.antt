@@ -1,8 +1,6 @@
 use borrow.Author.Tests.{lt-ltb, le-ltb}
 use Rattle.model.proofs.limit_or_one.Statement.{statement}
 use Rattle.model.proofs.limit_or_one.Tie as tie
-use Rattle.model.proofs.limit_or_one.Reads as reads
-use Rattle.model.proofs.limit_or_one.Lts as lts
 
 returns : tie.Need-returns
 returns c = simp (lt-ltb _ _ (c .if1 .taken))

@@ -2,8 +2,6 @@ use borrow.Author.Tests.{eq-eqb, ne-eqb}
 use native.Mathlib.Omega.{arith}
 use Rattle.model.proofs.two_at_most.Statement.{statement}
 use Rattle.model.proofs.two_at_most.Tie as tie
-use Rattle.model.proofs.two_at_most.Reads as reads
-use Rattle.model.proofs.two_at_most.Lts as lts
 
 returns : tie.Need-returns
 returns c = simp (ne-eqb _ _ (c .if1 .taken))

@@ -9,18 +9,21 @@ multiply-short-requires : tie.Need-multiply-short-requires
 multiply-short-requires c κs = short-room (c .before .before .before .before .short-way .ensures (c .before .before .if1 .taken)) refl refl
 
 returns : tie.Need-returns
-returns c = let s = (c .before .before .before .before .before .before .before .before .before .short-way .ensures (c .before .before .before .before .before .before .before .if1 .taken)) in (c .before .before .before .before .multiply-short .ensures .0 ∙ short-answer s (omega (arith, c .before .before .before .before .before .before .before .before .before .before .before .before .before .before .fits .ah)) (c .before .before .before .before .before .before .before .before .before .before .before .before .before .before .args .out .now) (c .before .before .before .before .before .before .before .before .before .before .before .before .before .before .args .scratch .now) refl refl, (c .before .before .before .before .multiply-short .ensures .1 .0 ∙ short-out s (c .before .before .before .before .before .before .before .before .before .before .before .before .before .before .args .out .now) (c .before .before .before .before .before .before .before .before .before .before .before .before .before .before .args .scratch .now) refl refl, c .before .before .before .before .multiply-short .ensures .1 .1 ∙ short-scratch s (c .before .before .before .before .before .before .before .before .before .before .before .before .before .before .args .out .now) (c .before .before .before .before .before .before .before .before .before .before .before .before .before .before .args .scratch .now) refl refl))
+returns c =
+    let c4 = c .before .before .before .before in let c9 = c4 .before .before .before .before .before in
+    let start = c9 .before .before .before .before .before in
+    let s = (c9 .short-way .ensures (c .before .before .before .before .before .before .before .if1 .taken)) in (
+      c4 .multiply-short .ensures .0 ∙ short-answer s (omega (arith, start .fits .ah)) (start .args .out .now)
+          (start .args .scratch .now) refl refl,
+      (
+        c4 .multiply-short .ensures .1 .0 ∙ short-out s (start .args .out .now) (start .args .scratch .now) refl refl,
+        c4 .multiply-short .ensures .1 .1 ∙ short-scratch s (start .args .out .now) (start .args .scratch .now) refl refl,
+      ),
+    )
 
 pub multiply-spec : {M : Type 1} → statement M
 multiply-spec =
     tie.close
     (tie.spec
-    (λ c κs. search needs)
-    multiply-short-requires
-    (λ c. search needs)
-    (λ c. search needs)
-    returns
-    (λ c κs. search needs)
-    (λ c. search needs)
-    (λ c. search needs)
-    (λ c. search needs))
+    (λ c κs. search needs) multiply-short-requires (λ c. search needs) (λ c. search needs) returns
+    (λ c κs. search needs) (λ c. search needs) (λ c. search needs) (λ c. search needs))

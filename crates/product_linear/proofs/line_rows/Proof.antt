@@ -3,7 +3,7 @@ use mathlib.Core.Path.{_≡_, refl}
 use Prim.Native.Nat.{_+_, _-_, _≤_}
 use lib.ListN.{length, length-take, length-drop}
 use Rattle.lists.specs.Table.{Filled, filled-none}
-use Rattle.blocks.specs.Fill.{filled-all}
+use Rattle.lists.specs.Fill.{filled-all}
 use Rattle.product_linear.specs.Rows.{linedFlat}
 use Rattle.product_linear.specs.Raised.{Along, along-first, along-next, row-fits, rows-more}
 use Rattle.product_linear.specs.Lined.{lined-row-is}
@@ -16,7 +16,9 @@ Inv-loop a c m s width step to₀ from₀ at₀ to from at = Along width step fr
 abbrev μ-loop : tie.MeasureT-loop
 μ-loop a c m s width step to₀ from₀ at₀ to from at = length to₀ - at
 
-fits : (c : tie.In-loop Inv-loop μ-loop) → (c .before .loop .from + c .before .before .before .before .args .width ≤ length (c .before .before .before .before .args .a .now)) × (c .before .loop .at + c .before .before .before .before .args .step ≤ length (c .before .before .before .before .args .to .now))
+fits : (c : tie.In-loop Inv-loop μ-loop) →
+    let start = c .before .before .before .before in
+    (c .before .loop .from + start .args .width ≤ length (start .args .a .now)) × (c .before .loop .at + start .args .step ≤ length (start .args .to .now))
 fits c = row-fits ((c .before .before .before .before) .pre .0) (c .before .loop .inv .0) (omega (arith, c .loop-test .taken, c .before .loop .inv .1 .1 .len))
 
 loop-holds : tie.Need-loop-holds Inv-loop μ-loop
@@ -41,7 +43,16 @@ part-line-row-end-2 : tie.Need-part-line-row-end-2 Inv-loop μ-loop
 part-line-row-end-2 c = omega (arith, fits (c .before), c .before .before .loop .inv .1 .1 .len)
 
 line-row-requires : tie.Need-line-row-requires Inv-loop μ-loop
-line-row-requires c κs = let l = c .before .before .before .loop .inv .1 .1 .len in let f = fits (c .before .before) in let p = (c .before .before .before .before .before .before) .pre .0 in let q = (c .before .before .before .before .before .before) .pre .1 in record { small = simp (length-take, length-drop) (omega (arith, q)); reach = simp (length-take, length-drop) (omega (arith, q)); most = simp (length-take, length-drop) (omega (arith, p .most)) }
+line-row-requires c κs =
+    let start = c .before .before .before .before .before .before in
+    let l = c .before .before .before .loop .inv .1 .1 .len in
+    let f = fits (c .before .before) in
+    let p = start .pre .0 in let q = start .pre .1 in
+    record {
+      small = simp (length-take, length-drop) (omega (arith, q));
+      reach = simp (length-take, length-drop) (omega (arith, q));
+      most = simp (length-take, length-drop) (omega (arith, p .most));
+    }
 
 add-from : tie.Need-add-from Inv-loop μ-loop
 add-from c = omega (arith, fits (c .before .before .before .before .before))
@@ -50,17 +61,26 @@ add-at : tie.Need-add-at Inv-loop μ-loop
 add-at c = omega (arith, fits (c .before .before .before .before .before))
 
 loop-less : tie.Need-loop-less Inv-loop μ-loop
-loop-less c = omega (arith, fits (c .before .before .before .before .before), (c .before .before .before .before .before .before .before .before .before) .pre .0 .pos)
+loop-less c =
+    let start = c .before .before .before .before .before .before .before .before .before in
+    omega (arith, fits (c .before .before .before .before .before), start .pre .0 .pos)
 
 loop-again : tie.Need-loop-again Inv-loop μ-loop
-loop-again c = let l = c .before .before .before .before .before .before .loop .inv .1 .1 .len in let f = fits (c .before .before .before .before .before) in let ew : c .before .before .before .before .before .before .loop .from + c .before .before .before .before .before .before .before .before .before .args .width - c .before .before .before .before .before .before .loop .from ≡ c .before .before .before .before .before .before .before .before .before .args .width = omega arith in let es : c .before .before .before .before .before .before .loop .at + c .before .before .before .before .before .before .before .before .before .args .step - c .before .before .before .before .before .before .loop .at ≡ c .before .before .before .before .before .before .before .before .before .args .step = omega arith in (
-  along-next (c .before .before .before .before .before .before .loop .inv .0),
-  (
-    f .1,
-    rows-more (c .before .before .before .before .before .before .before .before .before .args .step) (c .before .before .before .before .before .before .loop .at + c .before .before .before .before .before .before .before .before .before .args .step - c .before .before .before .before .before .before .loop .at) (c .before .before .before .before .before .before .loop .inv .1 .1)
-        (lined-row-is ((c .before .before .before .before .before .before .before .before .before) .pre .0) (c .before .before .before .before .before .before .loop .inv .0) (c .before .before .before .before .before .before .before .before .before .args .c) (c .before .before .before .before .before .before .before .before .before .args .m) (c .before .before .before .before .before .before .before .before .before .args .a .now) (f .0) refl ew (c .before .before .line-row .ensures) (simp (length-take, length-drop) (omega (arith, l, f)))) (f .1) es,
-  ),
-)
+loop-again c =
+    let c6 = c .before .before .before .before .before .before in let start = c6 .before .before .before in
+    let l = c6 .loop .inv .1 .1 .len in
+    let f = fits (c .before .before .before .before .before) in
+    let ew : c6 .loop .from + start .args .width - c6 .loop .from ≡ start .args .width = omega arith in
+    let es : c6 .loop .at + start .args .step - c6 .loop .at ≡ start .args .step = omega arith in (
+      along-next (c6 .loop .inv .0),
+      (
+        f .1,
+        rows-more (start .args .step) (c6 .loop .at + start .args .step - c6 .loop .at) (c6 .loop .inv .1 .1)
+            (lined-row-is (start .pre .0) (c6 .loop .inv .0) (start .args .c) (start .args .m) (start .args .a .now)
+            (f .0) refl ew (c .before .before .line-row .ensures)
+            (simp (length-take, length-drop) (omega (arith, l, f)))) (f .1) es,
+      ),
+    )
 
 same-length : tie.Need-same-length Inv-loop μ-loop
 same-length c = c .before .loop .inv .1 .1 .len
@@ -74,21 +94,6 @@ line-rows-spec =
     (tie.spec
     Inv-loop
     μ-loop
-    loop-holds
-    add-line-row
-    mul-line-row
-    (λ c. omega arith)
-    (λ c. omega arith)
-    part-line-row-end
-    add-line-row-2
-    mul-line-row-2
-    (λ c. omega arith)
-    (λ c. omega arith)
-    part-line-row-end-2
-    line-row-requires
-    add-from
-    add-at
-    loop-less
-    loop-again
-    same-length
-    returns)
+    loop-holds add-line-row mul-line-row (λ c. omega arith) (λ c. omega arith) part-line-row-end add-line-row-2
+    mul-line-row-2 (λ c. omega arith) (λ c. omega arith) part-line-row-end-2 line-row-requires add-from add-at loop-less
+    loop-again same-length returns)

@@ -2,7 +2,7 @@ use native.Mathlib.Omega.{arith}
 use mathlib.Core.Path.{refl, ap, _∙_}
 use Prim.Native.Nat.{ℕ, _-_, _≤_}
 use Rattle.lists.specs.Table.{table, Filled, filled-none, filled-more}
-use Rattle.blocks.specs.Fill.{filled-all}
+use Rattle.lists.specs.Fill.{filled-all}
 use Rattle.model.specs.Product.{scaledAt}
 use Rattle.product_linear.proofs.scale.Statement.{statement}
 use Rattle.product_linear.proofs.scale.Tie as tie
@@ -35,7 +35,10 @@ same-length : tie.Need-same-length Inv-loop μ-loop
 same-length c = c .before .loop .inv .1 .len
 
 returns : tie.Need-returns Inv-loop μ-loop
-returns c = filled-all (c .before .loop .inv .1) (c .before .loop .inv .0) (omega (arith, c .loop-test .left)) ∙ ap (λ (n : ℕ). table n (scaledAt (c .before .before .args .c) (c .before .before .args .a .now))) (c .before .before .pre)
+returns c =
+    filled-all (c .before .loop .inv .1) (c .before .loop .inv .0) (omega (arith, c .loop-test .left))
+    ∙ ap (λ (n : ℕ). table n (scaledAt (c .before .before .args .c) (c .before .before .args .a .now)))
+    (c .before .before .pre)
 
 pub scale-spec : {M : Type 1} → statement M
 scale-spec =
@@ -43,13 +46,5 @@ scale-spec =
     (tie.spec
     Inv-loop
     μ-loop
-    loop-holds
-    mul-to
-    shared-slice-read-to
-    mul-to-2
-    slice-write-to
-    (λ c. omega arith)
-    (λ c. omega arith)
-    loop-again
-    same-length
-    returns)
+    loop-holds mul-to shared-slice-read-to mul-to-2 slice-write-to (λ c. omega arith) (λ c. omega arith) loop-again
+    same-length returns)

@@ -32,31 +32,8 @@ pub add-four-spec : {M : Type 1} → statement M
 add-four-spec =
     tie.close
     (tie.spec
-    (λ c. omega arith)
-    (λ c. omega arith)
-    (λ c. omega arith)
-    (λ c. omega arith)
-    (λ c. omega arith)
-    (λ c. omega arith)
-    (λ c. omega arith)
-    slice-read-res-2
-    (λ c. omega arith)
-    (λ c. omega arith)
-    (λ c. omega arith)
-    slice-write-res-2
-    (λ c. omega arith)
-    (λ c. omega arith)
-    slice-read-res-3
-    (λ c. omega arith)
-    (λ c. omega arith)
-    (λ c. omega arith)
-    slice-write-res-3
-    (λ c. omega arith)
-    (λ c. omega arith)
-    slice-read-res-4
-    (λ c. omega arith)
-    (λ c. omega arith)
-    (λ c. omega arith)
-    slice-write-res-4
-    same-length
-    returns)
+    (λ c. omega arith) (λ c. omega arith) (λ c. omega arith) (λ c. omega arith) (λ c. omega arith) (λ c. omega arith)
+    (λ c. omega arith) slice-read-res-2 (λ c. omega arith) (λ c. omega arith) (λ c. omega arith) slice-write-res-2
+    (λ c. omega arith) (λ c. omega arith) slice-read-res-3 (λ c. omega arith) (λ c. omega arith) (λ c. omega arith)
+    slice-write-res-3 (λ c. omega arith) (λ c. omega arith) slice-read-res-4 (λ c. omega arith) (λ c. omega arith)
+    (λ c. omega arith) slice-write-res-4 same-length returns)

@@ -12,7 +12,8 @@ four-last-requires c κs = omega arith
 
 returns : tie.Need-returns
 unfolding ofBits
-returns c = let a = (c .before .before .before .before) .args in whole-lines (a .xs .now) (a .ys .now) (a .k) (c .before .four-on .ensures) (c .four-last .ensures)
+returns c = let a = (c .before .before .before .before) .args in
+    whole-lines (a .xs .now) (a .ys .now) (a .k) (c .before .four-on .ensures) (c .four-last .ensures)
 
 pub four-full-spec : {M : Type 1} → statement M
 four-full-spec = tie.close (tie.spec four-on-requires four-last-requires returns)

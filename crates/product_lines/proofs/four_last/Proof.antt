@@ -2,33 +2,17 @@ use native.Mathlib.Omega.{arith}
 use Rattle.product_lines.specs.Fours.{ends}
 use Rattle.product_lines.proofs.four_last.Statement.{statement}
 use Rattle.product_lines.proofs.four_last.Tie as tie
-use Rattle.product_lines.proofs.four_last.Reads as reads
-use Rattle.product_lines.proofs.four_last.Lts as lts
 
 returns : tie.Need-returns
-returns c = let a = (c .before .before .before .before .before .before .before .before) .args in ends (a .xs .now) (a .ys .now) (a .k) (a .t4)
+returns c =
+    let start = c .before .before .before .before .before .before .before .before in
+    let a = start .args in ends (a .xs .now) (a .ys .now) (a .k) (a .t4)
 
 pub four-last-spec : {M : Type 1} → statement M
 four-last-spec =
     tie.close
     (tie.spec
-    (λ c. omega arith)
-    (λ c. omega arith)
-    (λ c. omega arith)
-    (λ c. omega arith)
-    (λ c. omega arith)
-    (λ c. omega arith)
-    (λ c. omega arith)
-    (λ c. omega arith)
-    (λ c. omega arith)
-    (λ c. omega arith)
-    (λ c. omega arith)
-    (λ c. omega arith)
-    (λ c. omega arith)
-    (λ c. omega arith)
-    (λ c. omega arith)
-    (λ c. omega arith)
-    (λ c. omega arith)
-    (λ c. omega arith)
-    (λ c. omega arith)
-    returns)
+    (λ c. omega arith) (λ c. omega arith) (λ c. omega arith) (λ c. omega arith) (λ c. omega arith) (λ c. omega arith)
+    (λ c. omega arith) (λ c. omega arith) (λ c. omega arith) (λ c. omega arith) (λ c. omega arith) (λ c. omega arith)
+    (λ c. omega arith) (λ c. omega arith) (λ c. omega arith) (λ c. omega arith) (λ c. omega arith) (λ c. omega arith)
+    (λ c. omega arith) returns)

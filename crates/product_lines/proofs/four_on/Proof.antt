@@ -11,8 +11,12 @@ Inv-loop xs ys k a b s0₀ s1₀ s2₀ s3₀ j₀ s0 s1 s2 s3 j = (j ≤ b) × W
 abbrev μ-loop : tie.MeasureT-loop
 μ-loop xs ys k a b s0₀ s1₀ s2₀ s3₀ j₀ s0 s1 s2 s3 j = b - j
 
-turn : (c : tie.In-loop Inv-loop μ-loop) → Near ((c .before .before .before .before) .args .k) (c .before .loop .j) (length ((c .before .before .before .before) .args .xs .now)) (length ((c .before .before .before .before) .args .ys .now))
-turn c = let f = c .before .loop .inv .1 .w0 .from in let t = c .loop-test .taken in near (omega arith) (omega arith) (omega arith) ((c .before .before .before .before) .pre .small)
+turn : (c : tie.In-loop Inv-loop μ-loop) →
+    let start = c .before .before .before .before in
+    Near (start .args .k) (c .before .loop .j) (length (start .args .xs .now)) (length (start .args .ys .now))
+turn c = let f = c .before .loop .inv .1 .w0 .from in
+    let t = c .loop-test .taken in
+    near (omega arith) (omega arith) (omega arith) ((c .before .before .before .before) .pre .small)
 
 loop-holds : tie.Need-loop-holds Inv-loop μ-loop
 loop-holds c = let a = (c .before .before) .args in ((c .before .before) .pre .ordered, walking-none (a .xs .now) (a .ys .now) (a .k) (a .a) _ _ _ _)
@@ -84,19 +88,27 @@ add-j : tie.Need-add-j Inv-loop μ-loop
 add-j c = fits (turn (c .before .before .before .before .before .before .before) .j2)
 
 loop-less : tie.Need-loop-less Inv-loop μ-loop
-loop-less c = let f = c .before .before .before .before .before .before .before .before .loop .inv .1 .w0 .from in omega arith
+loop-less c =
+    let c8 = c .before .before .before .before .before .before .before .before in
+    let f = c8 .loop .inv .1 .w0 .from in omega arith
 
 loop-again : tie.Need-loop-again Inv-loop μ-loop
-loop-again c = let f = c .before .before .before .before .before .before .before .before .loop .inv .1 .w0 .from in (omega arith, walking-two (c .before .before .before .before .before .before .before .before .loop .inv .1) (omega arith))
+loop-again c =
+    let c8 = c .before .before .before .before .before .before .before .before in
+    let f = c8 .loop .inv .1 .w0 .from in (omega arith, walking-two (c8 .loop .inv .1) (omega arith))
 
 four-more-requires : tie.Need-four-more-requires Inv-loop μ-loop
 four-more-requires c κs = let f = c .before .before .loop .inv .1 .w0 .from in omega arith
 
 returns : tie.Need-returns Inv-loop μ-loop
-returns c = let f = c .before .before .before .loop .inv .1 .w0 .from in walking-last ((c .before .before .before .before .before .before) .args .t6) (c .before .before .before .loop .inv .1) (c .four-more .ensures) (omega arith)
+returns c =
+    let c3 = c .before .before .before in let f = c3 .loop .inv .1 .w0 .from in
+    walking-last (c .before .before .before .before .before .before .args .t6) (c3 .loop .inv .1)
+    (c .four-more .ensures) (omega arith)
 
 returns-2 : tie.Need-returns-2 Inv-loop μ-loop
-returns-2 c = let f = c .before .before .loop .inv .1 .w0 .from in walking-end ((c .before .before .before .before .before) .args .t6) (c .before .before .loop .inv .1) (omega arith)
+returns-2 c = let f = c .before .before .loop .inv .1 .w0 .from in
+    walking-end ((c .before .before .before .before .before) .args .t6) (c .before .before .loop .inv .1) (omega arith)
 
 pub four-on-spec : {M : Type 1} → statement M
 four-on-spec =
@@ -104,35 +116,7 @@ four-on-spec =
     (tie.spec
     Inv-loop
     μ-loop
-    (λ c. omega arith)
-    (λ c. omega arith)
-    (λ c. omega arith)
-    (λ c. omega arith)
-    loop-holds
-    add-loop
-    mul-x
-    shared-slice-read-x
-    add-u
-    mul-u
-    shared-slice-read-u
-    sub-i
-    mul-y0
-    shared-slice-read-y0
-    add-y1
-    mul-y1
-    shared-slice-read-y1
-    add-y2
-    mul-y2
-    shared-slice-read-y2
-    sub-s0
-    mul-s0
-    shared-slice-read-s0
-    add-s3
-    mul-s3
-    shared-slice-read-s3
-    add-j
-    loop-less
-    loop-again
-    four-more-requires
-    returns
-    returns-2)
+    (λ c. omega arith) (λ c. omega arith) (λ c. omega arith) (λ c. omega arith) loop-holds add-loop mul-x
+    shared-slice-read-x add-u mul-u shared-slice-read-u sub-i mul-y0 shared-slice-read-y0 add-y1 mul-y1
+    shared-slice-read-y1 add-y2 mul-y2 shared-slice-read-y2 sub-s0 mul-s0 shared-slice-read-s0 add-s3 mul-s3
+    shared-slice-read-s3 add-j loop-less loop-again four-more-requires returns returns-2)

@@ -11,11 +11,15 @@ upto-requires : tie.Need-upto-requires
 upto-requires c κs = (c .before .before .before) .pre .1
 
 sum-on-requires : tie.Need-sum-on-requires
-sum-on-requires c κs = let p = (c .before .before .before .before) .pre .0 in let f = c .before .from .ensures in let t = c .upto .ensures in record { below = omega arith; left = omega arith; right = omega arith }
+sum-on-requires c κs = let p = (c .before .before .before .before) .pre .0 in
+    let f = c .before .from .ensures in let t = c .upto .ensures in
+    record { below = omega arith; left = omega arith; right = omega arith }
 
 returns : tie.Need-returns
 unfolding ofBits
-returns c = let a = (c .before .before .before .before .before) .args in line-by (a .xs .now) (a .ys .now) (a .nx) (a .ny) (a .k) (c .before .before .from .ensures) (c .before .upto .ensures) (c .sum-on .ensures)
+returns c = let a = (c .before .before .before .before .before) .args in
+    line-by (a .xs .now) (a .ys .now) (a .nx) (a .ny) (a .k) (c .before .before .from .ensures)
+    (c .before .upto .ensures) (c .sum-on .ensures)
 
 pub line-at-spec : {M : Type 1} → statement M
 line-at-spec = tie.close (tie.spec from-requires upto-requires sum-on-requires returns)

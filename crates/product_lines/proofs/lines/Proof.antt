@@ -1,9 +1,8 @@
 use native.Mathlib.Omega.{arith}
 use Prim.Native.Nat.{_-_, _≤_}
 use Rattle.lists.specs.Table.{Filled, filled-none, filled-more}
-use Rattle.blocks.specs.Fill.{filled-all}
-use Rattle.product_lines.specs.Added.{lineAdded}
-use Rattle.product_lines.specs.Added.{line-more}
+use Rattle.lists.specs.Fill.{filled-all}
+use Rattle.product_lines.specs.Added.{lineAdded, line-more}
 use Rattle.product_lines.specs.Fours.{four-more}
 use Rattle.product_lines.proofs.lines.Statement.{statement}
 use Rattle.product_lines.proofs.lines.Tie as tie
@@ -25,8 +24,14 @@ add-four-requires c κs = let l = c .before .before .before .before .loop .inv .
 
 loop-again : tie.Need-loop-again Inv-loop μ-loop
 loop-again c =
-    let a = (c .before .before .before .before .before .before .before .before .before .before .before) .args in
-    (omega arith, rw (c .before .before .add-four .ensures) (four-more (a .xs .now) (a .ys .now) (a .nx) (a .ny) (c .before .before .before .before .before .before .before .loop .inv .1) (omega arith) (c .before .before .before .four-at .ensures)))
+    let start = c .before .before .before .before .before .before .before .before .before .before .before in
+    let a = start .args in (
+      omega arith,
+      rw (c .before .before .add-four .ensures)
+          (four-more (a .xs .now) (a .ys .now) (a .nx) (a .ny)
+          (c .before .before .before .before .before .before .before .loop .inv .1) (omega arith)
+          (c .before .before .before .four-at .ensures)),
+    )
 
 slice-read-res : tie.Need-slice-read-res Inv-loop μ-loop
 slice-read-res c = let l = c .before .before .before .loop .inv .1 .len in omega arith
@@ -39,8 +44,11 @@ slice-write-res c = let l = c .before .before .before .before .loop .inv .1 .len
 
 loop-again-2 : tie.Need-loop-again-2 Inv-loop μ-loop
 loop-again-2 c =
-    let a = (c .before .before .before .before .before .before .before .before) .args in
-    (omega arith, filled-more (c .before .before .before .before .loop .inv .1) (line-more (a .xs .now) (a .ys .now) (a .nx) (a .ny) (c .before .before .before .before .loop .inv .1) (omega arith) (c .line-at .ensures)) (omega arith))
+    let c4 = c .before .before .before .before in let start = c4 .before .before .before .before in
+    let a = start .args in (
+      omega arith,
+      filled-more (c4 .loop .inv .1) (line-more (a .xs .now) (a .ys .now) (a .nx) (a .ny) (c4 .loop .inv .1) (omega arith) (c .line-at .ensures)) (omega arith),
+    )
 
 same-length : tie.Need-same-length Inv-loop μ-loop
 same-length c = c .before .loop .inv .1 .len
@@ -54,20 +62,6 @@ lines-spec =
     (tie.spec
     Inv-loop
     μ-loop
-    loop-holds
-    (λ c. omega arith)
-    four-at-requires
-    add-four-requires
-    (λ c. omega arith)
-    (λ c. omega arith)
-    loop-again
-    (λ c. omega arith)
-    slice-read-res
-    line-at-requires
-    (λ c. omega arith)
-    slice-write-res
-    (λ c. omega arith)
-    (λ c. omega arith)
-    loop-again-2
-    same-length
-    returns)
+    loop-holds (λ c. omega arith) four-at-requires add-four-requires (λ c. omega arith) (λ c. omega arith) loop-again
+    (λ c. omega arith) slice-read-res line-at-requires (λ c. omega arith) slice-write-res (λ c. omega arith)
+    (λ c. omega arith) loop-again-2 same-length returns)

@@ -37,10 +37,13 @@ loop-less : tie.Need-loop-less Inv-loop μ-loop
 loop-less c = let f = c .before .before .before .loop .inv .1 .from in omega arith
 
 loop-again : tie.Need-loop-again Inv-loop μ-loop
-loop-again c = let f = c .before .before .before .loop .inv .1 .from in (omega arith, walked-more (c .before .before .before .loop .inv .1) refl)
+loop-again c =
+    let c3 = c .before .before .before in
+    let f = c3 .loop .inv .1 .from in (omega arith, walked-more (c3 .loop .inv .1) refl)
 
 returns : tie.Need-returns Inv-loop μ-loop
-returns c = let f = c .before .loop .inv .1 .from in walked-end ((c .before .before) .args .b - (c .before .before) .args .a) (c .before .loop .inv .1) (omega arith)
+returns c = let f = c .before .loop .inv .1 .from in
+    walked-end ((c .before .before) .args .b - (c .before .before) .args .a) (c .before .loop .inv .1) (omega arith)
 
 pub sum-on-spec : {M : Type 1} → statement M
 sum-on-spec =
@@ -48,13 +51,5 @@ sum-on-spec =
     (tie.spec
     Inv-loop
     μ-loop
-    loop-holds
-    mul-sum
-    shared-slice-read-sum
-    sub-sum
-    mul-sum-2
-    shared-slice-read-sum-2
-    add-j
-    loop-less
-    loop-again
+    loop-holds mul-sum shared-slice-read-sum sub-sum mul-sum-2 shared-slice-read-sum-2 add-j loop-less loop-again
     returns)

@@ -9,7 +9,9 @@ use Rattle.quotient_lessening.proofs.lessen.Statement.{statement}
 use Rattle.quotient_lessening.proofs.lessen.Tie as tie
 
 abbrev Inv-loop : tie.InvT-loop
-Inv-loop row work₀ from to n i₀ work i = (i ≤ n) × Laid to (table i (λ j. add binary64 (neg (getD row j nan)) (getD work₀ (from + j) nan))) (length work₀) work₀ work
+Inv-loop row work₀ from to n i₀ work i =
+    (i ≤ n) × Laid to (table i (λ j. add binary64 (neg (getD row j nan)) (getD work₀ (from + j) nan)))
+    (length work₀) work₀ work
 
 abbrev μ-loop : tie.MeasureT-loop
 μ-loop row work₀ from to n i₀ work i = n - i
@@ -43,13 +45,24 @@ slice-write-work : tie.Need-slice-write-work Inv-loop μ-loop
 slice-write-work c = let l = c .before .before .before .loop .inv .1 .len in omega (arith, (c .before .before .before .before) .pre)
 
 loop-again : tie.Need-loop-again Inv-loop μ-loop
-loop-again c = let a = c .before .before .before .before .args in let l = c .before .before .before .loop in (omega arith, laid-more (a .to) (l .i) (λ j. add binary64 (neg (getD (a .row .now) j nan)) (getD (a .work .now) (a .from + j) nan)) (l .inv .1) (ap (λ (z : Float). add binary64 (neg (getD (a .row .now) (l .i) nan)) z) (l .inv .1 .low (a .from + l .i) (omega (arith, (c .before .before .before .before) .pre)))) (omega (arith, (c .before .before .before .before) .pre)))
+loop-again c =
+    let start = c .before .before .before .before in let a = start .args in
+    let l = c .before .before .before .loop in (
+      omega arith,
+      laid-more (a .to) (l .i) (λ j. add binary64 (neg (getD (a .row .now) j nan))
+          (getD (a .work .now) (a .from + j) nan)) (l .inv .1)
+          (ap (λ (z : Float). add binary64 (neg (getD (a .row .now) (l .i) nan)) z)
+          (l .inv .1 .low (a .from + l .i) (omega (arith, start .pre)))) (omega (arith, start .pre)),
+    )
 
 same-length : tie.Need-same-length Inv-loop μ-loop
 same-length c = c .before .loop .inv .1 .len
 
 returns : tie.Need-returns Inv-loop μ-loop
-returns c = let a = c .before .before .args in let l = c .before .loop in let e : l .i ≡ length (a .row .now) = omega (arith, c .loop-test .left) in rw e at (l .inv .1)
+returns c = let a = c .before .before .args in
+    let l = c .before .loop in
+    let e : l .i ≡ length (a .row .now) = omega (arith, c .loop-test .left) in
+    rw e at (l .inv .1)
 
 pub lessen-spec : {M : Type 1} → statement M
 lessen-spec =
@@ -57,17 +70,5 @@ lessen-spec =
     (tie.spec
     Inv-loop
     μ-loop
-    loop-holds
-    mul-work
-    shared-slice-read-work
-    add-work
-    mul-work-2
-    slice-read-work
-    add-work-2
-    mul-work-3
-    slice-write-work
-    (λ c. omega arith)
-    (λ c. omega arith)
-    loop-again
-    same-length
-    returns)
+    loop-holds mul-work shared-slice-read-work add-work mul-work-2 slice-read-work add-work-2 mul-work-3
+    slice-write-work (λ c. omega arith) (λ c. omega arith) loop-again same-length returns)

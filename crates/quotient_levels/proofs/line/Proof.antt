@@ -14,8 +14,14 @@ Inv-loop work₀ p e q b f v ly r k₀ work k = (k ≤ at r v) × Laid q (lineLa
 abbrev μ-loop : tie.MeasureT-loop
 μ-loop work₀ p e q b f v ly r k₀ work k = at r v - k
 
-lies : (c : tie.In-loop Inv-loop μ-loop) → (c .before .before .before .args .f ≤ length (c .before .loop .work)) × (c .before .before .before .args .q + c .before .loop .k < length (c .before .loop .work)) × (c .before .before .before .args .p + c .before .loop .k < length (c .before .loop .work)) × (c .before .before .before .args .b < c .before .before .before .args .f)
-lies c = line-in (c .before .before .before .args .work .now) ((c .before .before .before) .pre) (c .loop-test .taken) (c .before .loop .inv .1)
+lies : (c : tie.In-loop Inv-loop μ-loop) →
+    let start = c .before .before .before in
+    (start .args .f ≤ length (c .before .loop .work))
+    × (start .args .q + c .before .loop .k < length (c .before .loop .work))
+    × (start .args .p + c .before .loop .k < length (c .before .loop .work)) × (start .args .b < start .args .f)
+lies c =
+    let start = c .before .before .before in
+    line-in (start .args .work .now) (start .pre) (c .loop-test .taken) (c .before .loop .inv .1)
 
 loop-holds : tie.Need-loop-holds Inv-loop μ-loop
 loop-holds c = (omega arith, line-none (c .before .args .work .now) ((c .before) .pre))
@@ -60,7 +66,10 @@ part-sum-on-end-2 : tie.Need-part-sum-on-end-2 Inv-loop μ-loop
 part-sum-on-end-2 c = let i = lies (c .before .before .before) in omega (arith, i .0, i .1, i .2, i .3)
 
 sum-on-requires : tie.Need-sum-on-requires Inv-loop μ-loop
-sum-on-requires c κs = line-summing (c .before .before .before .before .before .before .before .args .work .now) ((c .before .before .before .before .before .before .before) .pre) (c .before .before .before .before .loop-test .taken) (c .before .before .before .before .before .loop .inv .1) (c .before .before .before .from .ensures)
+sum-on-requires c κs =
+    let start = c .before .before .before .before .before .before .before in
+    line-summing (start .args .work .now) (start .pre) (c .before .before .before .before .loop-test .taken)
+    (c .before .before .before .before .before .loop .inv .1) (c .before .before .before .from .ensures)
 
 add-through : tie.Need-add-through Inv-loop μ-loop
 add-through c = let i = lies (c .before .before .before .before .before) in omega (arith, i .0, i .1, i .2, i .3)
@@ -78,28 +87,44 @@ mul-work : tie.Need-mul-work Inv-loop μ-loop
 mul-work c = let i = lies (c .before .before .before .before .before .before .before) in omega (arith, i .0, i .1, i .2, i .3)
 
 slice-read-work : tie.Need-slice-read-work Inv-loop μ-loop
-slice-read-work c = let i = lies (c .before .before .before .before .before .before .before .before) in omega (arith, i .0, i .1, i .2, i .3)
+slice-read-work c =
+    let c8 = c .before .before .before .before .before .before .before .before in
+    let i = lies c8 in omega (arith, i .0, i .1, i .2, i .3)
 
 mul-work-2 : tie.Need-mul-work-2 Inv-loop μ-loop
-mul-work-2 c = let i = lies (c .before .before .before .before .before .before .before .before) in omega (arith, i .0, i .1, i .2, i .3)
+mul-work-2 c =
+    let c8 = c .before .before .before .before .before .before .before .before in
+    let i = lies c8 in omega (arith, i .0, i .1, i .2, i .3)
 
 slice-write-work : tie.Need-slice-write-work Inv-loop μ-loop
 slice-write-work c = lies (c .before .before .before .before .before .before .before .before) .1
 
 add-k : tie.Need-add-k Inv-loop μ-loop
-add-k c = let g = (c .before .before .before .before .before .before .before .before .before .before .before) .pre .single in omega (arith, row-small (g .result) (g .some) (c .before .before .before .before .before .before .before .before .loop-test .taken))
+add-k c =
+    let c8 = c .before .before .before .before .before .before .before .before in
+    let start = c8 .before .before .before in
+    let g = start .pre .single in omega (arith, row-small (g .result) (g .some) (c8 .loop-test .taken))
 
 loop-less : tie.Need-loop-less Inv-loop μ-loop
 loop-less c = omega (arith, c .before .before .before .before .before .before .before .before .loop-test .taken)
 
 loop-again : tie.Need-loop-again Inv-loop μ-loop
-loop-again c = (omega (arith, c .before .before .before .before .before .before .before .before .loop-test .taken), line-more (c .before .before .before .before .before .before .before .before .before .before .before .args .work .now) ((c .before .before .before .before .before .before .before .before .before .before .before) .pre) (c .before .before .before .before .before .before .before .before .loop-test .taken) (c .before .before .before .before .before .before .before .before .before .loop .inv .1) (c .before .before .before .before .before .before .before .from .ensures) (c .before .before .before .sum-on .ensures) (c .before .through .ensures))
+loop-again c =
+    let c8 = c .before .before .before .before .before .before .before .before in let c9 = c8 .before in
+    let start = c9 .before .before in (
+      omega (arith, c8 .loop-test .taken),
+      line-more (start .args .work .now) (start .pre) (c8 .loop-test .taken) (c9 .loop .inv .1)
+          (c .before .before .before .before .before .before .before .from .ensures)
+          (c .before .before .before .sum-on .ensures) (c .before .through .ensures),
+    )
 
 same-length : tie.Need-same-length Inv-loop μ-loop
 same-length c = c .before .loop .inv .1 .len
 
 returns : tie.Need-returns Inv-loop μ-loop
-returns c = line-all (c .before .before .before .args .work .now) ((c .before .before .before) .pre) (omega (arith, c .before .loop .inv .0, c .loop-test .left)) (c .before .loop .inv .1)
+returns c =
+    let start = c .before .before .before in
+    line-all (start .args .work .now) (start .pre) (omega (arith, c .before .loop .inv .0, c .loop-test .left)) (c .before .loop .inv .1)
 
 pub line-spec : {M : Type 1} → statement M
 line-spec =
@@ -107,32 +132,7 @@ line-spec =
     (tie.spec
     Inv-loop
     μ-loop
-    loop-holds
-    mul-loop
-    array-read-loop
-    add-end
-    mul-from
-    array-read-from
-    from-requires
-    mul-sum-on
-    (λ c. omega arith)
-    part-sum-on-start
-    part-sum-on-end
-    mul-sum-on-2
-    sub-sum-on-2
-    part-sum-on-start-2
-    part-sum-on-end-2
-    sum-on-requires
-    add-through
-    mul-through
-    slice-read-through
-    through-requires
-    mul-work
-    slice-read-work
-    mul-work-2
-    slice-write-work
-    add-k
-    loop-less
-    loop-again
-    same-length
-    returns)
+    loop-holds mul-loop array-read-loop add-end mul-from array-read-from from-requires mul-sum-on (λ c. omega arith)
+    part-sum-on-start part-sum-on-end mul-sum-on-2 sub-sum-on-2 part-sum-on-start-2 part-sum-on-end-2 sum-on-requires
+    add-through mul-through slice-read-through through-requires mul-work slice-read-work mul-work-2 slice-write-work
+    add-k loop-less loop-again same-length returns)

@@ -21,22 +21,34 @@ array-read-from : tie.Need-array-read-from
 array-read-from c = let h = (c .before .before .before .before) .pre .1 .some in omega arith
 
 from-requires : tie.Need-from-requires
-from-requires c κs = let t = (c .before .before .before .before) .pre .1 in row-small ((c .before .before .before .before) .pre .0 .strided .result) (t .some) (t .row)
+from-requires c κs =
+    let start = c .before .before .before .before in
+    let t = start .pre .1 in row-small (start .pre .0 .strided .result) (t .some) (t .row)
 
 sum-on-requires : tie.Need-sum-on-requires
-sum-on-requires c κs = one-summing ((c .before .before .before .before .before) .pre .0) (c .before .before .before .before .before .args .done .now) (c .before .before .before .before .before .args .ys .now) ((c .before .before .before .before .before) .pre .1) (c .before .if1 .taken) (c .from .ensures)
+sum-on-requires c κs =
+    let start = c .before .before .before .before .before in
+    one-summing (start .pre .0) (start .args .done .now) (start .args .ys .now) (start .pre .1) (c .before .if1 .taken) (c .from .ensures)
 
 slice-write-row : tie.Need-slice-write-row
-slice-write-row c = let a = c .before .before .before .before .before .before .args in let t = c .before .before .before .before .before .before .pre .1 in let h = t .some in omega (arith, t .full, span-pos {v = a .v + 1} (c .before .before .before .before .before .before .pre .0 .strided .result) (omega arith))
+slice-write-row c =
+    let start = c .before .before .before .before .before .before in let a = start .args in let t = start .pre .1 in
+    let h = t .some in
+    omega (arith, t .full, span-pos {v = a .v + 1} (start .pre .0 .strided .result) (omega arith))
 
 same-length : tie.Need-same-length
 same-length c = simp length-set
 
 returns : tie.Need-returns
-returns c = one-taken ((c .before .before .before .before .before .before) .pre .0) (c .before .before .before .before .before .before .args .done .now) (c .before .before .before .before .before .before .args .ys .now) ((c .before .before .before .before .before .before) .pre .1) (c .before .before .if1 .taken) (c .before .before .before .before .before .before .args .row .now) refl (c .before .from .ensures) (c .sum-on .ensures)
+returns c =
+    let start = c .before .before .before .before .before .before in
+    one-taken (start .pre .0) (start .args .done .now) (start .args .ys .now) (start .pre .1)
+    (c .before .before .if1 .taken) (start .args .row .now) refl (c .before .from .ensures) (c .sum-on .ensures)
 
 taken-by-rows-requires : tie.Need-taken-by-rows-requires
-taken-by-rows-requires c κs = ((c .before .before .before .before .before) .pre .0 .strided, (c .before .before .before .before .before) .pre .1)
+taken-by-rows-requires c κs =
+    let start = c .before .before .before .before .before in
+    (start .pre .0 .strided, start .pre .1)
 
 same-length-2 : tie.Need-same-length-2
 same-length-2 c = c .before .before .taken-by-rows .kept .1 .1 .1 .1 .1 .1 .1 .1 .0
@@ -48,15 +60,5 @@ pub taken-row-spec : {M : Type 1} → statement M
 taken-row-spec =
     tie.close
     (tie.spec
-    mul-if1
-    array-read-if1
-    mul-from
-    array-read-from
-    from-requires
-    sum-on-requires
-    slice-write-row
-    same-length
-    returns
-    taken-by-rows-requires
-    same-length-2
-    returns-2)
+    mul-if1 array-read-if1 mul-from array-read-from from-requires sum-on-requires slice-write-row same-length returns
+    taken-by-rows-requires same-length-2 returns-2)

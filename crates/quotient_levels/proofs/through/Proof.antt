@@ -31,5 +31,4 @@ returns : tie.Need-returns Inv-loop μ-loop
 returns c = let f = c .before .loop .inv .1 .from in walked-end (4 - (c .before .before .args .v + 1)) (c .before .loop .inv .1) (omega arith)
 
 pub through-spec : {M : Type 1} → statement M
-through-spec =
-    tie.close (tie.spec Inv-loop μ-loop add-j loop-holds add-j-2 loop-less loop-again returns)
+through-spec = tie.close (tie.spec Inv-loop μ-loop add-j loop-holds add-j-2 loop-less loop-again returns)

@@ -17,27 +17,50 @@ use borrow.Author.Needs.{needs}
 use Rattle.readings.proofs.coefficients_of_term.Statement.{statement}
 use Rattle.readings.proofs.coefficients_of_term.Tie as tie
 
-ready : (c : tie.Else1) → InReady (Term ((c .before .before .before .before .before) .args .v)) ((c .before .before .before .before .before) .args .v) ((c .before .before .before .before .before) .args .order) ((c .before .before .before .before .before) .args .head) (length ((c .before .before .before .before .before) .args .a .now)) (length ((c .before .before .before .before .before) .args .out .now))
+ready : (c : tie.Else1) →
+    let start = c .before .before .before .before .before in
+    InReady (Term (start .args .v)) (start .args .v) (start .args .order) (start .args .head) (length (start .args .a .now)) (length (start .args .out .now))
 ready c = in-ready _ _ _ _ _ _ (ap (λ r. r .number) (sym (c .before .before .in-gate .ensures)) ∙ c .if1 .left)
 
-is-announced : (c : tie.After-announced-of) → c .announced-of .result ≡ (announcedOne (Term ((c .before .before .before .before .before .before .before .before) .args .v)) ((c .before .before .before .before .before .before .before .before) .args .head))
+is-announced : (c : tie.After-announced-of) →
+    let start = c .before .before .before .before .before .before .before .before in
+    c .announced-of .result ≡ (announcedOne (Term (start .args .v)) (start .args .head))
 is-announced c = simp (c .before .before .header-of .ensures, c .before .none .ensures) at (c .announced-of .ensures)
 
-given : (c : tie.After-stored-of) → c .stored-of .result ≡ stored (headerOf ((c .before .before .before .before .before .before .before .before .before) .args .head))
+given : (c : tie.After-stored-of) →
+    let start = c .before .before .before .before .before .before .before .before .before in
+    c .stored-of .result ≡ stored (headerOf (start .args .head))
 given c = c .stored-of .ensures ∙ ap stored (c .before .before .before .header-of .ensures)
 
-count : (c : tie.After-stored-of2) → c .stored-of2 .result ≡ stored (announcedOne (Term ((c .before .before .before .before .before .before .before .before .before .before) .args .v)) ((c .before .before .before .before .before .before .before .before .before .before) .args .head))
+count : (c : tie.After-stored-of2) →
+    let start = c .before .before .before .before .before .before .before .before .before .before in
+    c .stored-of2 .result ≡ stored (announcedOne (Term (start .args .v)) (start .args .head))
 count c = c .stored-of2 .ensures ∙ ap stored (is-announced (c .before .before))
 
-head-is : (c : tie.After-take-term) → c .take-term .result ≡ coefficientsOfTerm ((c .before .before .before .before .before .before .before .before .before .before .before .before .before) .args .v) ((c .before .before .before .before .before .before .before .before .before .before .before .before .before) .args .order) (held ((c .before .before .before .before .before .before .before .before .before .before .before .before .before) .args .head) ((c .before .before .before .before .before .before .before .before .before .before .before .before .before) .args .a .now)) .head
-head-is c = rw (c .before .before .before .before .before .before .before .header-of .ensures, given (c .before .before .before .before)) at (c .take-term .ensures .0)
+head-is : (c : tie.After-take-term) →
+    let c12 = c .before .before .before .before .before .before .before .before .before .before .before .before in
+    let start = c12 .before in
+    c .take-term .result ≡ coefficientsOfTerm (start .args .v) (start .args .order) (held (start .args .head) (start .args .a .now)) .head
+head-is c =
+    rw (
+      c .before .before .before .before .before .before .before .header-of .ensures,
+      given (c .before .before .before .before),
+    ) at (c .take-term .ensures .0)
 
 returns : tie.Need-returns
 unfolding coefficientsOfTermAnswer coefficientsOfTermOut
-returns c = entry-refused (c .before .before .in-gate .ensures) (c .if1 .taken) (announcedOne (Term ((c .before .before .before .before .before) .args .v)) ((c .before .before .before .before .before) .args .head)) (coefficientsOfTerm ((c .before .before .before .before .before) .args .v) ((c .before .before .before .before .before) .args .order) (held ((c .before .before .before .before .before) .args .head) ((c .before .before .before .before .before) .args .a .now))) ((c .before .before .before .before .before) .args .out .now)
+returns c =
+    let start = c .before .before .before .before .before in
+    entry-refused (c .before .before .in-gate .ensures) (c .if1 .taken)
+    (announcedOne (Term (start .args .v)) (start .args .head))
+    (coefficientsOfTerm (start .args .v) (start .args .order) (held (start .args .head) (start .args .a .now)))
+    (start .args .out .now)
 
 announced-of-requires : tie.Need-announced-of-requires
-announced-of-requires c κs = (rw (c .before .header-of .ensures) (ready (c .before .before) .one .good .regular .rules), rw (c .none .ensures) (none-regular .rules))
+announced-of-requires c κs = (
+  rw (c .before .header-of .ensures) (ready (c .before .before) .one .good .regular .rules),
+  rw (c .none .ensures) (none-regular .rules),
+)
 
 stored-of-requires : tie.Need-stored-of-requires
 stored-of-requires c κs = rw (c .before .before .header-of .ensures) (ready (c .before .before .before) .one .good .regular .rules)
@@ -46,39 +69,61 @@ stored-of-requires-2 : tie.Need-stored-of-requires-2
 stored-of-requires-2 c κs = rw (is-announced (c .before)) (ready (c .before .before .before .before) .one .announced .regular .rules)
 
 slice-aggregate-take-term : tie.Need-slice-aggregate-take-term
-slice-aggregate-take-term c = sym (length-take-le _ ((c .before .before .before .before .before .before .before .before .before .before .before) .args .a .now) (rw (given (c .before .before)) (ready (c .before .before .before .before .before .before) .one .full)))
+slice-aggregate-take-term c =
+    let start = c .before .before .before .before .before .before .before .before .before .before .before in
+    sym (length-take-le _ (start .args .a .now) (rw (given (c .before .before)) (ready (c .before .before .before .before .before .before) .one .full)))
 
 slice-relend-prefix-take-term : tie.Need-slice-relend-prefix-take-term
 slice-relend-prefix-take-term c = rw (count (c .before)) (ready (c .before .before .before .before .before .before) .one .room)
 
 slice-aggregate-take-term-2 : tie.Need-slice-aggregate-take-term-2
-slice-aggregate-take-term-2 c = sym (length-take-le _ ((c .before .before .before .before .before .before .before .before .before .before .before .before) .args .out .now) (rw (count (c .before .before)) (ready (c .before .before .before .before .before .before .before) .one .room)))
+slice-aggregate-take-term-2 c =
+    let start = c .before .before .before .before .before .before .before .before .before .before .before .before in
+    sym (length-take-le _ (start .args .out .now)
+    (rw (count (c .before .before)) (ready (c .before .before .before .before .before .before .before) .one .room)))
 
 take-term-requires : tie.Need-take-term-requires
-take-term-requires c κs = record { rules = rw (c .before .before .before .before .before .before .header-of .ensures) (ready (c .before .before .before .before .before .before .before) .one .good .regular .rules); is = rw (c .before .before .before .before .before .before .header-of .ensures) (is-announced (c .before .before .before .before)); var = omega (arith, ready (c .before .before .before .before .before .before .before) .known, ready (c .before .before .before .before .before .before .before) .one .good .regular .rules .few); full = length-take-le _ ((c .before .before .before .before .before .before .before .before .before .before .before .before) .args .a .now) (rw (given (c .before .before .before)) (ready (c .before .before .before .before .before .before .before) .one .full)) ∙ c .before .before .before .stored-of .ensures; room = length-take-le _ ((c .before .before .before .before .before .before .before .before .before .before .before .before) .args .out .now) (rw (count (c .before .before)) (ready (c .before .before .before .before .before .before .before) .one .room)) ∙ c .before .before .stored-of2 .ensures }
+take-term-requires c κs =
+    let c3 = c .before .before .before in let c6 = c3 .before .before .before in let c7 = c6 .before in
+    let start = c7 .before .before .before .before .before in
+    record {
+      rules = rw (c6 .header-of .ensures) (ready c7 .one .good .regular .rules);
+      is = rw (c6 .header-of .ensures) (is-announced (c .before .before .before .before));
+      var = omega (arith, ready c7 .known, ready c7 .one .good .regular .rules .few);
+      full = length-take-le _ (start .args .a .now) (rw (given c3) (ready c7 .one .full)) ∙ c3 .stored-of .ensures;
+      room = length-take-le _ (start .args .out .now) (rw (count (c .before .before)) (ready c7 .one .room)) ∙ c .before .before .stored-of2 .ensures;
+    }
 
 pack-requires : tie.Need-pack-requires
-pack-requires c κs = rw (head-is (c .before .before)) (coefficients-of-term-keeps ((c .before .before .before .before .before .before .before .before .before .before .before .before .before .before .before) .args .v) ((c .before .before .before .before .before .before .before .before .before .before .before .before .before .before .before) .args .order) (held ((c .before .before .before .before .before .before .before .before .before .before .before .before .before .before .before) .args .head) ((c .before .before .before .before .before .before .before .before .before .before .before .before .before .before .before) .args .a .now)) (ready (c .before .before .before .before .before .before .before .before .before .before) .one .good .regular .rules) .regular .rules)
+pack-requires c κs =
+    let c10 = c .before .before .before .before .before .before .before .before .before .before in
+    let start = c10 .before .before .before .before .before in
+    rw (head-is (c .before .before)) (coefficients-of-term-keeps (start .args .v) (start .args .order)
+    (held (start .args .head) (start .args .a .now)) (ready c10 .one .good .regular .rules) .regular .rules)
 
 returns-2 : tie.Need-returns-2
 unfolding coefficientsOfTermAnswer coefficientsOfTermOut
-returns-2 c = entry-done (c .before .before .before .before .before .before .before .before .before .before .before .before .before .in-gate .ensures) (c .before .before .before .before .before .before .before .before .before .before .before .if1 .left) (announcedOne (Term ((c .before .before .before .before .before .before .before .before .before .before .before .before .before .before .before .before) .args .v)) ((c .before .before .before .before .before .before .before .before .before .before .before .before .before .before .before .before) .args .head)) (coefficientsOfTerm ((c .before .before .before .before .before .before .before .before .before .before .before .before .before .before .before .before) .args .v) ((c .before .before .before .before .before .before .before .before .before .before .before .before .before .before .before .before) .args .order) (held ((c .before .before .before .before .before .before .before .before .before .before .before .before .before .before .before .before) .args .head) ((c .before .before .before .before .before .before .before .before .before .before .before .before .before .before .before .before) .args .a .now))) ((c .before .before .before .before .before .before .before .before .before .before .before .before .before .before .before .before) .args .out .now) (ap Done (c .pack .ensures ∙ ap wordOf (head-is (c .before .before .before)))) (rw (count (c .before .before .before .before .before .before)) (part-written (stored (announcedOne (Term ((c .before .before .before .before .before .before .before .before .before .before .before .before .before .before .before .before) .args .v)) ((c .before .before .before .before .before .before .before .before .before .before .before .before .before .before .before .before) .args .head))) (coefficientsOfTerm ((c .before .before .before .before .before .before .before .before .before .before .before .before .before .before .before .before) .args .v) ((c .before .before .before .before .before .before .before .before .before .before .before .before .before .before .before .before) .args .order) (held ((c .before .before .before .before .before .before .before .before .before .before .before .before .before .before .before .before) .args .head) ((c .before .before .before .before .before .before .before .before .before .before .before .before .before .before .before .before) .args .a .now)) .coeffs) ((c .before .before .before .before .before .before .before .before .before .before .before .before .before .before .before .before) .args .out .now) (rw (c .before .before .before .before .before .before .before .before .before .before .header-of .ensures, given (c .before .before .before .before .before .before .before), is-announced (c .before .before .before .before .before .before .before .before)) at (c .before .before .before .take-term .ensures .1))))
+returns-2 c =
+    let c3 = c .before .before .before in let c8 = c3 .before .before .before .before .before in
+    let c10 = c8 .before .before in let c11 = c10 .before in let c13 = c11 .before .before in
+    let start = c13 .before .before .before in
+    entry-done (c13 .in-gate .ensures) (c11 .if1 .left) (announcedOne (Term (start .args .v)) (start .args .head))
+    (coefficientsOfTerm (start .args .v) (start .args .order) (held (start .args .head) (start .args .a .now)))
+    (start .args .out .now) (ap Done (c .pack .ensures ∙ ap wordOf (head-is c3)))
+    (rw (count (c .before .before .before .before .before .before))
+    (part-written (stored (announcedOne (Term (start .args .v)) (start .args .head)))
+    (coefficientsOfTerm (start .args .v) (start .args .order)
+    (held (start .args .head) (start .args .a .now)) .coeffs) (start .args .out .now)
+    (rw (
+      c10 .header-of .ensures,
+      given (c .before .before .before .before .before .before .before),
+      is-announced c8,
+    ) at (c3 .take-term .ensures .1))))
 
 pub coefficients-of-term-spec : {M : Type 1} → statement M
 coefficients-of-term-spec =
     tie.close
     (tie.spec
-    (λ c κs. search needs)
-    returns
-    (λ c κs. search needs)
-    (λ c κs. search needs)
-    announced-of-requires
-    stored-of-requires
-    stored-of-requires-2
-    slice-aggregate-take-term
-    slice-relend-prefix-take-term
-    slice-aggregate-take-term-2
-    take-term-requires
-    pack-requires
-    (λ c. search needs)
-    returns-2)
+    (λ c κs. search needs) returns (λ c κs. search needs) (λ c κs. search needs) announced-of-requires
+    stored-of-requires stored-of-requires-2 slice-aggregate-take-term slice-relend-prefix-take-term
+    slice-aggregate-take-term-2 take-term-requires pack-requires (λ c. search needs) returns-2)

@@ -7,7 +7,9 @@ use borrow.Author.Needs.{needs}
 use Rattle.readings.proofs.constant_term.Statement.{statement}
 use Rattle.readings.proofs.constant_term.Tie as tie
 
-ready : (c : tie.Else1) → ReadReady ((c .before .before .before .before) .args .head) (length ((c .before .before .before .before) .args .a .now))
+ready : (c : tie.Else1) →
+    let start = c .before .before .before .before in
+    ReadReady (start .args .head) (length (start .args .a .now))
 ready c = read-ready _ _ (ap (λ r. r .number) (sym (c .before .before .read-gate .ensures)) ∙ c .if1 .left)
 
 read-gate-requires : tie.Need-read-gate-requires

@@ -10,7 +10,9 @@ use borrow.Author.Needs.{needs}
 use Rattle.readings.proofs.extract_linear.Statement.{statement}
 use Rattle.readings.proofs.extract_linear.Tie as tie
 
-ready : (c : tie.Else1) → ReadReady ((c .before .before .before .before) .args .head) (length ((c .before .before .before .before) .args .a .now))
+ready : (c : tie.Else1) →
+    let start = c .before .before .before .before in
+    ReadReady (start .args .head) (length (start .args .a .now))
 ready c = read-ready _ _ (ap (λ r. r .number) (sym (c .before .before .read-gate .ensures)) ∙ c .if1 .left)
 
 counted : (c : tie.After-stored-of) → c .stored-of .result ≡ stored (headerOf ((c .before .before .before .before .before .before) .args .head))
@@ -24,23 +26,29 @@ stored-of-requires : tie.Need-stored-of-requires
 stored-of-requires c κs = rw (c .header-of .ensures) (ready (c .before) .good .regular .rules)
 
 slice-aggregate-linear-of : tie.Need-slice-aggregate-linear-of
-slice-aggregate-linear-of c = sym (length-take-le _ ((c .before .before .before .before .before .before .before .before) .args .a .now) (rw (counted (c .before .before)) (ready (c .before .before .before .before) .full)))
+slice-aggregate-linear-of c =
+    let start = c .before .before .before .before .before .before .before .before in
+    sym (length-take-le _ (start .args .a .now) (rw (counted (c .before .before)) (ready (c .before .before .before .before) .full)))
 
 linear-of-requires : tie.Need-linear-of-requires
-linear-of-requires c κs = (rw (c .before .before .before .header-of .ensures) (read-lengths (ready (c .before .before .before .before))), length-take-le _ ((c .before .before .before .before .before .before .before .before) .args .a .now) (rw (counted (c .before .before)) (ready (c .before .before .before .before) .full)) ∙ c .before .before .stored-of .ensures)
+linear-of-requires c κs =
+    let c4 = c .before .before .before .before in
+    let start = c4 .before .before .before .before in (
+      rw (c .before .before .before .header-of .ensures) (read-lengths (ready c4)),
+      length-take-le _ (start .args .a .now) (rw (counted (c .before .before)) (ready c4 .full)) ∙ c .before .before .stored-of .ensures,
+    )
 
 returns-2 : tie.Need-returns-2
 unfolding extractLinearAnswer
-returns-2 c = line-done (c .before .before .before .before .before .before .before .read-gate .ensures) (c .before .before .before .before .before .if1 .left) (c .linear-of .ensures ∙ (rw (counted (c .before .before .before), c .before .before .before .before .header-of .ensures)))
+returns-2 c =
+    line-done (c .before .before .before .before .before .before .before .read-gate .ensures)
+    (c .before .before .before .before .before .if1 .left)
+    (c .linear-of .ensures
+    ∙ (rw (counted (c .before .before .before), c .before .before .before .before .header-of .ensures)))
 
 pub extract-linear-spec : {M : Type 1} → statement M
 extract-linear-spec =
     tie.close
     (tie.spec
-    (λ c κs. search needs)
-    returns
-    (λ c κs. search needs)
-    stored-of-requires
-    slice-aggregate-linear-of
-    linear-of-requires
-    returns-2)
+    (λ c κs. search needs) returns (λ c κs. search needs) stored-of-requires slice-aggregate-linear-of
+    linear-of-requires returns-2)

@@ -17,5 +17,4 @@ unfolding zeroWith
 returns c = c .before .before .constant-with .ensures
 
 pub from-u32-spec : {M : Type 1} → statement M
-from-u32-spec =
-    tie.close (tie.spec int-to-float-constant-with constant-with-requires same-length returns)
+from-u32-spec = tie.close (tie.spec int-to-float-constant-with constant-with-requires same-length returns)

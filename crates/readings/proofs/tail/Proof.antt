@@ -13,10 +13,14 @@ use borrow.Author.Needs.{needs}
 use Rattle.readings.proofs.tail.Statement.{statement}
 use Rattle.readings.proofs.tail.Tie as tie
 
-ready : (c : tie.Else1) → TailReady ((c .before .before .before .before) .args .head) (length ((c .before .before .before .before) .args .a .now)) ((c .before .before .before .before) .args .k)
+ready : (c : tie.Else1) →
+    let start = c .before .before .before .before in
+    TailReady (start .args .head) (length (start .args .a .now)) (start .args .k)
 ready c = tail-ready _ _ _ (ap (λ r. r .number) (sym (c .before .before .tail-gate .ensures)) ∙ c .if1 .left)
 
-many : (c : tie.After-least) → c .least .result ≡ min (len (headerOf ((c .before .before .before .before .before .before .before) .args .head)) 0) (((c .before .before .before .before .before .before .before) .args .k) + 1)
+many : (c : tie.After-least) →
+    let start = c .before .before .before .before .before .before .before in
+    c .least .result ≡ min (len (headerOf (start .args .head)) 0) (start .args .k + 1)
 many c = rw (c .before .before .header-of .ensures) at (c .least .ensures)
 
 returns : tie.Need-returns
@@ -31,17 +35,15 @@ sum-to-requires c κs = rw (many c) (let t = tail-room (ready (c .before .before
 
 returns-2 : tie.Need-returns-2
 unfolding tailAnswer tailOf
-returns-2 c = read-done (c .before .before .before .before .before .before .tail-gate .ensures) (c .before .before .before .before .if1 .left) (ap (sub binary64 oneF) (c .sum-to .ensures ∙ ap (sumTo ((c .before .before .before .before .before .before .before .before) .args .a .now)) (many (c .before))))
+returns-2 c =
+    let start = c .before .before .before .before .before .before .before .before in
+    read-done (c .before .before .before .before .before .before .tail-gate .ensures)
+    (c .before .before .before .before .if1 .left)
+    (ap (sub binary64 oneF) (c .sum-to .ensures ∙ ap (sumTo (start .args .a .now)) (many (c .before))))
 
 pub tail-spec : {M : Type 1} → statement M
 tail-spec =
     tie.close
     (tie.spec
-    (λ c κs. search needs)
-    returns
-    (λ c κs. search needs)
-    (λ c. omega arith)
-    add-least
-    (λ c κs. search needs)
-    sum-to-requires
-    returns-2)
+    (λ c κs. search needs) returns (λ c κs. search needs) (λ c. omega arith) add-least (λ c κs. search needs)
+    sum-to-requires returns-2)

@@ -11,32 +11,46 @@ use borrow.Author.Needs.{needs}
 use Rattle.readings.proofs.var.Statement.{statement}
 use Rattle.readings.proofs.var.Tie as tie
 
-ready : (c : tie.Else1) → VarReady ((c .before .before .before .before) .args .v) ((c .before .before .before .before) .args .limit) (length ((c .before .before .before .before) .args .out .now))
+ready : (c : tie.Else1) →
+    let start = c .before .before .before .before in
+    VarReady (start .args .v) (start .args .limit) (length (start .args .out .now))
 ready c = var-ready _ _ _ (ap (λ r. r .number) (sym (c .before .before .var-gate .ensures)) ∙ c .if1 .left)
 
-header : (c : tie.After-var-with-degrees-p1) → c .var-with-degrees-p1 .result ≡ (varHeader ((c .before .before .before .before .before) .args .v) ((c .before .before .before .before .before) .args .limit))
+header : (c : tie.After-var-with-degrees-p1) →
+    let start = c .before .before .before .before .before in
+    c .var-with-degrees-p1 .result ≡ (varHeader (start .args .v) (start .args .limit))
 header c = rw (add-one ((c .before .before .before .before .before) .args .v)) at (c .var-with-degrees-p1 .ensures)
 
 returns : tie.Need-returns
-returns c = entry-refused (c .before .before .var-gate .ensures) (c .if1 .taken) (varHeader ((c .before .before .before .before) .args .v) ((c .before .before .before .before) .args .limit)) (variable (varHeader ((c .before .before .before .before) .args .v) ((c .before .before .before .before) .args .limit)) ((c .before .before .before .before) .args .x)) ((c .before .before .before .before) .args .out .now)
+returns c =
+    let start = c .before .before .before .before in
+    entry-refused (c .before .before .var-gate .ensures) (c .if1 .taken)
+    (varHeader (start .args .v) (start .args .limit))
+    (variable (varHeader (start .args .v) (start .args .limit)) (start .args .x)) (start .args .out .now)
 
 add-var-with-degrees-p1 : tie.Need-add-var-with-degrees-p1
 add-var-with-degrees-p1 c = omega (arith, ready (c) .known)
 
 write-short-requires : tie.Need-write-short-requires
-write-short-requires c κs = rw (header (c .before)) (ready (c .before .before) .header, var-count _ (four (λ k. (c .before .before .before .before .before .before) .args .limit)) ((c .before .before .before .before .before .before) .args .v) (omega (arith, ready (c .before .before) .known)))
+write-short-requires c κs =
+    let start = c .before .before .before .before .before .before in
+    rw (header (c .before)) (
+      ready (c .before .before) .header,
+      var-count _ (four (λ k. start .args .limit)) (start .args .v) (omega (arith, ready (c .before .before) .known)),
+    )
 
 returns-2 : tie.Need-returns-2
-returns-2 c = entry-done (c .before .before .before .before .before .before .before .var-gate .ensures) (c .before .before .before .before .before .if1 .left) (varHeader ((c .before .before .before .before .before .before .before .before .before) .args .v) ((c .before .before .before .before .before .before .before .before .before) .args .limit)) (variable (varHeader ((c .before .before .before .before .before .before .before .before .before) .args .v) ((c .before .before .before .before .before .before .before .before .before) .args .limit)) ((c .before .before .before .before .before .before .before .before .before) .args .x)) ((c .before .before .before .before .before .before .before .before .before) .args .out .now) (rw (header (c .before .before .before .before)) at (c .before .before .write-short .ensures .0)) (rw (header (c .before .before .before .before)) at (c .before .before .write-short .ensures .1))
+returns-2 c =
+    let c4 = c .before .before .before .before in let start = c4 .before .before .before .before .before in
+    entry-done (c .before .before .before .before .before .before .before .var-gate .ensures)
+    (c .before .before .before .before .before .if1 .left) (varHeader (start .args .v) (start .args .limit))
+    (variable (varHeader (start .args .v) (start .args .limit)) (start .args .x)) (start .args .out .now)
+    (rw (header c4) at (c .before .before .write-short .ensures .0))
+    (rw (header c4) at (c .before .before .write-short .ensures .1))
 
 pub var-spec : {M : Type 1} → statement M
 var-spec =
     tie.close
     (tie.spec
-    (λ c κs. search needs)
-    returns
-    add-var-with-degrees-p1
-    (λ c κs. search needs)
-    write-short-requires
-    (λ c. search needs)
-    returns-2)
+    (λ c κs. search needs) returns add-var-with-degrees-p1 (λ c κs. search needs) write-short-requires
+    (λ c. search needs) returns-2)

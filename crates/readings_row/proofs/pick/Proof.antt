@@ -8,7 +8,7 @@ use Rattle.model.specs.Places.{index, place}
 use Rattle.model.specs.Poly.{block, readAt}
 use Rattle.shape_words.specs.Lengths.{Inside, sizes-of}
 use Rattle.shape_words.specs.Places.{place-lt}
-use Rattle.blocks.specs.Fill.{filled-all}
+use Rattle.lists.specs.Fill.{filled-all}
 use Rattle.readings_row.specs.Rows.{pick-inside}
 use Rattle.readings_row.proofs.pick.Statement.{statement}
 use Rattle.readings_row.proofs.pick.Tie as tie
@@ -19,14 +19,20 @@ Inv-loop a n c v order to₀ k₀ to k = (k ≤ length to₀) × Filled k (λ j.
 abbrev μ-loop : tie.MeasureT-loop
 μ-loop a n c v order to₀ k₀ to k = length to₀ - k
 
-inside : (c : tie.In-loop Inv-loop μ-loop) → Inside ((c .before .before .before .before) .args .n) (set (index ((c .before .before .before .before) .args .c) (c .before .loop .k)) ((c .before .before .before .before) .args .v) ((c .before .before .before .before) .args .order))
+inside : (c : tie.In-loop Inv-loop μ-loop) →
+    let start = c .before .before .before .before in
+    Inside (start .args .n) (set (index (start .args .c) (c .before .loop .k)) (start .args .v) (start .args .order))
 inside c = pick-inside ((c .before .before .before .before) .pre) (c .before .loop .k) (omega (arith, c .before .loop .inv .1 .len))
 
-read : (c : tie.After-place-of Inv-loop μ-loop) → c .place-of .result ≡ place ((c .before .before .before .before .before .before) .args .n) (set (index ((c .before .before .before .before .before .before) .args .c) (c .before .before .before .loop .k)) ((c .before .before .before .before .before .before) .args .v) ((c .before .before .before .before .before .before) .args .order))
+read : (c : tie.After-place-of Inv-loop μ-loop) →
+    let start = c .before .before .before .before .before .before in
+    c .place-of .result ≡ place (start .args .n) (set (index (start .args .c) (c .before .before .before .loop .k)) (start .args .v) (start .args .order))
 read c = rw (c .before .index-of .ensures) at (c .place-of .ensures)
 
 low : (c : tie.After-place-of Inv-loop μ-loop) → c .place-of .result < length ((c .before .before .before .before .before .before) .args .a .now)
-low c = omega (arith, read c, place-lt ((c .before .before .before .before .before .before) .args .n) _ (inside (c .before .before)), (c .before .before .before .before .before .before) .pre .room)
+low c =
+    let start = c .before .before .before .before .before .before in
+    omega (arith, read c, place-lt (start .args .n) _ (inside (c .before .before)), start .pre .room)
 
 loop-holds : tie.Need-loop-holds Inv-loop μ-loop
 loop-holds c = (omega arith, filled-none)
@@ -53,13 +59,23 @@ loop-less : tie.Need-loop-less Inv-loop μ-loop
 loop-less c = omega (arith, c .before .before .before .before .loop .inv .1 .len)
 
 loop-again : tie.Need-loop-again Inv-loop μ-loop
-loop-again c = (omega (arith, c .before .before .before .before .loop .inv .1 .len), filled-more (c .before .before .before .before .loop .inv .1) (ap (λ p. getD ((c .before .before .before .before .before .before .before) .args .a .now) p nan) (read (c .before))) (omega (arith, c .before .before .before .before .loop .inv .1 .len)))
+loop-again c =
+    let c4 = c .before .before .before .before in (
+      omega (arith, c4 .loop .inv .1 .len),
+      filled-more (c4 .loop .inv .1)
+          (ap (λ p. getD (c .before .before .before .before .before .before .before .args .a .now) p nan)
+          (read (c .before))) (omega (arith, c4 .loop .inv .1 .len)),
+    )
 
 same-length : tie.Need-same-length Inv-loop μ-loop
 same-length c = c .before .loop .inv .1 .len
 
 returns : tie.Need-returns Inv-loop μ-loop
-returns c = filled-all (c .before .loop .inv .1) (c .before .loop .inv .0) (omega (arith, c .before .loop .inv .1 .len)) ∙ ap (λ m. table m (λ j. readAt (block ((c .before .before .before .before) .args .n) ((c .before .before .before .before) .args .a .now)) (set (index ((c .before .before .before .before) .args .c) j) ((c .before .before .before .before) .args .v) ((c .before .before .before .before) .args .order)))) ((c .before .before .before .before) .pre .full)
+returns c =
+    let start = c .before .before .before .before in
+    filled-all (c .before .loop .inv .1) (c .before .loop .inv .0) (omega (arith, c .before .loop .inv .1 .len))
+    ∙ ap (λ m. table m (λ j. readAt (block (start .args .n) (start .args .a .now))
+    (set (index (start .args .c) j) (start .args .v) (start .args .order)))) (start .pre .full)
 
 pub pick-spec : {M : Type 1} → statement M
 pick-spec =
@@ -67,17 +83,5 @@ pick-spec =
     (tie.spec
     Inv-loop
     μ-loop
-    loop-holds
-    index-of-requires
-    mul-i
-    array-write-i
-    place-of-requires
-    mul-to
-    shared-slice-read-to
-    (λ c. omega arith)
-    (λ c. omega arith)
-    (λ c. omega arith)
-    loop-less
-    loop-again
-    same-length
-    returns)
+    loop-holds index-of-requires mul-i array-write-i place-of-requires mul-to shared-slice-read-to (λ c. omega arith)
+    (λ c. omega arith) (λ c. omega arith) loop-less loop-again same-length returns)

@@ -10,24 +10,39 @@ use Rattle.readings_row.proofs.take_term.Statement.{statement}
 use Rattle.readings_row.proofs.take_term.Tie as tie
 
 returns : tie.Need-returns
-returns c = (c .shortest .ensures ∙ ap (λ (q : Poly). q .head) (sym (term-past ((c .before .before .before .before .before .before .before .before .before) .args .v) ((c .before .before .before .before .before .before .before .before .before) .args .order) (poly ((c .before .before .before .before .before .before .before .before .before) .args .h) ((c .before .before .before .before .before .before .before .before .before) .args .a .now)) ((c .before .before .before .before .before .before .before .before .before) .pre .is) (c .before .before .before .before .before .if1 .taken))), c .before .before .before .clear .ensures ∙ (ap zeros ((c .before .before .before .before .before .before .before .before .before) .pre .room) ∙ (padded-zero (count-pos (lengths-of (termed-regular ((c .before .before .before .before .before .before .before .before .before) .pre) .rules))) ∙ ap (λ (q : Poly). padded (stored ((c .before .before .before .before .before .before .before .before .before) .args .r)) (q .coeffs)) (sym (term-past ((c .before .before .before .before .before .before .before .before .before) .args .v) ((c .before .before .before .before .before .before .before .before .before) .args .order) (poly ((c .before .before .before .before .before .before .before .before .before) .args .h) ((c .before .before .before .before .before .before .before .before .before) .args .a .now)) ((c .before .before .before .before .before .before .before .before .before) .pre .is) (c .before .before .before .before .before .if1 .taken))))))
+returns c =
+    let c5 = c .before .before .before .before .before in
+    let start = c5 .before .before .before .before in (
+      c .shortest .ensures ∙ ap (λ (q : Poly). q .head)
+          (sym (term-past (start .args .v) (start .args .order) (poly (start .args .h) (start .args .a .now))
+          (start .pre .is) (c5 .if1 .taken))),
+      c .before .before .before .clear .ensures
+          ∙ (ap zeros (start .pre .room) ∙ (padded-zero (count-pos (lengths-of (termed-regular (start .pre) .rules)))
+          ∙ ap (λ (q : Poly). padded (stored (start .args .r)) (q .coeffs))
+          (sym (term-past (start .args .v) (start .args .order) (poly (start .args .h) (start .args .a .now))
+          (start .pre .is) (c5 .if1 .taken))))),
+    )
 
 pick-requires : tie.Need-pick-requires
 pick-requires c κs = termed-picking ((c .before .before .before .before .before .before) .pre) (c .before .before .if1 .left)
 
 returns-2 : tie.Need-returns-2
-returns-2 c = (ap (λ (q : Poly). q .head) (sym (term-row ((c .before .before .before .before .before .before .before .before .before) .args .v) ((c .before .before .before .before .before .before .before .before .before) .args .order) (poly ((c .before .before .before .before .before .before .before .before .before) .args .h) ((c .before .before .before .before .before .before .before .before .before) .args .a .now)) ((c .before .before .before .before .before .before .before .before .before) .pre .is) (c .before .before .before .before .before .if1 .left))), c .before .before .pick .ensures ∙ (padded-full _ (length-table _ (stored ((c .before .before .before .before .before .before .before .before .before) .args .r))) ∙ ap (λ (q : Poly). padded (stored ((c .before .before .before .before .before .before .before .before .before) .args .r)) (q .coeffs)) (sym (term-row ((c .before .before .before .before .before .before .before .before .before) .args .v) ((c .before .before .before .before .before .before .before .before .before) .args .order) (poly ((c .before .before .before .before .before .before .before .before .before) .args .h) ((c .before .before .before .before .before .before .before .before .before) .args .a .now)) ((c .before .before .before .before .before .before .before .before .before) .pre .is) (c .before .before .before .before .before .if1 .left)))))
+returns-2 c =
+    let c5 = c .before .before .before .before .before in
+    let start = c5 .before .before .before .before in (
+      ap (λ (q : Poly). q .head)
+          (sym (term-row (start .args .v) (start .args .order) (poly (start .args .h) (start .args .a .now))
+          (start .pre .is) (c5 .if1 .left))),
+      c .before .before .pick .ensures
+          ∙ (padded-full _ (length-table _ (stored (start .args .r)))
+          ∙ ap (λ (q : Poly). padded (stored (start .args .r)) (q .coeffs))
+          (sym (term-row (start .args .v) (start .args .order) (poly (start .args .h) (start .args .a .now))
+          (start .pre .is) (c5 .if1 .left)))),
+    )
 
 pub take-term-spec : {M : Type 1} → statement M
 take-term-spec =
     tie.close
     (tie.spec
-    (λ c. search needs)
-    (λ c. search needs)
-    (λ c κs. search needs)
-    (λ c κs. search needs)
-    (λ c. search needs)
-    returns
-    pick-requires
-    (λ c. search needs)
-    returns-2)
+    (λ c. search needs) (λ c. search needs) (λ c κs. search needs) (λ c κs. search needs) (λ c. search needs) returns
+    pick-requires (λ c. search needs) returns-2)

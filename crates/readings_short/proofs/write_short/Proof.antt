@@ -24,15 +24,19 @@ same-length : tie.Need-same-length
 same-length c = ⊎-elim (λ w. ap length (w .1) ∙ simp (length-set)) (λ w. ap length (w .1) ∙ simp (length-set)) (c .before .if1 .came)
 
 returns : tie.Need-returns
-returns c = (ap Done (c .pack .ensures), ⊎-elim (λ w. w .1 ∙ short-two ((c .before .before .before .before) .args .h) ((c .before .before .before .before) .args .x) ((c .before .before .before .before) .args .out .now) (omega (arith, c .before .before .stored-of .ensures, w .0 .taken, (c .before .before .before .before) .pre .0 .room)) (omega (arith, c .before .before .stored-of .ensures, w .0 .taken, (c .before .before .before .before) .pre .1))) (λ w. w .1 ∙ short-one ((c .before .before .before .before) .args .h) ((c .before .before .before .before) .args .x) ((c .before .before .before .before) .args .out .now) (omega (arith, some (c .before .before .before .before), (c .before .before .before .before) .pre .0 .room)) (omega (arith, some (c .before .before .before .before), c .before .before .stored-of .ensures, w .0 .left))) (c .before .if1 .came))
+returns c =
+    let start = c .before .before .before .before in (
+      ap Done (c .pack .ensures),
+      ⊎-elim (λ w. w .1 ∙ short-two (start .args .h) (start .args .x) (start .args .out .now)
+          (omega (arith, c .before .before .stored-of .ensures, w .0 .taken, start .pre .0 .room))
+          (omega (arith, c .before .before .stored-of .ensures, w .0 .taken, start .pre .1)))
+          (λ w. w .1 ∙ short-one (start .args .h) (start .args .x) (start .args .out .now)
+          (omega (arith, some start, start .pre .0 .room))
+          (omega (arith, some start, c .before .before .stored-of .ensures, w .0 .left))) (c .before .if1 .came),
+    )
 
 pub write-short-spec : {M : Type 1} → statement M
 write-short-spec =
     tie.close
     (tie.spec
-    slice-write-out
-    (λ c κs. search needs)
-    slice-write-out-2
-    (λ c κs. search needs)
-    same-length
-    returns)
+    slice-write-out (λ c κs. search needs) slice-write-out-2 (λ c κs. search needs) same-length returns)

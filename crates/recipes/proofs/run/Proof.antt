@@ -6,26 +6,64 @@ use Rattle.recipes.proofs.run.Tie as tie
 
 returns : tie.Need-returns
 returns c =
-    (no-answer (c .before .before .before .before .before .before .before .before .before .before .before .args .headers .now) (c .before .before .before .before .before .before .before .before .before .before .before .args .coefficients .now) (c .before .before .before .before .before .before .before .before .before .before .before .args .steps .now) (c .before .before .before .before .before .before .before .before .before .before .before .args .pool .now) (c .before .before .before .before .before .before .before .before .before .before .before .args .words .now) (c .before .before .before .before .before .before .before .before .before .before .before .args .scratch .now) (c .before .before .before .admit .ensures) (c .if1 .taken), (no-pool (c .before .before .before .before .before .before .before .before .before .before .before .args .headers .now) (c .before .before .before .before .before .before .before .before .before .before .before .args .coefficients .now) (c .before .before .before .before .before .before .before .before .before .before .before .args .steps .now) (c .before .before .before .before .before .before .before .before .before .before .before .args .pool .now) (c .before .before .before .before .before .before .before .before .before .before .before .args .words .now) (c .before .before .before .before .before .before .before .before .before .before .before .args .scratch .now) (c .before .before .before .admit .ensures) (c .if1 .taken), (no-words (c .before .before .before .before .before .before .before .before .before .before .before .args .headers .now) (c .before .before .before .before .before .before .before .before .before .before .before .args .coefficients .now) (c .before .before .before .before .before .before .before .before .before .before .before .args .steps .now) (c .before .before .before .before .before .before .before .before .before .before .before .args .pool .now) (c .before .before .before .before .before .before .before .before .before .before .before .args .words .now) (c .before .before .before .before .before .before .before .before .before .before .before .args .scratch .now) (c .before .before .before .admit .ensures) (c .if1 .taken), no-scratch (c .before .before .before .before .before .before .before .before .before .before .before .args .headers .now) (c .before .before .before .before .before .before .before .before .before .before .before .args .coefficients .now) (c .before .before .before .before .before .before .before .before .before .before .before .args .steps .now) (c .before .before .before .before .before .before .before .before .before .before .before .args .pool .now) (c .before .before .before .before .before .before .before .before .before .before .before .args .words .now) (c .before .before .before .before .before .before .before .before .before .before .before .args .scratch .now) (c .before .before .before .admit .ensures) (c .if1 .taken))))
+    let c3 = c .before .before .before in
+    let start = c3 .before .before .before .before .before .before .before .before in (
+      no-answer (start .args .headers .now) (start .args .coefficients .now) (start .args .steps .now)
+          (start .args .pool .now) (start .args .words .now) (start .args .scratch .now) (c3 .admit .ensures)
+          (c .if1 .taken),
+      (
+        no-pool (start .args .headers .now) (start .args .coefficients .now) (start .args .steps .now)
+            (start .args .pool .now) (start .args .words .now) (start .args .scratch .now) (c3 .admit .ensures)
+            (c .if1 .taken),
+        (
+          no-words (start .args .headers .now) (start .args .coefficients .now) (start .args .steps .now)
+              (start .args .pool .now) (start .args .words .now) (start .args .scratch .now) (c3 .admit .ensures)
+              (c .if1 .taken),
+          no-scratch (start .args .headers .now) (start .args .coefficients .now) (start .args .steps .now)
+              (start .args .pool .now) (start .args .words .now) (start .args .scratch .now)
+              (c3 .admit .ensures) (c .if1 .taken),
+        ),
+      ),
+    )
 
 run-admitted-requires : tie.Need-run-admitted-requires
 run-admitted-requires c κs =
-    (admitted (c .before .before .before .before .before .before .before .before .before .before .before .before .before .before .before .args .headers .now) (c .before .before .before .before .before .before .before .before .before .before .before .before .before .before .before .args .coefficients .now) (c .before .before .before .before .before .before .before .before .before .before .before .before .before .before .before .args .steps .now) (c .before .before .before .before .before .before .before .before .before .before .before .before .before .before .before .args .pool .now) (c .before .before .before .before .before .before .before .before .before .before .before .before .before .before .before .args .words .now) (c .before .before .before .before .before .before .before .before .before .before .before .before .before .before .before .args .scratch .now) (c .before .before .before .before .before .before .before .admit .ensures) (c .before .before .before .before .if1 .left) (omega (arith, c .before .before .before .before .before .before .before .admit .ensures .len)), enough-words (c .before .before .before .before .before .before .before .before .before .before .before .before .before .before .before .args .headers .now) (c .before .before .before .before .before .before .before .before .before .before .before .before .before .before .before .args .coefficients .now) (c .before .before .before .before .before .before .before .before .before .before .before .before .before .before .before .args .steps .now) (c .before .before .before .before .before .before .before .before .before .before .before .before .before .before .before .args .pool .now) (c .before .before .before .before .before .before .before .before .before .before .before .before .before .before .before .args .words .now) (c .before .before .before .before .before .before .before .before .before .before .before .before .before .before .before .args .scratch .now) (c .before .before .before .before .before .before .before .admit .ensures) (c .before .before .before .before .if1 .left))
+    let c4 = c .before .before .before .before in let c7 = c4 .before .before .before in
+    let start = c7 .before .before .before .before .before .before .before .before in (
+      admitted (start .args .headers .now) (start .args .coefficients .now) (start .args .steps .now)
+          (start .args .pool .now) (start .args .words .now) (start .args .scratch .now) (c7 .admit .ensures)
+          (c4 .if1 .left) (omega (arith, c7 .admit .ensures .len)),
+      enough-words (start .args .headers .now) (start .args .coefficients .now) (start .args .steps .now)
+          (start .args .pool .now) (start .args .words .now) (start .args .scratch .now)
+          (c7 .admit .ensures) (c4 .if1 .left),
+    )
 
 returns-2 : tie.Need-returns-2
 returns-2 c =
-    (yes-answer (c .before .before .before .before .before .before .before .before .before .before .before .before .before .before .before .before .before .before .before .before .before .before .before .args .headers .now) (c .before .before .before .before .before .before .before .before .before .before .before .before .before .before .before .before .before .before .before .before .before .before .before .args .coefficients .now) (c .before .before .before .before .before .before .before .before .before .before .before .before .before .before .before .before .before .before .before .before .before .before .before .args .steps .now) (c .before .before .before .before .before .before .before .before .before .before .before .before .before .before .before .before .before .before .before .before .before .before .before .args .pool .now) (c .before .before .before .before .before .before .before .before .before .before .before .before .before .before .before .before .before .before .before .before .before .before .before .args .words .now) (c .before .before .before .before .before .before .before .before .before .before .before .before .before .before .before .before .before .before .before .before .before .before .before .args .scratch .now) (c .before .before .before .before .before .before .before .before .before .before .before .before .before .before .before .admit .ensures) (c .before .before .before .before .before .before .before .before .before .before .before .before .if1 .left), (yes-pool (c .before .before .before .before .before .before .before .before .before .before .before .before .before .before .before .before .before .before .before .before .before .before .before .args .headers .now) (c .before .before .before .before .before .before .before .before .before .before .before .before .before .before .before .before .before .before .before .before .before .before .before .args .coefficients .now) (c .before .before .before .before .before .before .before .before .before .before .before .before .before .before .before .before .before .before .before .before .before .before .before .args .steps .now) (c .before .before .before .before .before .before .before .before .before .before .before .before .before .before .before .before .before .before .before .before .before .before .before .args .pool .now) (c .before .before .before .before .before .before .before .before .before .before .before .before .before .before .before .before .before .before .before .before .before .before .before .args .words .now) (c .before .before .before .before .before .before .before .before .before .before .before .before .before .before .before .before .before .before .before .before .before .before .before .args .scratch .now) (c .before .before .before .before .before .before .before .before .before .before .before .before .before .before .before .admit .ensures) (c .before .before .before .before .before .before .before .before .before .before .before .before .if1 .left) (c .before .before .before .before .before .before .before .run-admitted .ensures .0), (yes-words (c .before .before .before .before .before .before .before .before .before .before .before .before .before .before .before .before .before .before .before .before .before .before .before .args .headers .now) (c .before .before .before .before .before .before .before .before .before .before .before .before .before .before .before .before .before .before .before .before .before .before .before .args .coefficients .now) (c .before .before .before .before .before .before .before .before .before .before .before .before .before .before .before .before .before .before .before .before .before .before .before .args .steps .now) (c .before .before .before .before .before .before .before .before .before .before .before .before .before .before .before .before .before .before .before .before .before .before .before .args .pool .now) (c .before .before .before .before .before .before .before .before .before .before .before .before .before .before .before .before .before .before .before .before .before .before .before .args .words .now) (c .before .before .before .before .before .before .before .before .before .before .before .before .before .before .before .before .before .before .before .before .before .before .before .args .scratch .now) (c .before .before .before .before .before .before .before .before .before .before .before .before .before .before .before .admit .ensures) (c .before .before .before .before .before .before .before .before .before .before .before .before .if1 .left) (c .before .before .before .before .before .before .before .run-admitted .ensures .1 .0), yes-scratch (c .before .before .before .before .before .before .before .before .before .before .before .before .before .before .before .before .before .before .before .before .before .before .before .args .headers .now) (c .before .before .before .before .before .before .before .before .before .before .before .before .before .before .before .before .before .before .before .before .before .before .before .args .coefficients .now) (c .before .before .before .before .before .before .before .before .before .before .before .before .before .before .before .before .before .before .before .before .before .before .before .args .steps .now) (c .before .before .before .before .before .before .before .before .before .before .before .before .before .before .before .before .before .before .before .before .before .before .before .args .pool .now) (c .before .before .before .before .before .before .before .before .before .before .before .before .before .before .before .before .before .before .before .before .before .before .before .args .words .now) (c .before .before .before .before .before .before .before .before .before .before .before .before .before .before .before .before .before .before .before .before .before .before .before .args .scratch .now) (c .before .before .before .before .before .before .before .before .before .before .before .before .before .before .before .admit .ensures) (c .before .before .before .before .before .before .before .before .before .before .before .before .if1 .left) (c .before .before .before .before .before .before .before .run-admitted .ensures .1 .1))))
+    let c7 = c .before .before .before .before .before .before .before in
+    let c12 = c7 .before .before .before .before .before in let c15 = c12 .before .before .before in
+    let start = c15 .before .before .before .before .before .before .before .before in (
+      yes-answer (start .args .headers .now) (start .args .coefficients .now) (start .args .steps .now)
+          (start .args .pool .now) (start .args .words .now) (start .args .scratch .now) (c15 .admit .ensures)
+          (c12 .if1 .left),
+      (
+        yes-pool (start .args .headers .now) (start .args .coefficients .now) (start .args .steps .now)
+            (start .args .pool .now) (start .args .words .now) (start .args .scratch .now) (c15 .admit .ensures)
+            (c12 .if1 .left) (c7 .run-admitted .ensures .0),
+        (
+          yes-words (start .args .headers .now) (start .args .coefficients .now) (start .args .steps .now)
+              (start .args .pool .now) (start .args .words .now) (start .args .scratch .now) (c15 .admit .ensures)
+              (c12 .if1 .left) (c7 .run-admitted .ensures .1 .0),
+          yes-scratch (start .args .headers .now) (start .args .coefficients .now) (start .args .steps .now)
+              (start .args .pool .now) (start .args .words .now) (start .args .scratch .now) (c15 .admit .ensures)
+              (c12 .if1 .left) (c7 .run-admitted .ensures .1 .1),
+        ),
+      ),
+    )
 
 pub run-spec : {M : Type 1} → statement M
 run-spec =
     tie.close
     (tie.spec
-    (λ c. search needs)
-    (λ c κs. search needs)
-    returns
-    (λ c. search needs)
-    run-admitted-requires
-    (λ c. search needs)
-    (λ c. search needs)
-    (λ c. search needs)
-    returns-2)
+    (λ c. search needs) (λ c κs. search needs) returns (λ c. search needs) run-admitted-requires (λ c. search needs)
+    (λ c. search needs) (λ c. search needs) returns-2)

@@ -21,10 +21,15 @@ cast-at : tie.Need-cast-at Inv-loop μ-loop
 cast-at c = record { fits = omega (arith, c .before .before .before .before .before .before .pre) }
 
 returns : tie.Need-returns Inv-loop μ-loop
-returns c = c .at .ensures ∙ looking-stop (c .before .before .before .before .before .loop .inv) (c .before .before .before .before .loop-test .taken) (c .before .before .is-good .ensures) (not-true _ (c .before .if1 .taken))
+returns c =
+    c .at .ensures ∙ looking-stop (c .before .before .before .before .before .loop .inv)
+    (c .before .before .before .before .loop-test .taken) (c .before .before .is-good .ensures)
+    (not-true _ (c .before .if1 .taken))
 
 loop-again : tie.Need-loop-again Inv-loop μ-loop
-loop-again c = looking-more (c .before .before .before .before .loop .inv) (c .before .before .before .loop-test .taken) (c .before .is-good .ensures) (not-false _ (c .if1 .left))
+loop-again c =
+    looking-more (c .before .before .before .before .loop .inv) (c .before .before .before .loop-test .taken)
+    (c .before .is-good .ensures) (not-false _ (c .if1 .left))
 
 returns-2 : tie.Need-returns-2 Inv-loop μ-loop
 returns-2 c = c .none .ensures ∙ looking-end (c .before .before .loop .inv) (c .before .loop-test .left)
@@ -35,15 +40,5 @@ inputs-refusal-spec =
     (tie.spec
     Inv-loop
     μ-loop
-    loop-holds
-    (λ c. search needs)
-    (λ c. search needs)
-    (λ c κs. search needs)
-    cast-at
-    (λ c κs. search needs)
-    returns
-    (λ c. search needs)
-    (λ c. search needs)
-    loop-again
-    (λ c κs. search needs)
-    returns-2)
+    loop-holds (λ c. search needs) (λ c. search needs) (λ c κs. search needs) cast-at (λ c κs. search needs) returns
+    (λ c. search needs) (λ c. search needs) loop-again (λ c κs. search needs) returns-2)

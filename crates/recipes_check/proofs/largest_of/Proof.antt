@@ -17,10 +17,15 @@ loop-holds : tie.Need-loop-holds Inv-loop μ-loop
 loop-holds c = topped-none _
 
 stored-of-requires : tie.Need-stored-of-requires Inv-loop μ-loop
-stored-of-requires c κs = rw (c .header-of .ensures) (word-ruled ((c .before .before .before .before .before) .args .words .now) (c .before .before .before .before .before .pre) (c .before .before .before .loop .i))
+stored-of-requires c κs =
+    let start = c .before .before .before .before .before in
+    rw (c .header-of .ensures) (word-ruled (start .args .words .now) (start .pre) (c .before .before .before .loop .i))
 
 loop-again : tie.Need-loop-again Inv-loop μ-loop
-loop-again c = topped-more (c .before .before .before .before .before .loop .inv) (c .before .before .before .before .loop-test .taken) (c .before .stored-of .ensures ∙ ap stored (c .before .before .header-of .ensures)) (c .most .ensures)
+loop-again c =
+    topped-more (c .before .before .before .before .before .loop .inv)
+    (c .before .before .before .before .loop-test .taken)
+    (c .before .stored-of .ensures ∙ ap stored (c .before .before .header-of .ensures)) (c .most .ensures)
 
 returns : tie.Need-returns Inv-loop μ-loop
 returns c = topped-end (c .before .loop .inv) (c .loop-test .left)
@@ -31,13 +36,5 @@ largest-of-spec =
     (tie.spec
     Inv-loop
     μ-loop
-    loop-holds
-    (λ c. search needs)
-    (λ c. search needs)
-    (λ c κs. search needs)
-    stored-of-requires
-    (λ c κs. search needs)
-    (λ c. search needs)
-    (λ c. search needs)
-    loop-again
-    returns)
+    loop-holds (λ c. search needs) (λ c. search needs) (λ c κs. search needs) stored-of-requires (λ c κs. search needs)
+    (λ c. search needs) (λ c. search needs) loop-again returns)

@@ -37,13 +37,5 @@ note-inputs-spec =
     (tie.spec
     Inv-loop
     μ-loop
-    loop-holds
-    (λ c. search needs)
-    (λ c. search needs)
-    mul-known-2
-    slice-write-known
-    (λ c. search needs)
-    (λ c. search needs)
-    loop-again
-    same-length
-    returns)
+    loop-holds (λ c. search needs) (λ c. search needs) mul-known-2 slice-write-known (λ c. search needs)
+    (λ c. search needs) loop-again same-length returns)

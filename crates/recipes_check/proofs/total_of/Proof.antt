@@ -17,13 +17,24 @@ loop-holds : tie.Need-loop-holds Inv-loop μ-loop
 loop-holds c = summed-none _
 
 stored-of-requires : tie.Need-stored-of-requires Inv-loop μ-loop
-stored-of-requires c κs = rw (c .header-of .ensures) (word-ruled ((c .before .before .before .before .before) .args .words .now) (c .before .before .before .before .before .pre .0) (c .before .before .before .loop .i))
+stored-of-requires c κs =
+    let start = c .before .before .before .before .before in
+    rw (c .header-of .ensures) (word-ruled (start .args .words .now) (start .pre .0) (c .before .before .before .loop .i))
 
 add-sum : tie.Need-add-sum Inv-loop μ-loop
-add-sum c = record { fits = summed-fits (c .before .before .before .before .loop .inv) (c .before .before .before .before .before .before .pre .0) (c .before .before .before .before .before .before .pre .1) (c .stored-of .ensures ∙ ap stored (c .before .header-of .ensures)) }
+add-sum c =
+    let start = c .before .before .before .before .before .before in
+    record {
+      fits =
+          summed-fits (c .before .before .before .before .loop .inv) (start .pre .0) (start .pre .1)
+          (c .stored-of .ensures ∙ ap stored (c .before .header-of .ensures));
+    }
 
 loop-again : tie.Need-loop-again Inv-loop μ-loop
-loop-again c = summed-more (c .before .before .before .before .loop .inv) (c .before .before .before .before .before .before .pre .0) (c .before .before .before .loop-test .taken) (c .stored-of .ensures ∙ ap stored (c .before .header-of .ensures))
+loop-again c =
+    summed-more (c .before .before .before .before .loop .inv)
+    (c .before .before .before .before .before .before .pre .0) (c .before .before .before .loop-test .taken)
+    (c .stored-of .ensures ∙ ap stored (c .before .header-of .ensures))
 
 returns : tie.Need-returns Inv-loop μ-loop
 returns c = summed-end (c .before .loop .inv) (c .loop-test .left)
@@ -34,13 +45,5 @@ total-of-spec =
     (tie.spec
     Inv-loop
     μ-loop
-    loop-holds
-    (λ c. search needs)
-    (λ c. search needs)
-    (λ c κs. search needs)
-    stored-of-requires
-    add-sum
-    (λ c. search needs)
-    (λ c. search needs)
-    loop-again
-    returns)
+    loop-holds (λ c. search needs) (λ c. search needs) (λ c κs. search needs) stored-of-requires add-sum
+    (λ c. search needs) (λ c. search needs) loop-again returns)

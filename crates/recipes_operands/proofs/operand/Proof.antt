@@ -1,16 +1,10 @@
 use native.Mathlib.Omega.{arith}
-use mathlib.Core.Path.{_≡_, refl, sym, ap, _∙_}
-use mathlib.Core.List.{List}
-use Prim.Native.Nat.{ℕ, _+_, _-_, _*_, _≤_, _<_}
-use lib.ListN.{length, take, drop, length-take, length-drop}
-use lib.Seq.{length-take-le}
-use lib.Ieee.{Float}
+use Prim.Native.Nat.{_+_, _-_, _≤_}
+use lib.ListN.{length}
 use Rattle.recipes_operands.specs.Lent.{input-ends, input-part, pool-ends, pool-part}
 use borrow.Author.Needs.{needs}
 use Rattle.recipes_operands.proofs.operand.Statement.{statement}
 use Rattle.recipes_operands.proofs.operand.Tie as tie
-use Rattle.recipes_operands.proofs.operand.Reads as reads
-use Rattle.recipes_operands.proofs.operand.Lts as lts
 
 ends1 : (c : tie.Then1) → c .before .args .from + c .before .args .count ≤ length (c .before .args .coefficients .now)
 ends1 c = input-ends (c .before .args .coefficients .now) (c .before .args .pool .now) (c .if1 .taken) (c .before .pre)
@@ -28,7 +22,9 @@ part-result-end : tie.Need-part-result-end
 part-result-end c = ends1 c
 
 returns : tie.Need-returns
-returns c = input-part (c .before .before .args .coefficients .now) (c .before .before .args .pool .now) (c .before .if1 .taken) (c .before .before .args .from) (c .before .before .args .count)
+returns c =
+    input-part (c .before .before .args .coefficients .now) (c .before .before .args .pool .now) (c .before .if1 .taken)
+    (c .before .before .args .from) (c .before .before .args .count)
 
 add-result-2 : tie.Need-add-result-2
 add-result-2 c = omega (arith, ends2 c, c .before .good)
@@ -40,21 +36,13 @@ part-result-end-2 : tie.Need-part-result-end-2
 part-result-end-2 c = ends2 c
 
 returns-2 : tie.Need-returns-2
-returns-2 c = pool-part (c .before .before .args .coefficients .now) (c .before .before .args .pool .now) (c .before .if1 .left) (c .before .before .args .from) (c .before .before .args .count)
+returns-2 c =
+    pool-part (c .before .before .args .coefficients .now) (c .before .before .args .pool .now) (c .before .if1 .left)
+    (c .before .before .args .from) (c .before .before .args .count)
 
 pub operand-spec : {M : Type 1} → statement M
 operand-spec =
     tie.close
     (tie.spec
-    add-result
-    mul-result
-    (λ c. search needs)
-    (λ c. search needs)
-    part-result-end
-    returns
-    add-result-2
-    mul-result-2
-    (λ c. search needs)
-    (λ c. search needs)
-    part-result-end-2
-    returns-2)
+    add-result mul-result (λ c. search needs) (λ c. search needs) part-result-end returns add-result-2 mul-result-2
+    (λ c. search needs) (λ c. search needs) part-result-end-2 returns-2)

@@ -1,38 +1,50 @@
 use native.Mathlib.Omega.{arith}
-use mathlib.Core.Path.{_≡_, refl, sym, ap, _∙_}
-use mathlib.Core.List.{List, _++_}
-use Prim.Native.Nat.{ℕ, _+_, _-_, _*_, _≤_, _<_}
+use mathlib.Core.Path.{_≡_, refl, sym, _∙_}
+use mathlib.Core.List.{_++_}
+use Prim.Native.Nat.{_+_, _-_, _*_, _≤_}
 use lib.ListN.{length, take, drop, length-take, length-drop, length-append}
 use lib.Seq.{length-take-le, take-at}
-use lib.Ieee.{Float}
-use Rattle.model.specs.Header.{count, stored}
 use Rattle.recipes_operands.specs.Lent.{lying, lies-source, part-kept}
 use Rattle.recipes_pairs.specs.Pair.{pairOf, leftIn, rightIn, pair-two, value-head, value-lengths, value-count, value-kept}
 use Rattle.product.specs.Room.{Stands}
 use borrow.Author.Needs.{needs}
 use Rattle.recipes_pairs.proofs.pair_to.Statement.{statement}
 use Rattle.recipes_pairs.proofs.pair_to.Tie as tie
-use Rattle.recipes_pairs.proofs.pair_to.Reads as reads
-use Rattle.recipes_pairs.proofs.pair_to.Lts as lts
-use Rattle.recipes_operands.proofs.pad.Reads as pad-reads
-use Rattle.recipes_pairs.proofs.load_pair.Reads as load-pair-reads
-use Rattle.recipes_pairs.proofs.pair_front.Reads as pair-front-reads
-use Rattle.shape_words.proofs.places.count_of.Reads as count-of-reads
 
 ends : (c : tie.Start) → (c .args .at ≤ length (c .args .pool .now)) × (8 * c .args .n ≤ length (c .args .scratch .now))
 ends c = let g = c .pre .1 .1 .1 in (omega (arith, g .room), g .spare)
 
-used : (c : tie.After-load-pair) → length (c .load-pair .last .1 .1 .1 .1 .1 .1 .1 .1 .1 .1 .0) ≡ 8 * c .before .before .before .before .before .before .before .args .n
+used : (c : tie.After-load-pair) → length (c .load-pair .last .1 .1 .1 .1 .1 .1 .1 .1 .1 .1 .0)
+    ≡ 8 * c .before .before .before .before .before .before .before .args .n
 used c = c .load-pair .kept .1 .1 .1 .1 .1 .1 .1 .1 .1 .1 .0 ∙ length-take-le _ _ (ends (c .before .before .before .before .before .before .before) .1)
 
-rooms : (c : tie.After-load-pair) → 8 * c .before .before .before .before .before .before .before .args .n ≤ length ((c .load-pair .last .1 .1 .1 .1 .1 .1 .1 .1 .1 .1 .0) ++ drop (8 * c .before .before .before .before .before .before .before .args .n) (c .before .before .before .before .before .before .before .args .scratch .now))
+rooms : (c : tie.After-load-pair) →
+    let start = c .before .before .before .before .before .before .before in
+    8 * start .args .n ≤ length ((c .load-pair .last .1 .1 .1 .1 .1 .1 .1 .1 .1 .1 .0) ++ drop (8 * start .args .n) (start .args .scratch .now))
 rooms c = simp length-append (omega (arith, used c))
 
-stands : (c : tie.After-pair-front) → Stands (pairOf (c .before .before .before .before .before .before .before .before .before .before .before .before .args .kind) (c .before .before .before .before .before .load-pair .result) (c .before .before .before .before .before .before .before .before .before .before .before .before .args .h .limits) (leftIn (c .before .before .before .before .before .before .before .before .before .before .before .before .args .h .limits) (c .before .before .before .before .before .before .before .before .before .before .before .before .args .x .lengths) (c .before .before .before .before .before .load-pair .last .1 .1 .1 .1 .1 .1 .1 .1 .1 .1 .0)) (rightIn (c .before .before .before .before .before .before .before .before .before .before .before .before .args .h .limits) (c .before .before .before .before .before .before .before .before .before .before .before .before .args .y .lengths) (c .before .before .before .before .before .before .before .before .before .before .before .before .args .n) (c .before .before .before .before .before .load-pair .last .1 .1 .1 .1 .1 .1 .1 .1 .1 .1 .0))) (c .pair-front .last .1 .1 .1 .1 .1 .1 .1 .0) (c .pair-front .result)
-stands c = rw (take-at (c .before .before .before .before .before .load-pair .last .1 .1 .1 .1 .1 .1 .1 .1 .1 .1 .0) (drop (8 * c .before .before .before .before .before .before .before .before .before .before .before .before .args .n) (c .before .before .before .before .before .before .before .before .before .before .before .before .args .scratch .now)) (8 * c .before .before .before .before .before .before .before .before .before .before .before .before .args .n) (used (c .before .before .before .before .before))) at (c .pair-front .ensures)
+stands : (c : tie.After-pair-front) →
+    let c5 = c .before .before .before .before .before in
+    let start = c5 .before .before .before .before .before .before .before in
+    Stands (pairOf (start .args .kind) (c5 .load-pair .result) (start .args .h .limits)
+    (leftIn (start .args .h .limits) (start .args .x .lengths)
+    (c5 .load-pair .last .1 .1 .1 .1 .1 .1 .1 .1 .1 .1 .0))
+    (rightIn (start .args .h .limits) (start .args .y .lengths) (start .args .n)
+    (c5 .load-pair .last .1 .1 .1 .1 .1 .1 .1 .1 .1 .1 .0)))
+    (c .pair-front .last .1 .1 .1 .1 .1 .1 .1 .0) (c .pair-front .result)
+stands c =
+    let c5 = c .before .before .before .before .before in
+    let start = c5 .before .before .before .before .before .before .before in
+    rw (take-at (c5 .load-pair .last .1 .1 .1 .1 .1 .1 .1 .1 .1 .1 .0)
+    (drop (8 * start .args .n) (start .args .scratch .now)) (8 * start .args .n) (used c5)) at
+    (c .pair-front .ensures)
 
-lasts : (c : tie.After-pair-front) → length (c .pair-front .last .1 .1 .1 .1 .1 .1 .1 .0) ≡ c .before .before .before .before .before .before .before .before .before .before .before .before .args .n
-lasts c = let g = c .before .before .before .before .before .before .before .before .before .before .before .before .pre .1 .1 .1 in c .pair-front .kept .1 .1 .1 .1 .1 .1 .1 .0 ∙ simp (length-take, length-drop) (omega (arith, g .room))
+lasts : (c : tie.After-pair-front) →
+    let start = c .before .before .before .before .before .before .before .before .before .before .before .before in
+    length (c .pair-front .last .1 .1 .1 .1 .1 .1 .1 .0) ≡ start .args .n
+lasts c =
+    let start = c .before .before .before .before .before .before .before .before .before .before .before .before in
+    let g = start .pre .1 .1 .1 in c .pair-front .kept .1 .1 .1 .1 .1 .1 .1 .0 ∙ simp (length-take, length-drop) (omega (arith, g .room))
 
 slice-aggregate-load-pair : tie.Need-slice-aggregate-load-pair
 slice-aggregate-load-pair c = sym (length-take-le _ _ (ends (c .before .before .before .before .before) .0))
@@ -41,53 +53,115 @@ slice-aggregate-load-pair-2 : tie.Need-slice-aggregate-load-pair-2
 slice-aggregate-load-pair-2 c = sym (length-take-le _ _ (ends (c .before .before .before .before .before .before) .1))
 
 load-pair-requires : tie.Need-load-pair-requires
-load-pair-requires c κs = (rw (length-take-le _ _ (ends (c .before .before .before .before .before .before) .1)) (pair-two (c .before .before .before .before .before .before .pre .0)), (c .before .before .before .before .before .before .pre .0 .left .regular .rules, (c .before .before .before .before .before .before .pre .0 .right .regular .rules, (lies-source (c .before .before .before .before .before .before .args .coefficients .now) (take (c .before .before .before .before .before .before .args .at) (c .before .before .before .before .before .before .args .pool .now)) (c .before .before .before .before .before .before .pre .1 .0) (length-take-le _ _ (ends (c .before .before .before .before .before .before) .0)), lies-source (c .before .before .before .before .before .before .args .coefficients .now) (take (c .before .before .before .before .before .before .args .at) (c .before .before .before .before .before .before .args .pool .now)) (c .before .before .before .before .before .before .pre .1 .1 .0) (length-take-le _ _ (ends (c .before .before .before .before .before .before) .0))))))
+load-pair-requires c κs =
+    let start = c .before .before .before .before .before .before in (
+      rw (length-take-le _ _ (ends start .1)) (pair-two (start .pre .0)),
+      (
+        start .pre .0 .left .regular .rules,
+        (
+          start .pre .0 .right .regular .rules,
+          (
+            lies-source (start .args .coefficients .now) (take (start .args .at) (start .args .pool .now))
+                (start .pre .1 .0) (length-take-le _ _ (ends start .0)),
+            lies-source (start .args .coefficients .now) (take (start .args .at) (start .args .pool .now))
+                (start .pre .1 .1 .0) (length-take-le _ _ (ends start .0)),
+          ),
+        ),
+      ),
+    )
 
 add-end : tie.Need-add-end
-add-end c = let g = c .before .before .before .before .before .before .before .before .before .pre .1 .1 .1 in omega (arith, g .room, c .before .before .before .before .before .before .before .before .before .good)
+add-end c =
+    let start = c .before .before .before .before .before .before .before .before .before in
+    let g = start .pre .1 .1 .1 in omega (arith, g .room, start .good)
 
 slice-aggregate-pair-front : tie.Need-slice-aggregate-pair-front
 slice-aggregate-pair-front c = sym (length-take-le _ _ (rooms (c .before .before .before)))
 
 mul-pair-front : tie.Need-mul-pair-front
-mul-pair-front c = let g = c .before .before .before .before .before .before .before .before .before .before .pre .1 .1 .1 in omega (arith, g .room, c .before .before .before .before .before .before .before .before .before .before .good)
+mul-pair-front c =
+    let start = c .before .before .before .before .before .before .before .before .before .before in
+    let g = start .pre .1 .1 .1 in omega (arith, g .room, start .good)
 
 pair-front-requires : tie.Need-pair-front-requires
-pair-front-requires c κs = let g = c .before .before .before .before .before .before .before .before .before .before .before .pre .1 .1 .1 in (c .before .before .before .before .before .before .before .before .before .before .before .pre .0, (length-take-le _ _ (rooms (c .before .before .before .before)), simp (length-take, length-drop) (omega (arith, g .room))))
+pair-front-requires c κs =
+    let start = c .before .before .before .before .before .before .before .before .before .before .before in
+    let g = start .pre .1 .1 .1 in (
+      start .pre .0,
+      (length-take-le _ _ (rooms (c .before .before .before .before)), simp (length-take, length-drop) (omega (arith, g .room))),
+    )
 
 count-of-requires : tie.Need-count-of-requires
-count-of-requires c κs = value-lengths (c .before .before .before .before .before .before .before .before .before .before .before .before .before .before .before .before .pre .0) (lying (c .before .before .before .before .before .before .before .before .before .before .before .before .before .before .before .before .args .xi) (c .before .before .before .before .before .before .before .before .before .before .before .before .before .before .before .before .args .coefficients .now) (take (c .before .before .before .before .before .before .before .before .before .before .before .before .before .before .before .before .args .at) (c .before .before .before .before .before .before .before .before .before .before .before .before .before .before .before .before .args .pool .now)) (c .before .before .before .before .before .before .before .before .before .before .before .before .before .before .before .before .args .xf) (c .before .before .before .before .before .before .before .before .before .before .before .before .before .before .before .before .args .x) .coeffs) (lying (c .before .before .before .before .before .before .before .before .before .before .before .before .before .before .before .before .args .yi) (c .before .before .before .before .before .before .before .before .before .before .before .before .before .before .before .before .args .coefficients .now) (take (c .before .before .before .before .before .before .before .before .before .before .before .before .before .before .before .before .args .at) (c .before .before .before .before .before .before .before .before .before .before .before .before .before .before .before .before .args .pool .now)) (c .before .before .before .before .before .before .before .before .before .before .before .before .before .before .before .before .args .yf) (c .before .before .before .before .before .before .before .before .before .before .before .before .before .before .before .before .args .y) .coeffs) (c .before .before .before .before .before .before .before .before .before .load-pair .ensures .1) (c .before .before .before .before .before .before .before .before .before .load-pair .ensures .0) (stands (c .before .before .before .before))
+count-of-requires c κs =
+    let c9 = c .before .before .before .before .before .before .before .before .before in
+    let start = c9 .before .before .before .before .before .before .before in
+    value-lengths (start .pre .0) (lying (start .args .xi) (start .args .coefficients .now)
+    (take (start .args .at) (start .args .pool .now)) (start .args .xf) (start .args .x) .coeffs)
+    (lying (start .args .yi) (start .args .coefficients .now) (take (start .args .at) (start .args .pool .now))
+    (start .args .yf) (start .args .y) .coeffs) (c9 .load-pair .ensures .1) (c9 .load-pair .ensures .0)
+    (stands (c .before .before .before .before))
 
 add-pad : tie.Need-add-pad
-add-pad c = let g = c .before .before .before .before .before .before .before .before .before .before .before .before .before .before .before .before .before .before .pre .1 .1 .1 in omega (arith, g .room, c .before .before .before .before .before .before .before .before .before .before .before .before .before .before .before .before .before .before .good, c .before .count-of .ensures, value-count (c .before .before .before .before .before .before .before .before .before .before .before .before .before .before .before .before .before .before .pre .0) (lying (c .before .before .before .before .before .before .before .before .before .before .before .before .before .before .before .before .before .before .args .xi) (c .before .before .before .before .before .before .before .before .before .before .before .before .before .before .before .before .before .before .args .coefficients .now) (take (c .before .before .before .before .before .before .before .before .before .before .before .before .before .before .before .before .before .before .args .at) (c .before .before .before .before .before .before .before .before .before .before .before .before .before .before .before .before .before .before .args .pool .now)) (c .before .before .before .before .before .before .before .before .before .before .before .before .before .before .before .before .before .before .args .xf) (c .before .before .before .before .before .before .before .before .before .before .before .before .before .before .before .before .before .before .args .x) .coeffs) (lying (c .before .before .before .before .before .before .before .before .before .before .before .before .before .before .before .before .before .before .args .yi) (c .before .before .before .before .before .before .before .before .before .before .before .before .before .before .before .before .before .before .args .coefficients .now) (take (c .before .before .before .before .before .before .before .before .before .before .before .before .before .before .before .before .before .before .args .at) (c .before .before .before .before .before .before .before .before .before .before .before .before .before .before .before .before .before .before .args .pool .now)) (c .before .before .before .before .before .before .before .before .before .before .before .before .before .before .before .before .before .before .args .yf) (c .before .before .before .before .before .before .before .before .before .before .before .before .before .before .before .before .before .before .args .y) .coeffs) (c .before .before .before .before .before .before .before .before .before .before .before .load-pair .ensures .1) (c .before .before .before .before .before .before .before .before .before .before .before .load-pair .ensures .0) (stands (c .before .before .before .before .before .before)))
+add-pad c =
+    let c11 = c .before .before .before .before .before .before .before .before .before .before .before in
+    let start = c11 .before .before .before .before .before .before .before in let g = start .pre .1 .1 .1 in
+    omega (
+      arith,
+      g .room,
+      start .good,
+      c .before .count-of .ensures,
+      value-count (start .pre .0) (lying (start .args .xi) (start .args .coefficients .now)
+          (take (start .args .at) (start .args .pool .now)) (start .args .xf) (start .args .x) .coeffs)
+          (lying (start .args .yi) (start .args .coefficients .now) (take (start .args .at) (start .args .pool .now))
+          (start .args .yf) (start .args .y) .coeffs) (c11 .load-pair .ensures .1) (c11 .load-pair .ensures .0)
+          (stands (c .before .before .before .before .before .before)),
+    )
 
 pad-requires : tie.Need-pad-requires
-pad-requires c κs = let g = c .before .before .before .before .before .before .before .before .before .before .before .before .before .before .before .before .before .before .pre .1 .1 .1 in let l = lasts (c .before .before .before .before .before .before) in (omega (arith, c .before .count-of .ensures, value-count (c .before .before .before .before .before .before .before .before .before .before .before .before .before .before .before .before .before .before .pre .0) (lying (c .before .before .before .before .before .before .before .before .before .before .before .before .before .before .before .before .before .before .args .xi) (c .before .before .before .before .before .before .before .before .before .before .before .before .before .before .before .before .before .before .args .coefficients .now) (take (c .before .before .before .before .before .before .before .before .before .before .before .before .before .before .before .before .before .before .args .at) (c .before .before .before .before .before .before .before .before .before .before .before .before .before .before .before .before .before .before .args .pool .now)) (c .before .before .before .before .before .before .before .before .before .before .before .before .before .before .before .before .before .before .args .xf) (c .before .before .before .before .before .before .before .before .before .before .before .before .before .before .before .before .before .before .args .x) .coeffs) (lying (c .before .before .before .before .before .before .before .before .before .before .before .before .before .before .before .before .before .before .args .yi) (c .before .before .before .before .before .before .before .before .before .before .before .before .before .before .before .before .before .before .args .coefficients .now) (take (c .before .before .before .before .before .before .before .before .before .before .before .before .before .before .before .before .before .before .args .at) (c .before .before .before .before .before .before .before .before .before .before .before .before .before .before .before .before .before .before .args .pool .now)) (c .before .before .before .before .before .before .before .before .before .before .before .before .before .before .before .before .before .before .args .yf) (c .before .before .before .before .before .before .before .before .before .before .before .before .before .before .before .before .before .before .args .y) .coeffs) (c .before .before .before .before .before .before .before .before .before .before .before .load-pair .ensures .1) (c .before .before .before .before .before .before .before .before .before .before .before .load-pair .ensures .0) (stands (c .before .before .before .before .before .before))), omega (arith, g .room, l))
+pad-requires c κs =
+    let c6 = c .before .before .before .before .before .before in
+    let c11 = c6 .before .before .before .before .before in
+    let start = c11 .before .before .before .before .before .before .before in let g = start .pre .1 .1 .1 in
+    let l = lasts c6 in (
+      omega (
+        arith,
+        c .before .count-of .ensures,
+        value-count (start .pre .0) (lying (start .args .xi) (start .args .coefficients .now)
+            (take (start .args .at) (start .args .pool .now)) (start .args .xf) (start .args .x) .coeffs)
+            (lying (start .args .yi) (start .args .coefficients .now) (take (start .args .at) (start .args .pool .now))
+            (start .args .yf) (start .args .y) .coeffs) (c11 .load-pair .ensures .1)
+            (c11 .load-pair .ensures .0) (stands c6),
+      ),
+      omega (arith, g .room, l),
+    )
 
 returns : tie.Need-returns
-returns c = let g = c .before .before .before .before .before .before .before .before .before .before .before .before .before .before .before .before .before .before .before .before .before .pre .1 .1 .1 in (value-head (c .before .before .before .before .before .before .before .before .before .before .before .before .before .before .before .before .before .before .before .before .before .pre .0) (lying (c .before .before .before .before .before .before .before .before .before .before .before .before .before .before .before .before .before .before .before .before .before .args .xi) (c .before .before .before .before .before .before .before .before .before .before .before .before .before .before .before .before .before .before .before .before .before .args .coefficients .now) (take (c .before .before .before .before .before .before .before .before .before .before .before .before .before .before .before .before .before .before .before .before .before .args .at) (c .before .before .before .before .before .before .before .before .before .before .before .before .before .before .before .before .before .before .before .before .before .args .pool .now)) (c .before .before .before .before .before .before .before .before .before .before .before .before .before .before .before .before .before .before .before .before .before .args .xf) (c .before .before .before .before .before .before .before .before .before .before .before .before .before .before .before .before .before .before .before .before .before .args .x) .coeffs) (lying (c .before .before .before .before .before .before .before .before .before .before .before .before .before .before .before .before .before .before .before .before .before .args .yi) (c .before .before .before .before .before .before .before .before .before .before .before .before .before .before .before .before .before .before .before .before .before .args .coefficients .now) (take (c .before .before .before .before .before .before .before .before .before .before .before .before .before .before .before .before .before .before .before .before .before .args .at) (c .before .before .before .before .before .before .before .before .before .before .before .before .before .before .before .before .before .before .before .before .before .args .pool .now)) (c .before .before .before .before .before .before .before .before .before .before .before .before .before .before .before .before .before .before .before .before .before .args .yf) (c .before .before .before .before .before .before .before .before .before .before .before .before .before .before .before .before .before .before .before .before .before .args .y) .coeffs) (c .before .before .before .before .before .before .before .before .before .before .before .before .before .before .load-pair .ensures .1) (c .before .before .before .before .before .before .before .before .before .before .before .before .before .before .load-pair .ensures .0) (stands (c .before .before .before .before .before .before .before .before .before)), value-kept (c .before .before .before .before .before .before .before .before .before .before .before .before .before .before .before .before .before .before .before .before .before .pre .0) (lying (c .before .before .before .before .before .before .before .before .before .before .before .before .before .before .before .before .before .before .before .before .before .args .xi) (c .before .before .before .before .before .before .before .before .before .before .before .before .before .before .before .before .before .before .before .before .before .args .coefficients .now) (take (c .before .before .before .before .before .before .before .before .before .before .before .before .before .before .before .before .before .before .before .before .before .args .at) (c .before .before .before .before .before .before .before .before .before .before .before .before .before .before .before .before .before .before .before .before .before .args .pool .now)) (c .before .before .before .before .before .before .before .before .before .before .before .before .before .before .before .before .before .before .before .before .before .args .xf) (c .before .before .before .before .before .before .before .before .before .before .before .before .before .before .before .before .before .before .before .before .before .args .x) .coeffs) (lying (c .before .before .before .before .before .before .before .before .before .before .before .before .before .before .before .before .before .before .before .before .before .args .yi) (c .before .before .before .before .before .before .before .before .before .before .before .before .before .before .before .before .before .before .before .before .before .args .coefficients .now) (take (c .before .before .before .before .before .before .before .before .before .before .before .before .before .before .before .before .before .before .before .before .before .args .at) (c .before .before .before .before .before .before .before .before .before .before .before .before .before .before .before .before .before .before .before .before .before .args .pool .now)) (c .before .before .before .before .before .before .before .before .before .before .before .before .before .before .before .before .before .before .before .before .before .args .yf) (c .before .before .before .before .before .before .before .before .before .before .before .before .before .before .before .before .before .before .before .before .before .args .y) .coeffs) (c .before .before .before .before .before .before .before .before .before .before .before .before .before .before .load-pair .ensures .1) (c .before .before .before .before .before .before .before .before .before .before .before .before .before .before .load-pair .ensures .0) (stands (c .before .before .before .before .before .before .before .before .before)) (c .before .before .before .before .count-of .ensures) refl (part-kept (c .before .before .before .before .before .before .before .before .before .before .before .before .before .before .before .before .before .before .before .before .before .args .at) (c .before .before .before .before .before .before .before .before .before .before .before .before .before .before .before .before .before .before .before .before .before .args .at + c .before .before .before .before .before .before .before .before .before .before .before .before .before .before .before .before .before .before .before .before .before .args .n) (c .before .before .before .before .before .before .before .before .before .before .before .before .before .before .before .before .before .before .before .before .before .args .pool .now) (c .before .before .before .before .before .before .before .before .before .pair-front .last .1 .1 .1 .1 .1 .1 .1 .0) (c .before .before .before .before .before .before .before .before .before .pair-front .kept .1 .1 .1 .1 .1 .1 .1 .0 ∙ simp (length-take, length-drop) (omega (arith, g .room))) (omega arith) (g .room)) (c .before .before .pad .ensures))
+returns c =
+    let c9 = c .before .before .before .before .before .before .before .before .before in
+    let c14 = c9 .before .before .before .before .before in
+    let start = c14 .before .before .before .before .before .before .before in
+    let g = start .pre .1 .1 .1 in (
+      value-head (start .pre .0) (lying (start .args .xi) (start .args .coefficients .now)
+          (take (start .args .at) (start .args .pool .now)) (start .args .xf) (start .args .x) .coeffs)
+          (lying (start .args .yi) (start .args .coefficients .now) (take (start .args .at) (start .args .pool .now))
+          (start .args .yf) (start .args .y) .coeffs) (c14 .load-pair .ensures .1) (c14 .load-pair .ensures .0)
+          (stands c9),
+      value-kept (start .pre .0) (lying (start .args .xi) (start .args .coefficients .now)
+          (take (start .args .at) (start .args .pool .now)) (start .args .xf) (start .args .x) .coeffs)
+          (lying (start .args .yi) (start .args .coefficients .now) (take (start .args .at) (start .args .pool .now))
+          (start .args .yf) (start .args .y) .coeffs) (c14 .load-pair .ensures .1) (c14 .load-pair .ensures .0)
+          (stands c9) (c .before .before .before .before .count-of .ensures) refl
+          (part-kept (start .args .at) (start .args .at + start .args .n) (start .args .pool .now)
+          (c9 .pair-front .last .1 .1 .1 .1 .1 .1 .1 .0)
+          (c9 .pair-front .kept .1 .1 .1 .1 .1 .1 .1 .0 ∙ simp (length-take, length-drop) (omega (arith, g .room)))
+          (omega arith) (g .room)) (c .before .before .pad .ensures),
+    )
 
 pub pair-to-spec : {M : Type 1} → statement M
 pair-to-spec =
     tie.close
     (tie.spec
-    (λ c. search needs)
-    (λ c. search needs)
-    slice-aggregate-load-pair
-    (λ c. search needs)
-    slice-aggregate-load-pair-2
-    load-pair-requires
-    add-end
-    (λ c. search needs)
-    slice-aggregate-pair-front
-    mul-pair-front
-    (λ c. search needs)
-    (λ c. search needs)
-    (λ c. search needs)
-    pair-front-requires
-    count-of-requires
-    add-pad
-    pad-requires
-    (λ c. search needs)
-    (λ c. search needs)
-    returns)
+    (λ c. search needs) (λ c. search needs) slice-aggregate-load-pair (λ c. search needs) slice-aggregate-load-pair-2
+    load-pair-requires add-end (λ c. search needs) slice-aggregate-pair-front mul-pair-front (λ c. search needs)
+    (λ c. search needs) (λ c. search needs) pair-front-requires count-of-requires add-pad pad-requires
+    (λ c. search needs) (λ c. search needs) returns)

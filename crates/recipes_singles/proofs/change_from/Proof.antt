@@ -1,9 +1,7 @@
-use native.Mathlib.Omega.{arith}
-use mathlib.Core.Path.{_≡_, refl, sym, ap, _∙_}
+use mathlib.Core.Path.{_≡_, ap, _∙_}
 use mathlib.Core.List.{List}
-use Prim.Native.Nat.{ℕ, _+_, _-_, _*_, _≤_, _<_}
-use lib.ListN.{length, take, drop, length-take, length-drop}
-use lib.Seq.{length-take-le}
+use Prim.Native.Nat.{ℕ, _-_}
+use lib.ListN.{length, take, drop}
 use lib.Ieee.{Float}
 use Rattle.recipes_operands.specs.Lent.{source, length-operand}
 use Rattle.recipes_singles.specs.Change.{changedPoly}
@@ -13,17 +11,24 @@ use Rattle.model.specs.Poly.{poly}
 use borrow.Author.Needs.{needs}
 use Rattle.recipes_singles.proofs.change_from.Statement.{statement}
 use Rattle.recipes_singles.proofs.change_from.Tie as tie
-use Rattle.recipes_singles.proofs.change_from.Reads as reads
-use Rattle.recipes_singles.proofs.change_from.Lts as lts
-use Rattle.gates.proofs.stored_of.Reads as stored-of-reads
-use Rattle.recipes_operands.proofs.operand.Reads as operand-reads
-use Rattle.recipes_singles.proofs.changed.Reads as changed-reads
 
-part-is : (c : tie.After-operand) → c .operand .result .now ≡ take (stored (c .before .before .before .before .before .args .x)) (drop (c .before .before .before .before .before .args .from) (source (c .before .before .before .before .before .args .input) (c .before .before .before .before .before .args .coefficients .now) (c .before .before .before .before .before .args .pool .now)))
-part-is c = c .operand .ensures ∙ ap (λ (k : ℕ). take k (drop (c .before .before .before .before .before .args .from) (source (c .before .before .before .before .before .args .input) (c .before .before .before .before .before .args .coefficients .now) (c .before .before .before .before .before .args .pool .now)))) (c .before .stored-of .ensures)
+part-is : (c : tie.After-operand) →
+    let start = c .before .before .before .before .before in
+    c .operand .result .now ≡ take (stored (start .args .x))
+    (drop (start .args .from) (source (start .args .input) (start .args .coefficients .now)
+    (start .args .pool .now)))
+part-is c =
+    let start = c .before .before .before .before .before in
+    c .operand .ensures
+    ∙ ap (λ (k : ℕ). take k (drop (start .args .from)
+    (source (start .args .input) (start .args .coefficients .now) (start .args .pool .now))))
+    (c .before .stored-of .ensures)
 
 part-full : (c : tie.After-operand) → length (c .operand .result .now) ≡ stored (c .before .before .before .before .before .args .x)
-part-full c = ap length (part-is c) ∙ length-operand (c .before .before .before .before .before .args .from) (stored (c .before .before .before .before .before .args .x)) (source (c .before .before .before .before .before .args .input) (c .before .before .before .before .before .args .coefficients .now) (c .before .before .before .before .before .args .pool .now)) (c .before .before .before .before .before .pre .1)
+part-full c =
+    let start = c .before .before .before .before .before in
+    ap length (part-is c) ∙ length-operand (start .args .from) (stored (start .args .x))
+    (source (start .args .input) (start .args .coefficients .now) (start .args .pool .now)) (start .pre .1)
 
 stored-of-requires : tie.Need-stored-of-requires
 stored-of-requires c κs = search needs
@@ -38,8 +43,17 @@ same-length : tie.Need-same-length
 same-length c = search needs
 
 returns : tie.Need-returns
-returns c = (c .before .before .changed .ensures .0 ∙ ap (λ (a : List Float). changedPoly (c .before .before .before .before .before .before .before .before .before .args .kind) (c .before .before .before .before .before .before .before .before .before .args .v) (c .before .before .before .before .before .before .before .before .before .args .d) (poly (c .before .before .before .before .before .before .before .before .before .args .x) a) .head) (part-is (c .before .before .before .before)), c .before .before .changed .ensures .1 ∙ ap (λ (a : List Float). padded (stored (c .before .before .before .before .before .before .before .before .before .args .h)) (changedPoly (c .before .before .before .before .before .before .before .before .before .args .kind) (c .before .before .before .before .before .before .before .before .before .args .v) (c .before .before .before .before .before .before .before .before .before .args .d) (poly (c .before .before .before .before .before .before .before .before .before .args .x) a) .coeffs)) (part-is (c .before .before .before .before)))
+returns c =
+    let c4 = c .before .before .before .before in
+    let start = c4 .before .before .before .before .before in (
+      c .before .before .changed .ensures .0 ∙ ap
+          (λ (a : List Float). changedPoly (start .args .kind) (start .args .v) (start .args .d)
+          (poly (start .args .x) a) .head) (part-is c4),
+      c .before .before .changed .ensures .1
+          ∙ ap (λ (a : List Float). padded (stored (start .args .h))
+          (changedPoly (start .args .kind) (start .args .v) (start .args .d) (poly (start .args .x) a) .coeffs))
+          (part-is c4),
+    )
 
 pub change-from-spec : {M : Type 1} → statement M
-change-from-spec =
-    tie.close (tie.spec stored-of-requires operand-requires changed-requires same-length returns)
+change-from-spec = tie.close (tie.spec stored-of-requires operand-requires changed-requires same-length returns)

@@ -1,21 +1,14 @@
 use native.Mathlib.Omega.{arith}
-use mathlib.Core.Path.{_≡_, refl, sym, ap, _∙_}
-use mathlib.Core.List.{List}
-use Prim.Native.Nat.{ℕ, _+_, _-_, _*_, _≤_, _<_}
-use lib.ListN.{length, take, drop, length-take, length-drop}
+use mathlib.Core.Path.{sym, ap, _∙_}
+use Prim.Native.Nat.{ℕ, _-_, _≤_}
+use lib.ListN.{length, take, drop}
 use lib.Seq.{length-take-le}
-use lib.Ieee.{Float}
 use Rattle.recipes_operands.specs.Lent.{lying, lies-source, front-kept}
-use Rattle.recipes_singles.specs.Change.{changedPoly, Changing}
+use Rattle.recipes_singles.specs.Change.{changedPoly}
 use Rattle.model.specs.Refusals.{padded}
-use Rattle.model.specs.Header.{stored}
 use borrow.Author.Needs.{needs}
 use Rattle.recipes_singles.proofs.change_to.Statement.{statement}
 use Rattle.recipes_singles.proofs.change_to.Tie as tie
-use Rattle.recipes_singles.proofs.change_to.Reads as reads
-use Rattle.recipes_singles.proofs.change_to.Lts as lts
-use Rattle.product.proofs.kernel.keep.Reads as keep-reads
-use Rattle.recipes_singles.proofs.change_from.Reads as change-from-reads
 
 ends : (c : tie.Start) → (c .args .at ≤ length (c .args .pool .now)) × (c .args .n ≤ length (c .args .scratch .now))
 ends c = let g = c .pre .1 .1 in (omega (arith, g .room), omega (arith, g .spare))
@@ -27,21 +20,29 @@ slice-aggregate-change-from-2 : tie.Need-slice-aggregate-change-from-2
 slice-aggregate-change-from-2 c = sym (length-take-le _ _ (ends (c .before .before .before .before .before) .1))
 
 change-from-requires : tie.Need-change-from-requires
-change-from-requires c κs = (rw (length-take-le _ _ (ends (c .before .before .before .before .before) .1)) (c .before .before .before .before .before .pre .0), lies-source (c .before .before .before .before .before .args .coefficients .now) (take (c .before .before .before .before .before .args .at) (c .before .before .before .before .before .args .pool .now)) (c .before .before .before .before .before .pre .1 .0) (length-take-le _ _ (ends (c .before .before .before .before .before) .0)))
+change-from-requires c κs =
+    let start = c .before .before .before .before .before in (
+      rw (length-take-le _ _ (ends start .1)) (start .pre .0),
+      lies-source (start .args .coefficients .now) (take (start .args .at) (start .args .pool .now)) (start .pre .1 .0) (length-take-le _ _ (ends start .0)),
+    )
 
 returns : tie.Need-returns
-returns c = (c .before .before .before .before .before .before .before .change-from .ensures .0, front-kept (c .before .before .before .before .before .before .before .change-from .last .1 .1 .1 .1 .1 .1 .1 .1 .1 .0) (drop (c .before .before .before .before .before .before .before .before .before .before .before .before .before .args .n) (c .before .before .before .before .before .before .before .before .before .before .before .before .before .args .scratch .now)) (c .before .before .keep .ensures) (c .before .before .before .before .before .before .before .change-from .kept .1 .1 .1 .1 .1 .1 .1 .1 .1 .0 ∙ length-take-le _ _ (ends (c .before .before .before .before .before .before .before .before .before .before .before .before .before) .1)) (c .before .before .before .before .before .before .before .change-from .ensures .1 ∙ ap (λ (k : ℕ). padded k (changedPoly (c .before .before .before .before .before .before .before .before .before .before .before .before .before .args .kind) (c .before .before .before .before .before .before .before .before .before .before .before .before .before .args .v) (c .before .before .before .before .before .before .before .before .before .before .before .before .before .args .d) (lying (c .before .before .before .before .before .before .before .before .before .before .before .before .before .args .input) (c .before .before .before .before .before .before .before .before .before .before .before .before .before .args .coefficients .now) (take (c .before .before .before .before .before .before .before .before .before .before .before .before .before .args .at) (c .before .before .before .before .before .before .before .before .before .before .before .before .before .args .pool .now)) (c .before .before .before .before .before .before .before .before .before .before .before .before .before .args .from) (c .before .before .before .before .before .before .before .before .before .before .before .before .before .args .x)) .coeffs)) (sym (c .before .before .before .before .before .before .before .before .before .before .before .before .before .pre .0 .room))))
+returns c =
+    let c7 = c .before .before .before .before .before .before .before in
+    let start = c7 .before .before .before .before .before .before in (
+      c7 .change-from .ensures .0,
+      front-kept (c7 .change-from .last .1 .1 .1 .1 .1 .1 .1 .1 .1 .0)
+          (drop (start .args .n) (start .args .scratch .now)) (c .before .before .keep .ensures)
+          (c7 .change-from .kept .1 .1 .1 .1 .1 .1 .1 .1 .1 .0 ∙ length-take-le _ _ (ends start .1))
+          (c7 .change-from .ensures .1 ∙ ap (λ (k : ℕ).
+          padded k (changedPoly (start .args .kind) (start .args .v) (start .args .d)
+          (lying (start .args .input) (start .args .coefficients .now) (take (start .args .at) (start .args .pool .now))
+          (start .args .from) (start .args .x)) .coeffs)) (sym (start .pre .0 .room))),
+    )
 
 pub change-to-spec : {M : Type 1} → statement M
 change-to-spec =
     tie.close
     (tie.spec
-    (λ c. search needs)
-    slice-aggregate-change-from
-    (λ c. search needs)
-    slice-aggregate-change-from-2
-    change-from-requires
-    (λ c κs. search needs)
-    (λ c. search needs)
-    (λ c. search needs)
-    returns)
+    (λ c. search needs) slice-aggregate-change-from (λ c. search needs) slice-aggregate-change-from-2
+    change-from-requires (λ c κs. search needs) (λ c. search needs) (λ c. search needs) returns)

@@ -1,27 +1,29 @@
-use native.Mathlib.Omega.{arith}
-use mathlib.Core.Path.{_≡_, refl, sym, ap, _∙_}
-use mathlib.Core.List.{List, _++_}
-use Prim.Native.Nat.{ℕ, _+_, _-_, _*_, _≤_, _<_}
-use lib.ListN.{length, take, drop, length-take, length-drop, length-append}
-use lib.Seq.{length-take-le, take-at}
-use lib.Ieee.{Float}
-use Rattle.model.specs.Header.{count, stored}
+use mathlib.Core.Path.{_≡_, ap, _∙_}
+use Prim.Native.Nat.{ℕ, _-_}
+use lib.ListN.{length, take, drop}
+use Rattle.model.specs.Header.{stored}
 use Rattle.recipes_operands.specs.Lent.{source, length-operand}
-use Rattle.power.specs.Room.{Loaded}
 use borrow.Author.Needs.{needs}
 use Rattle.recipes_singles.proofs.load_base.Statement.{statement}
 use Rattle.recipes_singles.proofs.load_base.Tie as tie
-use Rattle.recipes_singles.proofs.load_base.Reads as reads
-use Rattle.recipes_singles.proofs.load_base.Lts as lts
-use Rattle.gates.proofs.stored_of.Reads as stored-of-reads
-use Rattle.power.proofs.kernel.load_base.Reads as load-base-reads
-use Rattle.recipes_operands.proofs.operand.Reads as operand-reads
 
-part-is : (c : tie.After-operand) → c .operand .result .now ≡ take (stored (c .before .before .before .before .before .args .x)) (drop (c .before .before .before .before .before .args .from) (source (c .before .before .before .before .before .args .input) (c .before .before .before .before .before .args .coefficients .now) (c .before .before .before .before .before .args .pool .now)))
-part-is c = c .operand .ensures ∙ ap (λ (k : ℕ). take k (drop (c .before .before .before .before .before .args .from) (source (c .before .before .before .before .before .args .input) (c .before .before .before .before .before .args .coefficients .now) (c .before .before .before .before .before .args .pool .now)))) (c .before .stored-of .ensures)
+part-is : (c : tie.After-operand) →
+    let start = c .before .before .before .before .before in
+    c .operand .result .now ≡ take (stored (start .args .x))
+    (drop (start .args .from) (source (start .args .input) (start .args .coefficients .now)
+    (start .args .pool .now)))
+part-is c =
+    let start = c .before .before .before .before .before in
+    c .operand .ensures
+    ∙ ap (λ (k : ℕ). take k (drop (start .args .from)
+    (source (start .args .input) (start .args .coefficients .now) (start .args .pool .now))))
+    (c .before .stored-of .ensures)
 
 part-full : (c : tie.After-operand) → length (c .operand .result .now) ≡ stored (c .before .before .before .before .before .args .x)
-part-full c = ap length (part-is c) ∙ length-operand (c .before .before .before .before .before .args .from) (stored (c .before .before .before .before .before .args .x)) (source (c .before .before .before .before .before .args .input) (c .before .before .before .before .before .args .coefficients .now) (c .before .before .before .before .before .args .pool .now)) (c .before .before .before .before .before .pre .1 .1)
+part-full c =
+    let start = c .before .before .before .before .before in
+    ap length (part-is c) ∙ length-operand (start .args .from) (stored (start .args .x))
+    (source (start .args .input) (start .args .coefficients .now) (start .args .pool .now)) (start .pre .1 .1)
 
 stored-of-requires : tie.Need-stored-of-requires
 stored-of-requires c κs = search needs
@@ -39,5 +41,4 @@ returns : tie.Need-returns
 returns c = rw (part-is (c .before .before .before .before)) at (c .before .before .load-base .ensures)
 
 pub load-base-spec : {M : Type 1} → statement M
-load-base-spec =
-    tie.close (tie.spec stored-of-requires operand-requires load-base-requires same-length returns)
+load-base-spec = tie.close (tie.spec stored-of-requires operand-requires load-base-requires same-length returns)

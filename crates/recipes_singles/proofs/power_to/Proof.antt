@@ -1,36 +1,46 @@
 use native.Mathlib.Omega.{arith}
-use mathlib.Core.Path.{_≡_, refl, sym, ap, _∙_}
-use mathlib.Core.List.{List, _++_}
-use Prim.Native.Nat.{ℕ, _+_, _-_, _*_, _≤_, _<_}
+use mathlib.Core.Path.{_≡_, sym, _∙_}
+use mathlib.Core.List.{_++_}
+use Prim.Native.Nat.{_+_, _-_, _*_, _≤_}
 use lib.ListN.{length, take, drop, length-take, length-drop, length-append}
 use lib.Seq.{length-take-le, take-at}
-use lib.Ieee.{Float}
-use Rattle.model.specs.Header.{count, stored}
+use Rattle.model.specs.Header.{stored}
 use Rattle.recipes_operands.specs.Lent.{source, lying, lies-source, length-operand, kept-as, part-kept}
 use Rattle.recipes_singles.specs.Power.{powering, base-fits, power-head, power-places}
 use Rattle.power.specs.Room.{Loaded}
 use borrow.Author.Needs.{needs}
 use Rattle.recipes_singles.proofs.power_to.Statement.{statement}
 use Rattle.recipes_singles.proofs.power_to.Tie as tie
-use Rattle.recipes_singles.proofs.power_to.Reads as reads
-use Rattle.recipes_singles.proofs.power_to.Lts as lts
-use Rattle.power.proofs.kernel.power_loaded.Reads as power-loaded-reads
-use Rattle.recipes_singles.proofs.load_base.Reads as load-base-reads
 
 ends : (c : tie.Start) → (c .args .at ≤ length (c .args .pool .now)) × (8 * c .args .n ≤ length (c .args .scratch .now))
 ends c = let g = c .pre .1 .1 in (omega (arith, g .room), g .spare)
 
-bounds : (c : tie.Start) → c .args .from + stored (c .args .x) ≤ length (source (c .args .input) (c .args .coefficients .now) (take (c .args .at) (c .args .pool .now)))
+bounds : (c : tie.Start) → c .args .from + stored (c .args .x)
+    ≤ length (source (c .args .input) (c .args .coefficients .now) (take (c .args .at) (c .args .pool .now)))
 bounds c = lies-source (c .args .coefficients .now) (take (c .args .at) (c .args .pool .now)) (c .pre .1 .0) (length-take-le _ _ (ends c .0))
 
-used : (c : tie.After-load-base) → length (c .load-base .last .1 .1 .1 .1 .1 .1 .0) ≡ 8 * c .before .before .before .before .before .before .before .before .args .n
-used c = c .load-base .kept .1 .1 .1 .1 .1 .1 .0 ∙ length-take-le _ _ (ends (c .before .before .before .before .before .before .before .before) .1)
+used : (c : tie.After-load-base) →
+    let start = c .before .before .before .before .before .before .before .before in
+    length (c .load-base .last .1 .1 .1 .1 .1 .1 .0) ≡ 8 * start .args .n
+used c =
+    let c8 = c .before .before .before .before .before .before .before .before in
+    c .load-base .kept .1 .1 .1 .1 .1 .1 .0 ∙ length-take-le _ _ (ends c8 .1)
 
-rooms : (c : tie.After-load-base) → 8 * c .before .before .before .before .before .before .before .before .args .n ≤ length ((c .load-base .last .1 .1 .1 .1 .1 .1 .0) ++ drop (8 * c .before .before .before .before .before .before .before .before .args .n) (c .before .before .before .before .before .before .before .before .args .scratch .now))
+rooms : (c : tie.After-load-base) →
+    let start = c .before .before .before .before .before .before .before .before in
+    8 * start .args .n ≤ length ((c .load-base .last .1 .1 .1 .1 .1 .1 .0) ++ drop (8 * start .args .n) (start .args .scratch .now))
 rooms c = simp length-append (omega (arith, used c))
 
-loaded : (c : tie.After-load-base) → Loaded (c .before .before .before .before .before .before .before .before .args .e) (lying (c .before .before .before .before .before .before .before .before .args .input) (c .before .before .before .before .before .before .before .before .args .coefficients .now) (take (c .before .before .before .before .before .before .before .before .args .at) (c .before .before .before .before .before .before .before .before .args .pool .now)) (c .before .before .before .before .before .before .before .before .args .from) (c .before .before .before .before .before .before .before .before .args .x) .coeffs) (take (8 * c .before .before .before .before .before .before .before .before .args .n) ((c .load-base .last .1 .1 .1 .1 .1 .1 .0) ++ drop (8 * c .before .before .before .before .before .before .before .before .args .n) (c .before .before .before .before .before .before .before .before .args .scratch .now)))
-loaded c = rw (take-at (c .load-base .last .1 .1 .1 .1 .1 .1 .0) (drop (8 * c .before .before .before .before .before .before .before .before .args .n) (c .before .before .before .before .before .before .before .before .args .scratch .now)) (8 * c .before .before .before .before .before .before .before .before .args .n) (used c)) (c .load-base .ensures)
+loaded : (c : tie.After-load-base) →
+    let start = c .before .before .before .before .before .before .before .before in
+    Loaded (start .args .e) (lying (start .args .input) (start .args .coefficients .now)
+    (take (start .args .at) (start .args .pool .now)) (start .args .from) (start .args .x) .coeffs)
+    (take (8 * start .args .n) ((c .load-base .last .1 .1 .1 .1 .1 .1 .0)
+    ++ drop (8 * start .args .n) (start .args .scratch .now)))
+loaded c =
+    let start = c .before .before .before .before .before .before .before .before in
+    rw (take-at (c .load-base .last .1 .1 .1 .1 .1 .1 .0) (drop (8 * start .args .n) (start .args .scratch .now))
+    (8 * start .args .n) (used c)) (c .load-base .ensures)
 
 slice-aggregate-load-base : tie.Need-slice-aggregate-load-base
 slice-aggregate-load-base c = sym (length-take-le _ _ (ends (c .before .before .before .before .before .before) .0))
@@ -39,35 +49,46 @@ slice-aggregate-load-base-2 : tie.Need-slice-aggregate-load-base-2
 slice-aggregate-load-base-2 c = sym (length-take-le _ _ (ends (c .before .before .before .before .before .before .before) .1))
 
 load-base-requires : tie.Need-load-base-requires
-load-base-requires c κs = (c .before .before .before .before .before .before .before .pre .0 .left .regular .rules, (base-fits (c .before .before .before .before .before .before .before .pre .0) (length-take-le _ _ (ends (c .before .before .before .before .before .before .before) .1)), bounds (c .before .before .before .before .before .before .before)))
+load-base-requires c κs =
+    let start = c .before .before .before .before .before .before .before in
+    (start .pre .0 .left .regular .rules, (base-fits (start .pre .0) (length-take-le _ _ (ends start .1)), bounds start))
 
 slice-aggregate-power-loaded : tie.Need-slice-aggregate-power-loaded
 slice-aggregate-power-loaded c = sym (length-take-le _ _ (rooms (c .before .before .before)))
 
 power-loaded-requires : tie.Need-power-loaded-requires
-power-loaded-requires c κs = let g = c .before .before .before .before .before .before .before .before .before .before .before .before .pre .1 .1 in powering (c .before .before .before .before .before .before .before .before .before .before .before .before .pre .0) (length-take-le _ _ (rooms (c .before .before .before .before))) (simp (length-take, length-drop) (omega (arith, g .room)))
+power-loaded-requires c κs =
+    let start = c .before .before .before .before .before .before .before .before .before .before .before .before in
+    let g = start .pre .1 .1 in
+    powering (start .pre .0) (length-take-le _ _ (rooms (c .before .before .before .before)))
+    (simp (length-take, length-drop) (omega (arith, g .room)))
 
 returns : tie.Need-returns
-returns c = let g = c .before .before .before .before .before .before .before .before .before .before .before .before .before .before .before .before .before .pre .1 .1 in (power-head (c .before .before .before .before .before .before .before .before .before .before .before .before .before .before .before .before .before .pre .0) (lying (c .before .before .before .before .before .before .before .before .before .before .before .before .before .before .before .before .before .args .input) (c .before .before .before .before .before .before .before .before .before .before .before .before .before .before .before .before .before .args .coefficients .now) (take (c .before .before .before .before .before .before .before .before .before .before .before .before .before .before .before .before .before .args .at) (c .before .before .before .before .before .before .before .before .before .before .before .before .before .before .before .before .before .args .pool .now)) (c .before .before .before .before .before .before .before .before .before .before .before .before .before .before .before .before .before .args .from) (c .before .before .before .before .before .before .before .before .before .before .before .before .before .before .before .before .before .args .x) .coeffs) (loaded (c .before .before .before .before .before .before .before .before .before)) (length-operand (c .before .before .before .before .before .before .before .before .before .before .before .before .before .before .before .before .before .args .from) (stored (c .before .before .before .before .before .before .before .before .before .before .before .before .before .before .before .before .before .args .x)) (source (c .before .before .before .before .before .before .before .before .before .before .before .before .before .before .before .before .before .args .input) (c .before .before .before .before .before .before .before .before .before .before .before .before .before .before .before .before .before .args .coefficients .now) (take (c .before .before .before .before .before .before .before .before .before .before .before .before .before .before .before .before .before .args .at) (c .before .before .before .before .before .before .before .before .before .before .before .before .before .before .before .before .before .args .pool .now))) (bounds (c .before .before .before .before .before .before .before .before .before .before .before .before .before .before .before .before .before))) (c .before .before .before .before .power-loaded .ensures .0), kept-as (power-places (c .before .before .before .before .before .before .before .before .before .before .before .before .before .before .before .before .before .pre .0) (lying (c .before .before .before .before .before .before .before .before .before .before .before .before .before .before .before .before .before .args .input) (c .before .before .before .before .before .before .before .before .before .before .before .before .before .before .before .before .before .args .coefficients .now) (take (c .before .before .before .before .before .before .before .before .before .before .before .before .before .before .before .before .before .args .at) (c .before .before .before .before .before .before .before .before .before .before .before .before .before .before .before .before .before .args .pool .now)) (c .before .before .before .before .before .before .before .before .before .before .before .before .before .before .before .before .before .args .from) (c .before .before .before .before .before .before .before .before .before .before .before .before .before .before .before .before .before .args .x) .coeffs) (loaded (c .before .before .before .before .before .before .before .before .before)) (length-operand (c .before .before .before .before .before .before .before .before .before .before .before .before .before .before .before .before .before .args .from) (stored (c .before .before .before .before .before .before .before .before .before .before .before .before .before .before .before .before .before .args .x)) (source (c .before .before .before .before .before .before .before .before .before .before .before .before .before .before .before .before .before .args .input) (c .before .before .before .before .before .before .before .before .before .before .before .before .before .before .before .before .before .args .coefficients .now) (take (c .before .before .before .before .before .before .before .before .before .before .before .before .before .before .before .before .before .args .at) (c .before .before .before .before .before .before .before .before .before .before .before .before .before .before .before .before .before .args .pool .now))) (bounds (c .before .before .before .before .before .before .before .before .before .before .before .before .before .before .before .before .before))) (c .before .before .before .before .power-loaded .ensures .1)) (part-kept (c .before .before .before .before .before .before .before .before .before .before .before .before .before .before .before .before .before .args .at) (c .before .before .before .before .before .before .before .before .before .before .before .before .before .before .before .before .before .args .at + c .before .before .before .before .before .before .before .before .before .before .before .before .before .before .before .before .before .args .n) (c .before .before .before .before .before .before .before .before .before .before .before .before .before .before .before .before .before .args .pool .now) (c .before .before .before .before .power-loaded .last .1 .1 .1 .1 .1 .0) (c .before .before .before .before .power-loaded .kept .1 .1 .1 .1 .1 .0 ∙ simp (length-take, length-drop) (omega (arith, g .room))) (omega arith) (g .room)))
+returns c =
+    let c4 = c .before .before .before .before in let c9 = c4 .before .before .before .before .before in
+    let start = c9 .before .before .before .before .before .before .before .before in
+    let g = start .pre .1 .1 in (
+      power-head (start .pre .0) (lying (start .args .input) (start .args .coefficients .now)
+          (take (start .args .at) (start .args .pool .now)) (start .args .from) (start .args .x) .coeffs) (loaded c9)
+          (length-operand (start .args .from) (stored (start .args .x))
+          (source (start .args .input) (start .args .coefficients .now) (take (start .args .at) (start .args .pool .now)))
+          (bounds start)) (c4 .power-loaded .ensures .0),
+      kept-as (power-places (start .pre .0) (lying (start .args .input) (start .args .coefficients .now)
+          (take (start .args .at) (start .args .pool .now)) (start .args .from) (start .args .x) .coeffs) (loaded c9)
+          (length-operand (start .args .from) (stored (start .args .x))
+          (source (start .args .input) (start .args .coefficients .now)
+          (take (start .args .at) (start .args .pool .now))) (bounds start)) (c4 .power-loaded .ensures .1))
+          (part-kept (start .args .at) (start .args .at + start .args .n) (start .args .pool .now)
+          (c4 .power-loaded .last .1 .1 .1 .1 .1 .0)
+          (c4 .power-loaded .kept .1 .1 .1 .1 .1 .0 ∙ simp (length-take, length-drop) (omega (arith, g .room)))
+          (omega arith) (g .room)),
+    )
 
 pub power-to-spec : {M : Type 1} → statement M
 power-to-spec =
     tie.close
     (tie.spec
-    (λ c. search needs)
-    (λ c. search needs)
-    slice-aggregate-load-base
-    (λ c. search needs)
-    slice-aggregate-load-base-2
-    load-base-requires
-    (λ c. search needs)
-    (λ c. search needs)
-    slice-aggregate-power-loaded
-    (λ c. search needs)
-    (λ c. search needs)
-    (λ c. search needs)
-    (λ c. search needs)
-    power-loaded-requires
-    (λ c. search needs)
-    (λ c. search needs)
-    returns)
+    (λ c. search needs) (λ c. search needs) slice-aggregate-load-base (λ c. search needs) slice-aggregate-load-base-2
+    load-base-requires (λ c. search needs) (λ c. search needs) slice-aggregate-power-loaded (λ c. search needs)
+    (λ c. search needs) (λ c. search needs) (λ c. search needs) power-loaded-requires (λ c. search needs)
+    (λ c. search needs) returns)

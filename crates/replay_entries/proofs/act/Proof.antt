@@ -15,14 +15,6 @@ pub act-spec : {M : Type 1} → statement M
 act-spec =
     tie.close
     (tie.spec
-    (λ c κs. search needs)
-    (λ c κs. search needs)
-    (λ c κs. search needs)
-    (λ c. search needs)
-    slice-aggregate-make-and-show
-    (λ c. search needs)
-    slice-aggregate-make-and-show-2
-    (λ c κs. search needs)
-    (λ c. search needs)
-    (λ c κs. search needs)
-    (λ c. search needs))
+    (λ c κs. search needs) (λ c κs. search needs) (λ c κs. search needs) (λ c. search needs)
+    slice-aggregate-make-and-show (λ c. search needs) slice-aggregate-make-and-show-2 (λ c κs. search needs)
+    (λ c. search needs) (λ c κs. search needs) (λ c. search needs))

@@ -43,7 +43,9 @@ slice-aggregate-fill : tie.Need-slice-aggregate-fill
 slice-aggregate-fill c = sym (length-take-le _ _ (slice-relend-prefix-fill (c .before)))
 
 fill-requires : tie.Need-fill-requires
-fill-requires c κs = (omega (arith, c .before .before .before .before .before .before .count-of3 .ensures), simp length-take (omega (arith, c .before .before .before .before .before .before .before .before .count-of .ensures)))
+fill-requires c κs =
+    let c8 = c .before .before .before .before .before .before .before .before in
+    (omega (arith, c .before .before .before .before .before .before .count-of3 .ensures), simp length-take (omega (arith, c8 .count-of .ensures)))
 
 add-fill : tie.Need-add-fill
 add-fill c = search needs
@@ -58,7 +60,10 @@ slice-aggregate-fill-2 : tie.Need-slice-aggregate-fill-2
 slice-aggregate-fill-2 c = sym (length-take-le _ _ (slice-relend-prefix-fill-2 (c .before)))
 
 fill-requires-2 : tie.Need-fill-requires-2
-fill-requires-2 c κs = (omega (arith, c .before .before .before .before .before .before .before .before .before .before .before .before .before .count-of .ensures, c .before .before .before .before .before .before .before .before .before .before .before .count-of3 .ensures), simp length-take (omega (arith, c .before .before .before .before .before .before .before .before .before .before .before .before .count-of2 .ensures)))
+fill-requires-2 c κs =
+    let c11 = c .before .before .before .before .before .before .before .before .before .before .before in
+    let c12 = c11 .before in let c13 = c12 .before in
+    (omega (arith, c13 .count-of .ensures, c11 .count-of3 .ensures), simp length-take (omega (arith, c12 .count-of2 .ensures)))
 
 slice-reshare-prefix-act : tie.Need-slice-reshare-prefix-act
 slice-reshare-prefix-act c = search needs
@@ -94,31 +99,8 @@ pub go-on-spec : {M : Type 1} → statement M
 go-on-spec =
     tie.close
     (tie.spec
-    count-of-requires
-    count-of-requires-2
-    count-of-requires-3
-    add-end
-    add-end-2
-    mul-end
-    slice-relend-prefix-read-full
-    slice-aggregate-read-full
-    read-full-requires
-    mul-fill
-    slice-relend-prefix-fill
-    slice-aggregate-fill
-    fill-requires
-    add-fill
-    mul-fill-2
-    slice-relend-prefix-fill-2
-    slice-aggregate-fill-2
-    fill-requires-2
-    slice-reshare-prefix-act
-    slice-aggregate-act
-    slice-reshare-prefix-act-2
-    slice-aggregate-act-2
-    numbers-of-requires
-    act-requires
-    same-length
-    same-length-2
-    same-length-3
-    returns)
+    count-of-requires count-of-requires-2 count-of-requires-3 add-end add-end-2 mul-end slice-relend-prefix-read-full
+    slice-aggregate-read-full read-full-requires mul-fill slice-relend-prefix-fill slice-aggregate-fill fill-requires
+    add-fill mul-fill-2 slice-relend-prefix-fill-2 slice-aggregate-fill-2 fill-requires-2 slice-reshare-prefix-act
+    slice-aggregate-act slice-reshare-prefix-act-2 slice-aggregate-act-2 numbers-of-requires act-requires same-length
+    same-length-2 same-length-3 returns)

@@ -103,34 +103,9 @@ pub go-on-spec : {M : Type 1} → statement M
 go-on-spec =
     tie.close
     (tie.spec
-    least-requires
-    least-requires-2
-    least-requires-3
-    add-end
-    add-end-2
-    mul-end
-    slice-relend-prefix-read-full
-    slice-aggregate-read-full
-    read-full-requires
-    slice-relend-prefix-fill-words
-    slice-aggregate-fill-words
-    fill-words-requires
-    slice-relend-prefix-fill-floats
-    slice-aggregate-fill-floats
-    fill-floats-requires
-    add-fill-words
-    slice-relend-prefix-fill-words-2
-    slice-aggregate-fill-words-2
-    fill-words-requires-2
-    slice-reshare-prefix-lend
-    slice-aggregate-lend
-    slice-reshare-prefix-lend-2
-    slice-aggregate-lend-2
-    slice-reshare-prefix-lend-3
-    slice-aggregate-lend-3
-    lend-requires
-    same-length
-    same-length-2
-    same-length-3
-    same-length-4
-    returns)
+    least-requires least-requires-2 least-requires-3 add-end add-end-2 mul-end slice-relend-prefix-read-full
+    slice-aggregate-read-full read-full-requires slice-relend-prefix-fill-words slice-aggregate-fill-words
+    fill-words-requires slice-relend-prefix-fill-floats slice-aggregate-fill-floats fill-floats-requires add-fill-words
+    slice-relend-prefix-fill-words-2 slice-aggregate-fill-words-2 fill-words-requires-2 slice-reshare-prefix-lend
+    slice-aggregate-lend slice-reshare-prefix-lend-2 slice-aggregate-lend-2 slice-reshare-prefix-lend-3
+    slice-aggregate-lend-3 lend-requires same-length same-length-2 same-length-3 same-length-4 returns)

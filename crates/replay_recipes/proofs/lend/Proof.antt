@@ -41,14 +41,6 @@ pub lend-spec : {M : Type 1} → statement M
 lend-spec =
     tie.close
     (tie.spec
-    least-requires
-    least-requires-2
-    least-requires-3
-    array-borrow-prefix-pool
-    slice-aggregate-act
-    array-borrow-prefix-words
-    slice-aggregate-act-2
-    array-borrow-prefix-scratch
-    slice-aggregate-act-3
-    act-requires
+    least-requires least-requires-2 least-requires-3 array-borrow-prefix-pool slice-aggregate-act
+    array-borrow-prefix-words slice-aggregate-act-2 array-borrow-prefix-scratch slice-aggregate-act-3 act-requires
     returns)

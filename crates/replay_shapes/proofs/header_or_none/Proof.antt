@@ -1,15 +1,10 @@
-use mathlib.Core.Path.{_≡_, sym, _∙_}
+use mathlib.Core.Path.{sym, _∙_}
 use Rattle.replay_shapes.specs.Told.{headerOrNone}
 use Rattle.shape_words.specs.Words.{good-word}
 use Rattle.shape_words.specs.Rules.{none-regular}
 use borrow.Author.Needs.{needs}
 use Rattle.replay_shapes.proofs.header_or_none.Statement.{statement}
 use Rattle.replay_shapes.proofs.header_or_none.Tie as tie
-use Rattle.replay_shapes.proofs.header_or_none.Reads as reads
-use Rattle.replay_shapes.proofs.header_or_none.Lts as lts
-use Rattle.model.proofs.Header.none.Reads as none-reads
-use Rattle.shape_words.proofs.word.header_of.Reads as header-of-reads
-use Rattle.shape_words.proofs.word.is_good.Reads as is-good-reads
 
 is-good-requires : tie.Need-is-good-requires
 is-good-requires c κs = search needs
@@ -22,12 +17,14 @@ none-requires c κs = search needs
 
 returns : tie.Need-returns
 unfolding headerOrNone
-returns c = (simp (sym (c .before .before .is-good .ensures) ∙ c .before .if1 .taken) (c .header-of .ensures), rw (c .header-of .ensures) (good-word _ (sym (c .before .before .is-good .ensures) ∙ c .before .if1 .taken) .regular))
+returns c = (
+  simp (sym (c .before .before .is-good .ensures) ∙ c .before .if1 .taken) (c .header-of .ensures),
+  rw (c .header-of .ensures) (good-word _ (sym (c .before .before .is-good .ensures) ∙ c .before .if1 .taken) .regular),
+)
 
 returns-2 : tie.Need-returns-2
 unfolding headerOrNone
 returns-2 c = (simp (sym (c .before .before .is-good .ensures) ∙ c .before .if1 .left) (c .none .ensures), rw (c .none .ensures) none-regular)
 
 pub header-or-none-spec : {M : Type 1} → statement M
-header-or-none-spec =
-    tie.close (tie.spec is-good-requires header-of-requires none-requires returns returns-2)
+header-or-none-spec = tie.close (tie.spec is-good-requires header-of-requires none-requires returns returns-2)

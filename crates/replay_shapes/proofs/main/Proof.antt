@@ -3,11 +3,6 @@ use Prim.Native.Nat.{_≤_, _-_}
 use borrow.Author.Needs.{needs}
 use Rattle.replay_shapes.proofs.main.Statement.{statement}
 use Rattle.replay_shapes.proofs.main.Tie as tie
-use Rattle.replay_shapes.proofs.main.Reads as reads
-use Rattle.replay_shapes.proofs.main.Lts as lts
-use Rattle.replay_shapes.proofs.show_all_ones.Reads as show-all-ones-reads
-use Rattle.replay_shapes.proofs.show_row.Reads as show-row-reads
-use Rattle.replay_shapes.proofs.show_words.Reads as show-words-reads
 
 abbrev Inv-loop : tie.InvT-loop
 Inv-loop k₀ k = k ≤ 12
@@ -21,13 +16,5 @@ main-spec =
     (tie.spec
     Inv-loop
     μ-loop
-    (λ c κs. search needs)
-    (λ c κs. search needs)
-    (λ c. omega arith)
-    (λ c. omega arith)
-    (λ c. omega arith)
-    (λ c κs. search needs)
-    (λ c. omega arith)
-    (λ c. omega arith)
-    (λ c. omega arith)
-    (λ c. search needs))
+    (λ c κs. search needs) (λ c κs. search needs) (λ c. omega arith) (λ c. omega arith) (λ c. omega arith)
+    (λ c κs. search needs) (λ c. omega arith) (λ c. omega arith) (λ c. omega arith) (λ c. search needs))

@@ -3,9 +3,6 @@ use Prim.Native.Nat.{_≤_, _-_}
 use borrow.Author.Needs.{needs}
 use Rattle.replay_shapes.proofs.show_all_ones.Statement.{statement}
 use Rattle.replay_shapes.proofs.show_all_ones.Tie as tie
-use Rattle.replay_shapes.proofs.show_all_ones.Reads as reads
-use Rattle.replay_shapes.proofs.show_all_ones.Lts as lts
-use Rattle.replay_shapes.proofs.show_ones.Reads as show-ones-reads
 
 abbrev Inv-loop : tie.InvT-loop
 Inv-loop k₀ k = k ≤ 12
@@ -19,11 +16,5 @@ show-all-ones-spec =
     (tie.spec
     Inv-loop
     μ-loop
-    (λ c. omega arith)
-    (λ c. omega arith)
-    (λ c. omega arith)
-    (λ c κs. search needs)
-    (λ c. omega arith)
-    (λ c. omega arith)
-    (λ c. omega arith)
-    (λ c. search needs))
+    (λ c. omega arith) (λ c. omega arith) (λ c. omega arith) (λ c κs. search needs) (λ c. omega arith)
+    (λ c. omega arith) (λ c. omega arith) (λ c. search needs))

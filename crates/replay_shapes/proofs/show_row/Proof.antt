@@ -3,9 +3,6 @@ use Prim.Native.Nat.{_≤_, _-_}
 use borrow.Author.Needs.{needs}
 use Rattle.replay_shapes.proofs.show_row.Statement.{statement}
 use Rattle.replay_shapes.proofs.show_row.Tie as tie
-use Rattle.replay_shapes.proofs.show_row.Reads as reads
-use Rattle.replay_shapes.proofs.show_row.Lts as lts
-use Rattle.replay_shapes.proofs.show_pairs.Reads as show-pairs-reads
 
 abbrev Inv-loop : tie.InvT-loop
 Inv-loop a k₀ k = k ≤ 12
@@ -19,11 +16,5 @@ show-row-spec =
     (tie.spec
     Inv-loop
     μ-loop
-    (λ c. omega arith)
-    (λ c. omega arith)
-    (λ c. omega arith)
-    (λ c κs. search needs)
-    (λ c. omega arith)
-    (λ c. omega arith)
-    (λ c. omega arith)
-    (λ c. search needs))
+    (λ c. omega arith) (λ c. omega arith) (λ c. omega arith) (λ c κs. search needs) (λ c. omega arith)
+    (λ c. omega arith) (λ c. omega arith) (λ c. search needs))

@@ -3,9 +3,6 @@ use Prim.Native.Nat.{_≤_, _-_}
 use borrow.Author.Needs.{needs}
 use Rattle.replay_shapes.proofs.show_words.Statement.{statement}
 use Rattle.replay_shapes.proofs.show_words.Tie as tie
-use Rattle.replay_shapes.proofs.show_words.Reads as reads
-use Rattle.replay_shapes.proofs.show_words.Lts as lts
-use Rattle.replay_shapes.proofs.show_word.Reads as show-word-reads
 
 abbrev Inv-loop : tie.InvT-loop
 Inv-loop k₀ k = k ≤ 72
@@ -19,11 +16,5 @@ show-words-spec =
     (tie.spec
     Inv-loop
     μ-loop
-    (λ c. omega arith)
-    (λ c. omega arith)
-    (λ c. omega arith)
-    (λ c κs. search needs)
-    (λ c. omega arith)
-    (λ c. omega arith)
-    (λ c. omega arith)
-    (λ c. search needs))
+    (λ c. omega arith) (λ c. omega arith) (λ c. omega arith) (λ c κs. search needs) (λ c. omega arith)
+    (λ c. omega arith) (λ c. omega arith) (λ c. search needs))

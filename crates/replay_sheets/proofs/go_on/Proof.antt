@@ -35,12 +35,5 @@ pub go-on-spec : {M : Type 1} → statement M
 go-on-spec =
     tie.close
     (tie.spec
-    least-requires
-    slice-relend-prefix-read-full
-    slice-aggregate-read-full
-    read-full-requires
-    slice-reshare-prefix-show
-    slice-aggregate-show
-    show-requires
-    same-length
-    returns)
+    least-requires slice-relend-prefix-read-full slice-aggregate-read-full read-full-requires slice-reshare-prefix-show
+    slice-aggregate-show show-requires same-length returns)

@@ -16,8 +16,5 @@ pub show-spec : {M : Type 1} → statement M
 show-spec =
     tie.close
     (tie.spec
-    (λ c κs. search needs)
-    array-share-prefix-output
-    slice-aggregate-write-all
-    (λ c κs. search needs)
+    (λ c κs. search needs) array-share-prefix-output slice-aggregate-write-all (λ c κs. search needs)
     (λ c. search needs))

@@ -17,51 +17,81 @@ use Rattle.series.specs.Entry.{entry-whole, exp-head, exp-coeffs}
 use borrow.Author.Needs.{needs}
 use Rattle.series.proofs.exp.Statement.{statement}
 use Rattle.series.proofs.exp.Tie as tie
-use Rattle.series.proofs.exp.Reads as reads
-use Rattle.series.proofs.exp.Lts as lts
-use Rattle.blocks.proofs.clear.Reads as clear-reads
-use Rattle.gates.proofs.stored_of.Reads as stored-of-reads
-use Rattle.gates.proofs.work_gate.Reads as work-gate-reads
-use Rattle.model.proofs.Header.none.Reads as none-reads
-use Rattle.series_exp.proofs.exp_into.Reads as exp-into-reads
-use Rattle.shape.proofs.announce.announced_of.Reads as announced-of-reads
-use Rattle.shape_words.proofs.word.header_of.Reads as header-of-reads
-use Rattle.shape_words.proofs.word.pack.Reads as pack-reads
 
-ready : (c : tie.Else1) → WorkReady Series ((c .before .before .before .before .before .before) .args .word) (length ((c .before .before .before .before .before .before) .args .a .now)) (length ((c .before .before .before .before .before .before) .args .out .now)) (length ((c .before .before .before .before .before .before) .args .scratch .now))
-ready c = work-ready _ _ _ _ _ (passes (c .before .before .work-gate .ensures) (announcedOne Series ((c .before .before .before .before .before .before) .args .word)) (expPoly ((c .before .before .before .before .before .before) .args .head) (held ((c .before .before .before .before .before .before) .args .word) ((c .before .before .before .before .before .before) .args .a .now))) (c .if1 .left))
+ready : (c : tie.Else1) →
+    let start = c .before .before .before .before .before .before in
+    WorkReady Series (start .args .word) (length (start .args .a .now)) (length (start .args .out .now)) (length (start .args .scratch .now))
+ready c =
+    let start = c .before .before .before .before .before .before in
+    work-ready _ _ _ _ _ (passes (c .before .before .work-gate .ensures) (announcedOne Series (start .args .word))
+    (expPoly (start .args .head) (held (start .args .word) (start .args .a .now))) (c .if1 .left))
 
-is-announced : (c : tie.After-announced-of) → c .announced-of .result ≡ (announcedOne Series ((c .before .before .before .before .before .before .before .before .before) .args .word))
+is-announced : (c : tie.After-announced-of) →
+    let start = c .before .before .before .before .before .before .before .before .before in
+    c .announced-of .result ≡ (announcedOne Series (start .args .word))
 is-announced c = simp (c .before .before .header-of .ensures, c .before .none .ensures) at (c .announced-of .ensures)
 
 ruled : (c : tie.After-announced-of) → Ruled (c .announced-of .result)
 ruled c = rw (is-announced c) (ready (c .before .before .before) .one .announced .regular .rules)
 
-counted : (c : tie.After-stored-of2) → c .stored-of2 .result ≡ stored (announcedOne Series ((c .before .before .before .before .before .before .before .before .before .before .before .before .before) .args .word))
+counted : (c : tie.After-stored-of2) →
+    let c12 = c .before .before .before .before .before .before .before .before .before .before .before .before in
+    let start = c12 .before in
+    c .stored-of2 .result ≡ stored (announcedOne Series (start .args .word))
 counted c = c .stored-of2 .ensures ∙ ap stored (is-announced (c .before .before .before .before))
 
-fits : (c : tie.After-stored-of2) → (c .before .stored-of .result ≤ length ((c .before .before .before .before .before .before .before .before .before .before .before .before .before) .args .a .now)) × (c .stored-of2 .result ≤ length ((c .before .before .before .before .before .before .before .before .before .before .before .before .before) .args .out .now)) × (8 * c .stored-of2 .result ≤ length ((c .before .before .before .before .before .before .before .before .before .before .before .before .before) .args .scratch .now))
+fits : (c : tie.After-stored-of2) →
+    let c12 = c .before .before .before .before .before .before .before .before .before .before .before .before in
+    let start = c12 .before in
+    (c .before .stored-of .result ≤ length (start .args .a .now))
+    × (c .stored-of2 .result ≤ length (start .args .out .now))
+    × (8 * c .stored-of2 .result ≤ length (start .args .scratch .now))
 fits c =
+    let c12 = c .before .before .before .before .before .before .before .before .before .before .before .before in
+    let start = c12 .before in
     let g = ready (c .before .before .before .before .before .before .before) in
-    let ea : c .before .stored-of .result ≡ stored (headerOf ((c .before .before .before .before .before .before .before .before .before .before .before .before .before) .args .word)) = c .before .stored-of .ensures ∙ ap stored (c .before .before .before .before .before .before .header-of .ensures) in
+    let ea : c .before .stored-of .result ≡ stored (headerOf (start .args .word)) =
+    c .before .stored-of .ensures ∙ ap stored
+    (c .before .before .before .before .before .before .header-of .ensures) in
     let en = counted c in
     (omega (arith, g .one .full), omega (arith, g .one .room), omega (arith, g .spare))
 
 used : (c : tie.After-exp-into) → length (c .exp-into .last .1 .1 .1 .1 .1 .1 .0) ≡ 8 * c .before .before .before .before .stored-of2 .result
 used c = c .exp-into .kept .1 .1 .1 .1 .1 .1 .0 ∙ length-take-le _ _ (fits (c .before .before .before .before) .2)
 
-rooms : (c : tie.After-exp-into) → 8 * c .before .before .before .before .stored-of2 .result ≤ length (c .exp-into .last .1 .1 .1 .1 .1 .1 .0 ++ drop (8 * c .before .before .before .before .stored-of2 .result) ((c .before .before .before .before .before .before .before .before .before .before .before .before .before .before .before .before .before) .args .scratch .now))
+rooms : (c : tie.After-exp-into) →
+    let c4 = c .before .before .before .before in
+    let c16 = c4 .before .before .before .before .before .before .before .before .before .before .before .before in
+    let start = c16 .before in
+    8 * c4 .stored-of2 .result ≤ length (c .exp-into .last .1 .1 .1 .1 .1 .1 .0 ++ drop (8 * c4 .stored-of2 .result) (start .args .scratch .now))
 rooms c = simp length-append (omega (arith, used c))
 
 returns : tie.Need-returns
 unfolding expAnswer expOut seriesScratch
-returns c = (refused-answer (c .before .before .work-gate .ensures) (announcedOne Series ((c .before .before .before .before .before .before) .args .word)) (expPoly ((c .before .before .before .before .before .before) .args .head) (held ((c .before .before .before .before .before .before) .args .word) ((c .before .before .before .before .before .before) .args .a .now))) (c .if1 .taken), (refused-out (c .before .before .work-gate .ensures) (announcedOne Series ((c .before .before .before .before .before .before) .args .word)) (expPoly ((c .before .before .before .before .before .before) .args .head) (held ((c .before .before .before .before .before .before) .args .word) ((c .before .before .before .before .before .before) .args .a .now))) (c .if1 .taken) ((c .before .before .before .before .before .before) .args .out .now), refused-scratch (c .before .before .work-gate .ensures) (announcedOne Series ((c .before .before .before .before .before .before) .args .word)) (expPoly ((c .before .before .before .before .before .before) .args .head) (held ((c .before .before .before .before .before .before) .args .word) ((c .before .before .before .before .before .before) .args .a .now))) (c .if1 .taken) ((c .before .before .before .before .before .before) .args .scratch .now)))
+returns c =
+    let start = c .before .before .before .before .before .before in (
+      refused-answer (c .before .before .work-gate .ensures) (announcedOne Series (start .args .word))
+          (expPoly (start .args .head) (held (start .args .word) (start .args .a .now))) (c .if1 .taken),
+      (
+        refused-out (c .before .before .work-gate .ensures) (announcedOne Series (start .args .word))
+            (expPoly (start .args .head) (held (start .args .word) (start .args .a .now))) (c .if1 .taken)
+            (start .args .out .now),
+        refused-scratch (c .before .before .work-gate .ensures) (announcedOne Series (start .args .word))
+            (expPoly (start .args .head) (held (start .args .word) (start .args .a .now))) (c .if1 .taken)
+            (start .args .scratch .now),
+      ),
+    )
 
 announced-of-requires : tie.Need-announced-of-requires
-announced-of-requires c κs = (rw (c .before .header-of .ensures) (ready (c .before .before) .one .good .regular .rules), rw (c .none .ensures) (none-regular .rules))
+announced-of-requires c κs = (
+  rw (c .before .header-of .ensures) (ready (c .before .before) .one .good .regular .rules),
+  rw (c .none .ensures) (none-regular .rules),
+)
 
 stored-of-requires : tie.Need-stored-of-requires
-stored-of-requires c κs = rw (c .before .before .before .before .header-of .ensures) (ready (c .before .before .before .before .before) .one .good .regular .rules)
+stored-of-requires c κs =
+    rw (c .before .before .before .before .header-of .ensures)
+    (ready (c .before .before .before .before .before) .one .good .regular .rules)
 
 stored-of-requires-2 : tie.Need-stored-of-requires-2
 stored-of-requires-2 c κs = ruled (c .before .before .before)
@@ -85,7 +115,14 @@ slice-aggregate-exp-into-3 : tie.Need-slice-aggregate-exp-into-3
 slice-aggregate-exp-into-3 c = sym (length-take-le _ _ (fits (c .before .before .before) .2))
 
 exp-into-requires : tie.Need-exp-into-requires
-exp-into-requires c κs = let f = fits (c .before .before .before) in entry-whole (ready (c .before .before .before .before .before .before .before .before .before .before)) (c .before .before .before .before .before .before .before .before .before .header-of .ensures) (is-announced (c .before .before .before .before .before .before .before)) (c .before .before .before .before .stored-of .ensures) (c .before .before .before .stored-of2 .ensures) (length-take-le _ _ (f .0)) (length-take-le _ _ (f .1)) (length-take-le _ _ (f .2))
+exp-into-requires c κs =
+    let c3 = c .before .before .before in let c9 = c3 .before .before .before .before .before .before in
+    let c10 = c9 .before in
+    let f = fits c3 in
+    entry-whole (ready c10) (c9 .header-of .ensures)
+    (is-announced (c .before .before .before .before .before .before .before))
+    (c .before .before .before .before .stored-of .ensures) (c3 .stored-of2 .ensures) (length-take-le _ _ (f .0))
+    (length-take-le _ _ (f .1)) (length-take-le _ _ (f .2))
 
 slice-relend-prefix-clear : tie.Need-slice-relend-prefix-clear
 slice-relend-prefix-clear c = rooms (c .before .before .before .before)
@@ -94,34 +131,42 @@ slice-aggregate-clear : tie.Need-slice-aggregate-clear
 slice-aggregate-clear c = sym (length-take-le _ _ (rooms (c .before .before .before .before .before)))
 
 pack-requires : tie.Need-pack-requires
-pack-requires c κs = ruled (c .before .before .before .before .before .before .before .before .before .before .before .before .before .before .before .before)
+pack-requires c κs =
+    let c12 = c .before .before .before .before .before .before .before .before .before .before .before .before in
+    let c16 = c12 .before .before .before .before in
+    ruled c16
 
 returns-2 : tie.Need-returns-2
 unfolding expAnswer expOut seriesScratch
-returns-2 c = (done-answer (c .before .before .before .before .before .before .before .before .before .before .before .before .before .before .before .before .before .before .before .before .before .before .work-gate .ensures) (announcedOne Series ((c .before .before .before .before .before .before .before .before .before .before .before .before .before .before .before .before .before .before .before .before .before .before .before .before .before .before) .args .word)) (expPoly ((c .before .before .before .before .before .before .before .before .before .before .before .before .before .before .before .before .before .before .before .before .before .before .before .before .before .before) .args .head) (held ((c .before .before .before .before .before .before .before .before .before .before .before .before .before .before .before .before .before .before .before .before .before .before .before .before .before .before) .args .word) ((c .before .before .before .before .before .before .before .before .before .before .before .before .before .before .before .before .before .before .before .before .before .before .before .before .before .before) .args .a .now))) (c .before .before .before .before .before .before .before .before .before .before .before .before .before .before .before .before .before .before .before .before .if1 .left) (c .pack .ensures ∙ ap wordOf (exp-head ((c .before .before .before .before .before .before .before .before .before .before .before .before .before .before .before .before .before .before .before .before .before .before .before .before .before .before) .args .head) ((c .before .before .before .before .before .before .before .before .before .before .before .before .before .before .before .before .before .before .before .before .before .before .before .before .before .before) .args .word) ((c .before .before .before .before .before .before .before .before .before .before .before .before .before .before .before .before .before .before .before .before .before .before .before .before .before .before) .args .a .now) (c .before .before .before .before .before .before .before .before .before .before .before .before .before .before .before .before .before .before .before .header-of .ensures) (is-announced (c .before .before .before .before .before .before .before .before .before .before .before .before .before .before .before .before .before)))), (done-full (c .before .before .before .before .before .before .before .before .before .before .before .before .before .before .before .before .before .before .before .before .before .before .work-gate .ensures) (announcedOne Series ((c .before .before .before .before .before .before .before .before .before .before .before .before .before .before .before .before .before .before .before .before .before .before .before .before .before .before) .args .word)) (expPoly ((c .before .before .before .before .before .before .before .before .before .before .before .before .before .before .before .before .before .before .before .before .before .before .before .before .before .before) .args .head) (held ((c .before .before .before .before .before .before .before .before .before .before .before .before .before .before .before .before .before .before .before .before .before .before .before .before .before .before) .args .word) ((c .before .before .before .before .before .before .before .before .before .before .before .before .before .before .before .before .before .before .before .before .before .before .before .before .before .before) .args .a .now))) (c .before .before .before .before .before .before .before .before .before .before .before .before .before .before .before .before .before .before .before .before .if1 .left) ((c .before .before .before .before .before .before .before .before .before .before .before .before .before .before .before .before .before .before .before .before .before .before .before .before .before .before) .args .out .now) (counted (c .before .before .before .before .before .before .before .before .before .before .before .before .before)) (exp-coeffs ((c .before .before .before .before .before .before .before .before .before .before .before .before .before .before .before .before .before .before .before .before .before .before .before .before .before .before) .args .head) ((c .before .before .before .before .before .before .before .before .before .before .before .before .before .before .before .before .before .before .before .before .before .before .before .before .before .before) .args .word) ((c .before .before .before .before .before .before .before .before .before .before .before .before .before .before .before .before .before .before .before .before .before .before .before .before .before .before) .args .a .now) (c .before .before .before .before .before .before .before .before .before .before .before .before .before .before .before .before .before .before .before .header-of .ensures) (is-announced (c .before .before .before .before .before .before .before .before .before .before .before .before .before .before .before .before .before)) (c .before .before .before .before .before .before .before .before .before .before .before .before .before .before .stored-of .ensures) (c .before .before .before .before .before .before .before .before .before .exp-into .ensures)) (c .before .before .before .before .before .before .before .before .before .exp-into .kept .1 .1 .1 .1 .1 .0 ∙ length-take-le _ _ (fits (c .before .before .before .before .before .before .before .before .before .before .before .before .before) .1)), done-scratch (c .before .before .before .before .before .before .before .before .before .before .before .before .before .before .before .before .before .before .before .before .before .before .work-gate .ensures) (announcedOne Series ((c .before .before .before .before .before .before .before .before .before .before .before .before .before .before .before .before .before .before .before .before .before .before .before .before .before .before) .args .word)) (expPoly ((c .before .before .before .before .before .before .before .before .before .before .before .before .before .before .before .before .before .before .before .before .before .before .before .before .before .before) .args .head) (held ((c .before .before .before .before .before .before .before .before .before .before .before .before .before .before .before .before .before .before .before .before .before .before .before .before .before .before) .args .word) ((c .before .before .before .before .before .before .before .before .before .before .before .before .before .before .before .before .before .before .before .before .before .before .before .before .before .before) .args .a .now))) (c .before .before .before .before .before .before .before .before .before .before .before .before .before .before .before .before .before .before .before .before .if1 .left) ((c .before .before .before .before .before .before .before .before .before .before .before .before .before .before .before .before .before .before .before .before .before .before .before .before .before .before) .args .scratch .now) (c .before .before .before .before .before .before .before .before .before .exp-into .last .1 .1 .1 .1 .1 .1 .0) (ap (λ (k : ℕ). 8 * k) (counted (c .before .before .before .before .before .before .before .before .before .before .before .before .before))) (used (c .before .before .before .before .before .before .before .before .before)) (c .before .before .before .clear .ensures) (length-take-le _ _ (rooms (c .before .before .before .before .before .before .before .before .before)))))
+returns-2 c =
+    let c9 = c .before .before .before .before .before .before .before .before .before in
+    let c13 = c9 .before .before .before .before in let c14 = c13 .before in let c17 = c14 .before .before .before in
+    let c19 = c17 .before .before in let c20 = c19 .before in let c22 = c20 .before .before in
+    let start = c22 .before .before .before .before in (
+      done-answer (c22 .work-gate .ensures) (announcedOne Series (start .args .word))
+          (expPoly (start .args .head) (held (start .args .word) (start .args .a .now))) (c20 .if1 .left)
+          (c .pack .ensures
+          ∙ ap wordOf (exp-head (start .args .head) (start .args .word) (start .args .a .now) (c19 .header-of .ensures)
+          (is-announced c17))),
+      (
+        done-full (c22 .work-gate .ensures) (announcedOne Series (start .args .word))
+            (expPoly (start .args .head) (held (start .args .word) (start .args .a .now))) (c20 .if1 .left)
+            (start .args .out .now) (counted c13) (exp-coeffs (start .args .head) (start .args .word)
+            (start .args .a .now) (c19 .header-of .ensures) (is-announced c17) (c14 .stored-of .ensures)
+            (c9 .exp-into .ensures)) (c9 .exp-into .kept .1 .1 .1 .1 .1 .0 ∙ length-take-le _ _ (fits c13 .1)),
+        done-scratch (c22 .work-gate .ensures) (announcedOne Series (start .args .word))
+            (expPoly (start .args .head) (held (start .args .word) (start .args .a .now))) (c20 .if1 .left)
+            (start .args .scratch .now) (c9 .exp-into .last .1 .1 .1 .1 .1 .1 .0) (ap (λ (k : ℕ). 8 * k) (counted c13))
+            (used c9) (c .before .before .before .clear .ensures) (length-take-le _ _ (rooms c9)),
+      ),
+    )
 
 pub exp-spec : {M : Type 1} → statement M
 exp-spec =
     tie.close
     (tie.spec
-    (λ c κs. search needs)
-    returns
-    (λ c κs. search needs)
-    (λ c κs. search needs)
-    announced-of-requires
-    stored-of-requires
-    stored-of-requires-2
-    mul-room
-    slice-aggregate-exp-into
-    slice-relend-prefix-exp-into
-    slice-aggregate-exp-into-2
-    slice-relend-prefix-exp-into-2
-    slice-aggregate-exp-into-3
-    exp-into-requires
-    slice-relend-prefix-clear
-    slice-aggregate-clear
-    (λ c κs. search needs)
-    pack-requires
-    (λ c. search needs)
-    (λ c. search needs)
-    returns-2)
+    (λ c κs. search needs) returns (λ c κs. search needs) (λ c κs. search needs) announced-of-requires
+    stored-of-requires stored-of-requires-2 mul-room slice-aggregate-exp-into slice-relend-prefix-exp-into
+    slice-aggregate-exp-into-2 slice-relend-prefix-exp-into-2 slice-aggregate-exp-into-3 exp-into-requires
+    slice-relend-prefix-clear slice-aggregate-clear (λ c κs. search needs) pack-requires (λ c. search needs)
+    (λ c. search needs) returns-2)

@@ -4,23 +4,19 @@ use lib.ListN.{take}
 use borrow.Author.Needs.{needs}
 use Rattle.series_exp.proofs.exp_into.Statement.{statement}
 use Rattle.series_exp.proofs.exp_into.Tie as tie
-use Rattle.series_exp.proofs.exp_into.Reads as reads
-use Rattle.series_exp.proofs.exp_into.Lts as lts
-use Rattle.blocks.proofs.copy.Reads as copy-reads
-use Rattle.series_exp.proofs.exp_block.Reads as exp-block-reads
-use Rattle.shape_words.proofs.places.strides_of.Reads as strides-of-reads
 
 returns : tie.Need-returns
-returns c = c .before .before .copy .ensures ∙ (ap (λ (i : ℕ). take i (c .before .before .before .before .before .before .before .before .before .exp-block .last .1 .1 .1 .1 .1 .1 .1 .1 .0)) (c .before .before .before .before .before .before .before .before .before .exp-block .kept .1 .1 .1 .1 .1 .1 .1 .1 .1 .0 ∙ ((c .before .before .before .before .before .before .before .before .before .before .before .before .before .before .before .before .before) .pre .out ∙ (c .before .before .before .before .before .before .before .before .before .before .before .before .before .before .before .before .before) .pre .all)) ∙ c .before .before .before .before .before .before .before .before .before .exp-block .ensures)
+returns c =
+    let c9 = c .before .before .before .before .before .before .before .before .before in
+    let start = c9 .before .before .before .before .before .before .before .before in
+    c .before .before .copy .ensures
+    ∙ (ap (λ (i : ℕ). take i (c9 .exp-block .last .1 .1 .1 .1 .1 .1 .1 .1 .0))
+    (c9 .exp-block .kept .1 .1 .1 .1 .1 .1 .1 .1 .1 .0 ∙ (start .pre .out ∙ start .pre .all))
+    ∙ c9 .exp-block .ensures)
 
 pub exp-into-spec : {M : Type 1} → statement M
 exp-into-spec =
     tie.close
     (tie.spec
-    (λ c κs. search needs)
-    (λ c κs. search needs)
-    (λ c κs. search needs)
-    (λ c κs. search needs)
-    (λ c. search needs)
-    (λ c. search needs)
-    returns)
+    (λ c κs. search needs) (λ c κs. search needs) (λ c κs. search needs) (λ c κs. search needs) (λ c. search needs)
+    (λ c. search needs) returns)

@@ -7,43 +7,43 @@ use Rattle.series_gathering.specs.Gather.{gathered, row-one, sums, sum-i
 use borrow.Author.Needs.{needs}
 use Rattle.series_gathering.proofs.gather.Statement.{statement}
 use Rattle.series_gathering.proofs.gather.Tie as tie
-use Rattle.series_gathering.proofs.gather.Reads as reads
-use Rattle.series_gathering.proofs.gather.Lts as lts
-use Rattle.product_lines.proofs.sum_on.Reads as sum-on-reads
-use Rattle.product_lines.proofs.upto.Reads as upto-reads
-use Rattle.series_gathering.proofs.gather_rows.Reads as gather-rows-reads
 
 upto-requires : tie.Need-upto-requires
-upto-requires c κs = row-small ((c .before .before .before) .pre .0 .strided .result) ((c .before .before .before) .pre .1 .some) ((c .before .before .before) .pre .1 .turn)
+upto-requires c κs =
+    let start = c .before .before .before in
+    row-small (start .pre .0 .strided .result) (start .pre .1 .some) (start .pre .1 .turn)
 
 sum-on-requires : tie.Need-sum-on-requires
-sum-on-requires c κs = sums ((c .before .before .before .before .before) .pre .0) ((c .before .before .before .before .before) .pre .1) (c .if1 .taken) (c .before .upto .ensures)
+sum-on-requires c κs =
+    let start = c .before .before .before .before .before in
+    sums (start .pre .0) (start .pre .1) (c .if1 .taken) (c .before .upto .ensures)
 
 slice-write-row : tie.Need-slice-write-row
-slice-write-row c = omega (arith, (c .before .before .before .before .before .before) .pre .1 .full, row-one ((c .before .before .before .before .before .before) .pre .0) ((c .before .before .before .before .before .before) .pre .1) (c .before .if1 .taken))
+slice-write-row c =
+    let start = c .before .before .before .before .before .before in
+    omega (arith, start .pre .1 .full, row-one (start .pre .0) (start .pre .1) (c .before .if1 .taken))
 
 returns : tie.Need-returns
-returns c = sum-is ((c .before .before .before .before .before .before) .pre .0) ((c .before .before .before .before .before .before) .pre .1) (c .before .if1 .taken) ((c .before .before .before .before .before .before) .args .xs .now) ((c .before .before .before .before .before .before) .args .done .now) ((c .before .before .before .before .before .before) .args .row .now) (c .before .before .upto .ensures) refl (c .sum-on .ensures)
+returns c =
+    let start = c .before .before .before .before .before .before in
+    sum-is (start .pre .0) (start .pre .1) (c .before .if1 .taken) (start .args .xs .now) (start .args .done .now)
+    (start .args .row .now) (c .before .before .upto .ensures) refl (c .sum-on .ensures)
 
 gather-rows-requires : tie.Need-gather-rows-requires
-gather-rows-requires c κs = ((c .before .before .before .before .before .before) .pre .0 .strided, ((c .before .before .before .before .before .before) .pre .1, exp-reach (c .before .before .upto .ensures)))
+gather-rows-requires c κs =
+    let start = c .before .before .before .before .before .before in
+    (start .pre .0 .strided, (start .pre .1, exp-reach (c .before .before .upto .ensures)))
 
 returns-2 : tie.Need-returns-2
-returns-2 c = c .before .before .gather-rows .ensures ∙ ap (λ (b : ℕ). gathered false ((c .before .before .before .before .before .before .before .before .before) .args .t2) ((c .before .before .before .before .before .before .before .before .before) .args .r) ((c .before .before .before .before .before .before .before .before .before) .args .v) ((c .before .before .before .before .before .before .before .before .before) .args .k) 1 b ((c .before .before .before .before .before .before .before .before .before) .args .xs .now) ((c .before .before .before .before .before .before .before .before .before) .args .done .now)) (c .before .before .before .before .before .upto .ensures)
+returns-2 c =
+    let start = c .before .before .before .before .before .before .before .before .before in
+    c .before .before .gather-rows .ensures ∙ ap
+    (λ (b : ℕ). gathered false (start .args .t2) (start .args .r) (start .args .v) (start .args .k) 1 b
+    (start .args .xs .now) (start .args .done .now)) (c .before .before .before .before .before .upto .ensures)
 
 pub gather-spec : {M : Type 1} → statement M
 gather-spec =
     tie.close
     (tie.spec
-    (λ c. search needs)
-    (λ c. search needs)
-    upto-requires
-    (λ c. search needs)
-    (λ c. search needs)
-    sum-on-requires
-    slice-write-row
-    (λ c. search needs)
-    returns
-    gather-rows-requires
-    (λ c. search needs)
-    returns-2)
+    (λ c. search needs) (λ c. search needs) upto-requires (λ c. search needs) (λ c. search needs) sum-on-requires
+    slice-write-row (λ c. search needs) returns gather-rows-requires (λ c. search needs) returns-2)

@@ -4,8 +4,6 @@ use mathlib.Core.Bool.{Bool}
 use borrow.Author.Needs.{needs}
 use Rattle.series_gathering.proofs.left_row.Statement.{statement}
 use Rattle.series_gathering.proofs.left_row.Tie as tie
-use Rattle.series_gathering.proofs.left_row.Reads as reads
-use Rattle.series_gathering.proofs.left_row.Lts as lts
 
 sub-result : tie.Need-sub-result
 sub-result c = search needs

@@ -1,5 +1,5 @@
 use native.Mathlib.Omega.{arith}
-use Prim.Native.Nat.{ℕ, _+_, _-_, _≤_, _<_}
+use Prim.Native.Nat.{ℕ, _+_, _-_, _≤_, _<_, ℕ, _<_}
 use mathlib.Core.Path.{_≡_, sym, _∙_}
 use lib.ListN.{length, length-set}
 use lib.Seq.{length-take-le}
@@ -8,7 +8,6 @@ use borrow.Table.Elements.{same-len}
 use Rattle.lists.specs.Four.{at}
 use Rattle.product_general.specs.Product.{span-none, alone-by, first-in}
 use Rattle.series_log.specs.LogBlock.{rows-same, rows-next, line-room, log-none, log-alone, log-others, not-one}
-use Prim.Native.Nat.{ℕ, _<_}
 use borrow.Fn.Kinds.{In}
 use borrow.Fn.PlainCycle.{Measures, is, falls, and}
 use Rattle.series_log.proofs.log_block.Reads as log-block
@@ -26,8 +25,7 @@ abbrev log-block-at : ℕ → In 3 log-block-kinds.ps
 log-block-at t = and 3 log-block-kinds.ps (is 3 log-block-kinds.ps μ-log-block t) log-block.Pre
 
 abbrev log-block-below : ℕ → In 3 log-block-kinds.ps
-log-block-below t =
-    and 3 log-block-kinds.ps (falls 3 log-block-kinds.ps _<_ μ-log-block t) log-block.Pre
+log-block-below t = and 3 log-block-kinds.ps (falls 3 log-block-kinds.ps _<_ μ-log-block t) log-block.Pre
 
 abbrev log-block-claims : ℕ → log-block-lts.Claims
 log-block-claims t = (log-line-reads.Asked, log-line-reads.Learnt, log-block-below t, log-block.Post, log-rows-reads.Asked, log-rows-reads.Learnt)
@@ -38,8 +36,12 @@ some t c h = omega (arith, c .pre .1 .1 .within)
 room : (t : ℕ) (c : log-block-lts.Start (log-block-claims t) (log-block-at t) log-block.Post) → c .args .v ≡ 4 → 0 < length (c .args .work .now)
 room t c e = omega (arith, c .pre .1 .1 .rows, c .pre .1 .1 .work, span-none (c .args .t5) e)
 
-line : (t : ℕ) (c : log-block-lts.Else1 (log-block-claims t) (log-block-at t) log-block.Post) → at ((c .before .before .before .before) .args .t5) ((c .before .before .before .before) .args .v) ≤ length ((c .before .before .before .before) .args .work .now)
-line t c = omega (arith, first-in (((c .before .before .before .before) .pre .1 .0) .shaped .strided .result) (some t (c .before .before .before .before) (c .if1 .left)) (((c .before .before .before .before) .pre .1 .1) .rows), ((c .before .before .before .before) .pre .1 .1) .work)
+line : (t : ℕ) (c : log-block-lts.Else1 (log-block-claims t) (log-block-at t) log-block.Post) →
+    let start = c .before .before .before .before in
+    at (start .args .t5) (start .args .v) ≤ length (start .args .work .now)
+line t c =
+    let start = c .before .before .before .before in
+    omega (arith, first-in (start .pre .1 .0 .shaped .strided .result) (some t start (c .if1 .left)) (start .pre .1 .1 .rows), (start .pre .1 .1) .work)
 
 log-block-slice-write-work : (t : ℕ) → log-block-lts.Need-slice-write-work (log-block-claims t) (log-block-at t) log-block.Post
 log-block-slice-write-work t c = room t (c .before .before .before .before) (c .if1 .taken)
@@ -48,7 +50,10 @@ log-block-same-length : (t : ℕ) → log-block-lts.Need-same-length (log-block-
 log-block-same-length t c = simp length-set
 
 log-block-returns : (t : ℕ) → log-block-lts.Need-returns (log-block-claims t) (log-block-at t) log-block.Post
-log-block-returns t c = log-none ((c .before .before .before .before) .args .head) ((c .before .before .before .before) .args .t3) ((c .before .before .before .before) .args .t5) ((c .before .before .before .before) .args .xs .now) ((c .before .before .before .before) .args .work .now) (c .if1 .taken) (room t (c .before .before .before .before) (c .if1 .taken))
+log-block-returns t c =
+    let start = c .before .before .before .before in
+    log-none (start .args .head) (start .args .t3) (start .args .t5) (start .args .xs .now) (start .args .work .now)
+    (c .if1 .taken) (room t start (c .if1 .taken))
 
 log-block-mul-if2 : (t : ℕ) → log-block-lts.Need-mul-if2 (log-block-claims t) (log-block-at t) log-block.Post
 log-block-mul-if2 t c = omega (arith, some t (c .before .before .before .before) (c .if1 .left))
@@ -78,25 +83,55 @@ log-block-slice-relend-prefix-log-line : (t : ℕ) → log-block-lts.Need-slice-
 log-block-slice-relend-prefix-log-line t c = line t (c .before)
 
 log-block-slice-aggregate-log-line : (t : ℕ) → log-block-lts.Need-slice-aggregate-log-line (log-block-claims t) (log-block-at t) log-block.Post
-log-block-slice-aggregate-log-line t c = sym (length-take-le (at ((c .before .before .before .before .before .before) .args .t5) ((c .before .before .before .before .before .before) .args .v)) ((c .before .before .before .before .before .before) .args .work .now) (line t (c .before .before)))
+log-block-slice-aggregate-log-line t c =
+    let start = c .before .before .before .before .before .before in
+    sym (length-take-le (at (start .args .t5) (start .args .v)) (start .args .work .now) (line t (c .before .before)))
 
 log-block-log-line-requires : (t : ℕ) → log-block-lts.Need-log-line-requires (log-block-claims t) (log-block-at t) log-block.Post
-log-block-log-line-requires t c κs = line-room (((c .before .before .before .before .before .before) .pre .1 .0) .shaped) ((c .before .before .before .before .before .before) .pre .1 .1) (some t (c .before .before .before .before .before .before) (c .before .before .if1 .left)) (sym (alone-by ((c .before .before .before .before .before .before) .args .t5) (((c .before .before .before .before .before .before) .pre .1 .0) .shaped .strided .by-r) (some t (c .before .before .before .before .before .before) (c .before .before .if1 .left))) ∙ c .before .if2 .taken) (length-take-le (at ((c .before .before .before .before .before .before) .args .t5) ((c .before .before .before .before .before .before) .args .v)) ((c .before .before .before .before .before .before) .args .work .now) (line t (c .before .before)))
+log-block-log-line-requires t c κs =
+    let start = c .before .before .before .before .before .before in
+    line-room (start .pre .1 .0 .shaped) (start .pre .1 .1) (some t start (c .before .before .if1 .left))
+    (sym (alone-by (start .args .t5) (start .pre .1 .0 .shaped .strided .by-r)
+    (some t start (c .before .before .if1 .left))) ∙ c .before .if2 .taken)
+    (length-take-le (at (start .args .t5) (start .args .v)) (start .args .work .now) (line t (c .before .before)))
 
 log-block-same-length-2 : (t : ℕ) → log-block-lts.Need-same-length-2 (log-block-claims t) (log-block-at t) log-block.Post
-log-block-same-length-2 t c = same-len (at ((c .before .before .before .before .before .before .before .before .before) .args .t5) ((c .before .before .before .before .before .before .before .before .before) .args .v)) ((c .before .before .before .before .before .before .before .before .before) .args .work .now) (c .before .before .log-line .last .1 .1 .1 .0) (c .before .before .log-line .kept .1 .1 .1 .0)
+log-block-same-length-2 t c =
+    let start = c .before .before .before .before .before .before .before .before .before in
+    same-len (at (start .args .t5) (start .args .v)) (start .args .work .now)
+    (c .before .before .log-line .last .1 .1 .1 .0) (c .before .before .log-line .kept .1 .1 .1 .0)
 
 log-block-returns-2 : (t : ℕ) → log-block-lts.Need-returns-2 (log-block-claims t) (log-block-at t) log-block.Post
-log-block-returns-2 t c = log-alone ((c .before .before .before .before .before .before .before .before .before) .args .head) ((c .before .before .before .before .before .before .before .before .before) .args .t3) ((c .before .before .before .before .before .before .before .before .before) .args .t5) ((c .before .before .before .before .before .before .before .before .before) .args .xs .now) ((c .before .before .before .before .before .before .before .before .before) .args .work .now) (some t (c .before .before .before .before .before .before .before .before .before) (c .before .before .before .before .before .if1 .left)) (sym (alone-by ((c .before .before .before .before .before .before .before .before .before) .args .t5) (((c .before .before .before .before .before .before .before .before .before) .pre .1 .0) .shaped .strided .by-r) (some t (c .before .before .before .before .before .before .before .before .before) (c .before .before .before .before .before .if1 .left))) ∙ c .before .before .before .before .if2 .taken) (c .before .before .log-line .ensures) (length-take-le (at ((c .before .before .before .before .before .before .before .before .before) .args .t5) ((c .before .before .before .before .before .before .before .before .before) .args .v)) ((c .before .before .before .before .before .before .before .before .before) .args .work .now) (line t (c .before .before .before .before .before))) (c .before .before .log-line .kept .1 .1 .1 .0 ∙ (length-take-le (at ((c .before .before .before .before .before .before .before .before .before) .args .t5) ((c .before .before .before .before .before .before .before .before .before) .args .v)) ((c .before .before .before .before .before .before .before .before .before) .args .work .now) (line t (c .before .before .before .before .before))))
+log-block-returns-2 t c =
+    let c5 = c .before .before .before .before .before in let start = c5 .before .before .before .before in
+    log-alone (start .args .head) (start .args .t3) (start .args .t5) (start .args .xs .now) (start .args .work .now)
+    (some t start (c5 .if1 .left))
+    (sym (alone-by (start .args .t5) (start .pre .1 .0 .shaped .strided .by-r) (some t start (c5 .if1 .left)))
+    ∙ c .before .before .before .before .if2 .taken) (c .before .before .log-line .ensures)
+    (length-take-le (at (start .args .t5) (start .args .v)) (start .args .work .now) (line t c5))
+    (c .before .before .log-line .kept .1 .1 .1 .0
+    ∙ (length-take-le (at (start .args .t5) (start .args .v)) (start .args .work .now) (line t c5)))
 
 log-block-add-log-block : (t : ℕ) → log-block-lts.Need-add-log-block (log-block-claims t) (log-block-at t) log-block.Post
 log-block-add-log-block t c = omega (arith, ((c .before .before .before .before .before) .pre .1 .1) .within)
 
 log-block-log-block-requires : (t : ℕ) → log-block-lts.Need-log-block-requires (log-block-claims t) (log-block-at t) log-block.Post
-log-block-log-block-requires t c κs = let h = (some t (c .before .before .before .before .before .before .before) (c .before .before .before .if1 .left)) in (omega (arith, (c .before .before .before .before .before .before .before) .pre .0), (((c .before .before .before .before .before .before .before) .pre .1 .0), rows-next (((c .before .before .before .before .before .before .before) .pre .1 .0) .shaped) ((c .before .before .before .before .before .before .before) .pre .1 .1) h))
+log-block-log-block-requires t c κs =
+    let start = c .before .before .before .before .before .before .before in
+    let h = (some t start (c .before .before .before .if1 .left)) in
+    (omega (arith, start .pre .0), (start .pre .1 .0, rows-next (start .pre .1 .0 .shaped) (start .pre .1 .1) h))
 
 log-block-log-rows-requires : (t : ℕ) → log-block-lts.Need-log-rows-requires (log-block-claims t) (log-block-at t) log-block.Post
-log-block-log-rows-requires t c κs = (((c .before .before .before .before .before .before .before .before .before .before .before .before .before .before) .pre .1 .0) .shaped, (rows-same ((c .before .before .before .before .before .before .before .before .before .before .before .before .before .before) .pre .1 .1) (c .before .before .before .before .before .before .log-block .kept .1 .1 .1 .1 .1 .1 .1 .1 .0) (c .before .before .before .before .before .before .log-block .kept .1 .1 .1 .1 .1 .1 .1 .1 .1 .0), (some t (c .before .before .before .before .before .before .before .before .before .before .before .before .before .before) (c .before .before .before .before .before .before .before .before .before .before .if1 .left))))
+log-block-log-rows-requires t c κs =
+    let c6 = c .before .before .before .before .before .before in let c10 = c6 .before .before .before .before in
+    let start = c10 .before .before .before .before in (
+      start .pre .1 .0 .shaped,
+      (
+        rows-same (start .pre .1 .1) (c6 .log-block .kept .1 .1 .1 .1 .1 .1 .1 .1 .0)
+            (c6 .log-block .kept .1 .1 .1 .1 .1 .1 .1 .1 .1 .0),
+        (some t start (c10 .if1 .left)),
+      ),
+    )
 
 log-block-same-length-3 : (t : ℕ) → log-block-lts.Need-same-length-3 (log-block-claims t) (log-block-at t) log-block.Post
 log-block-same-length-3 t c = search needs
@@ -105,31 +140,26 @@ log-block-same-length-4 : (t : ℕ) → log-block-lts.Need-same-length-4 (log-bl
 log-block-same-length-4 t c = search needs
 
 log-block-returns-3 : (t : ℕ) → log-block-lts.Need-returns-3 (log-block-claims t) (log-block-at t) log-block.Post
-log-block-returns-3 t c = log-others ((c .before .before .before .before .before .before .before .before .before .before .before .before .before .before .before .before .before .before .before) .args .head) ((c .before .before .before .before .before .before .before .before .before .before .before .before .before .before .before .before .before .before .before) .args .t3) ((c .before .before .before .before .before .before .before .before .before .before .before .before .before .before .before .before .before .before .before) .args .t5) ((c .before .before .before .before .before .before .before .before .before .before .before .before .before .before .before .before .before .before .before) .args .xs .now) (c .before .before .before .before .before .before .before .before .before .before .before .log-block .last .1 .1 .1 .1 .1 .1 .1 .1 .0) (c .before .before .before .before .log-rows .last .1 .1 .1 .1 .1 .1 .1 .0) (some t (c .before .before .before .before .before .before .before .before .before .before .before .before .before .before .before .before .before .before .before) (c .before .before .before .before .before .before .before .before .before .before .before .before .before .before .before .if1 .left)) (sym (alone-by ((c .before .before .before .before .before .before .before .before .before .before .before .before .before .before .before .before .before .before .before) .args .t5) (((c .before .before .before .before .before .before .before .before .before .before .before .before .before .before .before .before .before .before .before) .pre .1 .0) .shaped .strided .by-r) (some t (c .before .before .before .before .before .before .before .before .before .before .before .before .before .before .before .before .before .before .before) (c .before .before .before .before .before .before .before .before .before .before .before .before .before .before .before .if1 .left))) ∙ c .before .before .before .before .before .before .before .before .before .before .before .before .before .before .if2 .left) (((c .before .before .before .before .before .before .before .before .before .before .before .before .before .before .before .before .before .before .before) .pre .1 .1) .operand) (not-one ((c .before .before .before .before .before .before .before .before .before .before .before .before .before .before .before .before .before .before .before) .pre .1 .0) (some t (c .before .before .before .before .before .before .before .before .before .before .before .before .before .before .before .before .before .before .before) (c .before .before .before .before .before .before .before .before .before .before .before .before .before .before .before .if1 .left)) (sym (alone-by ((c .before .before .before .before .before .before .before .before .before .before .before .before .before .before .before .before .before .before .before) .args .t5) (((c .before .before .before .before .before .before .before .before .before .before .before .before .before .before .before .before .before .before .before) .pre .1 .0) .shaped .strided .by-r) (some t (c .before .before .before .before .before .before .before .before .before .before .before .before .before .before .before .before .before .before .before) (c .before .before .before .before .before .before .before .before .before .before .before .before .before .before .before .if1 .left))) ∙ c .before .before .before .before .before .before .before .before .before .before .before .before .before .before .if2 .left)) (c .before .before .before .before .before .before .before .before .before .before .before .log-block .ensures) (c .before .before .before .before .log-rows .ensures)
+log-block-returns-3 t c =
+    let c4 = c .before .before .before .before in
+    let c11 = c4 .before .before .before .before .before .before .before in let c14 = c11 .before .before .before in
+    let c15 = c14 .before in let start = c15 .before .before .before .before in
+    log-others (start .args .head) (start .args .t3) (start .args .t5) (start .args .xs .now)
+    (c11 .log-block .last .1 .1 .1 .1 .1 .1 .1 .1 .0) (c4 .log-rows .last .1 .1 .1 .1 .1 .1 .1 .0)
+    (some t start (c15 .if1 .left))
+    (sym (alone-by (start .args .t5) (start .pre .1 .0 .shaped .strided .by-r) (some t start (c15 .if1 .left)))
+    ∙ c14 .if2 .left) (start .pre .1 .1 .operand)
+    (not-one (start .pre .1 .0) (some t start (c15 .if1 .left))
+    (sym (alone-by (start .args .t5) (start .pre .1 .0 .shaped .strided .by-r) (some t start (c15 .if1 .left)))
+    ∙ c14 .if2 .left)) (c11 .log-block .ensures) (c4 .log-rows .ensures)
 
 pub +log-block-spec : {M : Type 1} → statement M
 +log-block-spec = close μ-log-block λ t. log-block-lts.spec (log-block-claims t)
     (log-block-at t)
     log-block.Post
-    (log-block-slice-write-work t)
-    (log-block-same-length t)
-    (log-block-returns t)
-    (log-block-mul-if2 t)
-    (log-block-array-read-if2 t)
-    (log-block-mul-if2-2 t)
-    (log-block-array-read-if2-2 t)
-    (log-block-mul-m t)
-    (log-block-array-read-m t)
-    (log-block-mul-log-line t)
-    (log-block-array-read-log-line t)
-    (log-block-slice-relend-prefix-log-line t)
-    (log-block-slice-aggregate-log-line t)
-    (log-block-log-line-requires t)
-    (log-block-same-length-2 t)
-    (log-block-returns-2 t)
-    (log-block-add-log-block t)
-    (log-block-log-block-requires t)
-    (log-block-log-rows-requires t)
-    (log-block-same-length-3 t)
-    (log-block-same-length-4 t)
-    (log-block-returns-3 t)
+    (log-block-slice-write-work t) (log-block-same-length t) (log-block-returns t) (log-block-mul-if2 t)
+    (log-block-array-read-if2 t) (log-block-mul-if2-2 t) (log-block-array-read-if2-2 t) (log-block-mul-m t)
+    (log-block-array-read-m t) (log-block-mul-log-line t) (log-block-array-read-log-line t)
+    (log-block-slice-relend-prefix-log-line t) (log-block-slice-aggregate-log-line t) (log-block-log-line-requires t)
+    (log-block-same-length-2 t) (log-block-returns-2 t) (log-block-add-log-block t) (log-block-log-block-requires t)
+    (log-block-log-rows-requires t) (log-block-same-length-3 t) (log-block-same-length-4 t) (log-block-returns-3 t)

@@ -11,10 +11,6 @@ use Rattle.model.specs.Add.{joinAt}
 use borrow.Author.Needs.{needs}
 use Rattle.series_log.proofs.add_operand.Statement.{statement}
 use Rattle.series_log.proofs.add_operand.Tie as tie
-use Rattle.series_log.proofs.add_operand.Reads as reads
-use Rattle.series_log.proofs.add_operand.Lts as lts
-use Rattle.blocks.proofs.join_block.Reads as join-block-reads
-use Rattle.series_scaling.proofs.multiply.Reads as multiply-reads
 
 multiply-requires : tie.Need-multiply-requires
 multiply-requires c κs = search needs
@@ -29,8 +25,12 @@ same-length-2 : tie.Need-same-length-2
 same-length-2 c = search needs
 
 returns : tie.Need-returns
-returns c = c .before .before .join-block .ensures ∙ ap (λ (l : List Float). table (count ((c .before .before .before .before .before .before .before .before .before .before .before .before) .args .ar)) (λ i. joinAt false (getD ((c .before .before .before .before .before .before .before .before .before .before .before .before) .args .row .now) i nan) (block ((c .before .before .before .before .before .before .before .before .before .before .before .before) .args .ax) l) (index ((c .before .before .before .before .before .before .before .before .before .before .before .before) .args .ar) i))) (c .before .before .before .before .before .before .before .multiply .ensures)
+returns c =
+    let start = c .before .before .before .before .before .before .before .before .before .before .before .before in
+    c .before .before .join-block .ensures ∙ ap
+    (λ (l : List Float). table (count (start .args .ar))
+    (λ i. joinAt false (getD (start .args .row .now) i nan) (block (start .args .ax) l)
+    (index (start .args .ar) i))) (c .before .before .before .before .before .before .before .multiply .ensures)
 
 pub add-operand-spec : {M : Type 1} → statement M
-add-operand-spec =
-    tie.close (tie.spec multiply-requires join-block-requires same-length same-length-2 returns)
+add-operand-spec = tie.close (tie.spec multiply-requires join-block-requires same-length same-length-2 returns)

@@ -1,8 +1,6 @@
 use borrow.Author.Tests.{lt-ltb, le-ltb}
 use Rattle.series_log.proofs.length_after.Statement.{statement}
 use Rattle.series_log.proofs.length_after.Tie as tie
-use Rattle.series_log.proofs.length_after.Reads as reads
-use Rattle.series_log.proofs.length_after.Lts as lts
 
 returns : tie.Need-returns
 returns c = simp (lt-ltb _ _ (c .if1 .taken))

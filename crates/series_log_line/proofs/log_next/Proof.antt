@@ -3,10 +3,6 @@ use Rattle.series_log_line.specs.Line.{nextPlace}
 use borrow.Author.Needs.{needs}
 use Rattle.series_log_line.proofs.log_next.Statement.{statement}
 use Rattle.series_log_line.proofs.log_next.Tie as tie
-use Rattle.series_log_line.proofs.log_next.Reads as reads
-use Rattle.series_log_line.proofs.log_next.Lts as lts
-use Rattle.series_log_line.proofs.log_sum.Reads as log-sum-reads
-use Rattle.series_log_line.proofs.stored_or_zero.Reads as stored-or-zero-reads
 
 int-to-float-d : tie.Need-int-to-float-d
 int-to-float-d c = small-float ((c .before .before .before) .pre .few)
@@ -19,8 +15,4 @@ pub log-next-spec : {M : Type 1} → statement M
 log-next-spec =
     tie.close
     (tie.spec
-    int-to-float-d
-    (λ c κs. search needs)
-    (λ c κs. search needs)
-    (λ c. search needs)
-    returns)
+    int-to-float-d (λ c κs. search needs) (λ c κs. search needs) (λ c. search needs) returns)

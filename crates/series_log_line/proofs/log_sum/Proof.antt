@@ -7,9 +7,6 @@ use Rattle.series_scaling.specs.Weighed.{small-float}
 use Rattle.series_log_line.specs.Line.{lineTerm, line-end}
 use Rattle.series_log_line.proofs.log_sum.Statement.{statement}
 use Rattle.series_log_line.proofs.log_sum.Tie as tie
-use Rattle.series_log_line.proofs.log_sum.Reads as reads
-use Rattle.series_log_line.proofs.log_sum.Lts as lts
-use Rattle.series_log_line.proofs.first_turn.Reads as first-turn-reads
 
 abbrev Inv-loop : tie.InvT-loop
 Inv-loop xs m done k lo sum₀ j₀ sum j = (j - lo ≤ k - lo) × Walked (lineTerm xs done k) lo j zeroF sum
@@ -24,34 +21,82 @@ loop-holds : tie.Need-loop-holds Inv-loop μ-loop
 loop-holds c = (omega arith, walked-none _ _ _)
 
 sub-sum : tie.Need-sub-sum Inv-loop μ-loop
-sub-sum c = omega (arith, c .before .before .first-turn .ensures, c .before .loop .inv .1 .from, c .loop-test .taken, (c .before .before .before .before .before) .pre .some, (c .before .before .before .before .before) .pre .room)
+sub-sum c =
+    let start = c .before .before .before .before .before in
+    omega (arith, c .before .before .first-turn .ensures, c .before .loop .inv .1 .from, c .loop-test .taken, start .pre .some, start .pre .room)
 
 mul-sum : tie.Need-mul-sum Inv-loop μ-loop
-mul-sum c = omega (arith, c .before .before .first-turn .ensures, c .before .loop .inv .1 .from, c .loop-test .taken, (c .before .before .before .before .before) .pre .some, (c .before .before .before .before .before) .pre .room)
+mul-sum c =
+    let start = c .before .before .before .before .before in
+    omega (arith, c .before .before .first-turn .ensures, c .before .loop .inv .1 .from, c .loop-test .taken, start .pre .some, start .pre .room)
 
 shared-slice-read-sum : tie.Need-shared-slice-read-sum Inv-loop μ-loop
-shared-slice-read-sum c = omega (arith, c .before .before .before .first-turn .ensures, c .before .before .loop .inv .1 .from, c .before .loop-test .taken, (c .before .before .before .before .before .before) .pre .some, (c .before .before .before .before .before .before) .pre .room)
+shared-slice-read-sum c =
+    let start = c .before .before .before .before .before .before in
+    omega (
+      arith,
+      c .before .before .before .first-turn .ensures,
+      c .before .before .loop .inv .1 .from,
+      c .before .loop-test .taken,
+      start .pre .some,
+      start .pre .room,
+    )
 
 mul-sum-2 : tie.Need-mul-sum-2 Inv-loop μ-loop
-mul-sum-2 c = omega (arith, c .before .before .before .first-turn .ensures, c .before .before .loop .inv .1 .from, c .before .loop-test .taken, (c .before .before .before .before .before .before) .pre .some, (c .before .before .before .before .before .before) .pre .room)
+mul-sum-2 c =
+    let start = c .before .before .before .before .before .before in
+    omega (
+      arith,
+      c .before .before .before .first-turn .ensures,
+      c .before .before .loop .inv .1 .from,
+      c .before .loop-test .taken,
+      start .pre .some,
+      start .pre .room,
+    )
 
 shared-slice-read-sum-2 : tie.Need-shared-slice-read-sum-2 Inv-loop μ-loop
-shared-slice-read-sum-2 c = omega (arith, c .before .before .before .before .first-turn .ensures, c .before .before .before .loop .inv .1 .from, c .before .before .loop-test .taken, (c .before .before .before .before .before .before .before) .pre .some, (c .before .before .before .before .before .before .before) .pre .room)
+shared-slice-read-sum-2 c =
+    let start = c .before .before .before .before .before .before .before in
+    omega (
+      arith,
+      c .before .before .before .before .first-turn .ensures,
+      c .before .before .before .loop .inv .1 .from,
+      c .before .before .loop-test .taken,
+      start .pre .some,
+      start .pre .room,
+    )
 
 int-to-float-sum : tie.Need-int-to-float-sum Inv-loop μ-loop
-int-to-float-sum c = small-float (let f = (c .before .before .before .before .before .before .before .before) .pre .few in omega (arith, c .before .before .before .loop-test .taken))
+int-to-float-sum c =
+    let start = c .before .before .before .before .before .before .before .before in
+    small-float (let f = start .pre .few in omega (arith, c .before .before .before .loop-test .taken))
 
 add-j : tie.Need-add-j Inv-loop μ-loop
-add-j c = omega (arith, c .before .before .before .before .before .first-turn .ensures, c .before .before .before .before .loop .inv .1 .from, c .before .before .before .loop-test .taken, (c .before .before .before .before .before .before .before .before) .pre .some, (c .before .before .before .before .before .before .before .before) .pre .room)
+add-j c =
+    let start = c .before .before .before .before .before .before .before .before in
+    omega (
+      arith,
+      c .before .before .before .before .before .first-turn .ensures,
+      c .before .before .before .before .loop .inv .1 .from,
+      c .before .before .before .loop-test .taken,
+      start .pre .some,
+      start .pre .room,
+    )
 
 loop-less : tie.Need-loop-less Inv-loop μ-loop
 loop-less c = omega (arith, c .before .before .before .loop-test .taken)
 
 loop-again : tie.Need-loop-again Inv-loop μ-loop
-loop-again c = let f = c .before .before .before .before .loop .inv .1 .from in (omega (arith, c .before .before .before .loop-test .taken), walked-more (c .before .before .before .before .loop .inv .1) refl)
+loop-again c =
+    let c4 = c .before .before .before .before in
+    let f = c4 .loop .inv .1 .from in (omega (arith, c .before .before .before .loop-test .taken), walked-more (c4 .loop .inv .1) refl)
 
 returns : tie.Need-returns Inv-loop μ-loop
-returns c = let f = c .before .loop .inv .1 .from in line-end ((c .before .before .before .before .before) .args .m) ((c .before .before .before .before .before) .args .xs .now) ((c .before .before .before .before .before) .args .done .now) (c .before .before .first-turn .ensures) (c .before .loop .inv .1) (omega (arith, c .before .loop .inv .0, c .loop-test .left))
+returns c =
+    let start = c .before .before .before .before .before in let f = c .before .loop .inv .1 .from in
+    line-end (start .args .m) (start .args .xs .now) (start .args .done .now)
+    (c .before .before .first-turn .ensures) (c .before .loop .inv .1)
+    (omega (arith, c .before .loop .inv .0, c .loop-test .left))
 
 pub log-sum-spec : {M : Type 1} → statement M
 log-sum-spec =
@@ -59,15 +104,5 @@ log-sum-spec =
     (tie.spec
     Inv-loop
     μ-loop
-    first-turn-requires
-    loop-holds
-    sub-sum
-    mul-sum
-    shared-slice-read-sum
-    mul-sum-2
-    shared-slice-read-sum-2
-    int-to-float-sum
-    add-j
-    loop-less
-    loop-again
-    returns)
+    first-turn-requires loop-holds sub-sum mul-sum shared-slice-read-sum mul-sum-2 shared-slice-read-sum-2
+    int-to-float-sum add-j loop-less loop-again returns)

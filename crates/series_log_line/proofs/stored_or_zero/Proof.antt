@@ -2,8 +2,6 @@ use borrow.Author.Tests.{lt-ltb, le-ltb}
 use borrow.Author.Needs.{needs}
 use Rattle.series_log_line.proofs.stored_or_zero.Statement.{statement}
 use Rattle.series_log_line.proofs.stored_or_zero.Tie as tie
-use Rattle.series_log_line.proofs.stored_or_zero.Reads as reads
-use Rattle.series_log_line.proofs.stored_or_zero.Lts as lts
 
 mul-result : tie.Need-mul-result
 mul-result c = search needs

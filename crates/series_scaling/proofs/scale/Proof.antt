@@ -4,13 +4,11 @@ use Prim.Native.Nat.{ℕ, _-_, _≤_}
 use lib.ListN.{getD}
 use lib.Ieee.{nan, mul, binary64}
 use Rattle.lists.specs.Table.{table, Filled, filled-none, filled-more}
-use Rattle.blocks.specs.Fill.{filled-all}
+use Rattle.lists.specs.Fill.{filled-all}
 use Rattle.model.specs.Constructed.{wholeF}
 use Rattle.series_scaling.specs.Weighed.{small-float}
 use Rattle.series_scaling.proofs.scale.Statement.{statement}
 use Rattle.series_scaling.proofs.scale.Tie as tie
-use Rattle.series_scaling.proofs.scale.Reads as reads
-use Rattle.series_scaling.proofs.scale.Lts as lts
 
 abbrev Inv-loop : tie.InvT-loop
 Inv-loop k a to₀ d n i₀ to i = (i ≤ n) × Filled i (λ p. mul binary64 (getD a p nan) (wholeF k)) to₀ to
@@ -43,7 +41,11 @@ same-length : tie.Need-same-length Inv-loop μ-loop
 same-length c = c .before .loop .inv .1 .len
 
 returns : tie.Need-returns Inv-loop μ-loop
-returns c = filled-all (c .before .loop .inv .1) (c .before .loop .inv .0) (omega (arith, c .loop-test .left)) ∙ ap (λ (m : ℕ). table m (λ p. mul binary64 (getD ((c .before .before .before) .args .a .now) p nan) (wholeF ((c .before .before .before) .args .k)))) ((c .before .before .before) .pre .1)
+returns c =
+    let start = c .before .before .before in
+    filled-all (c .before .loop .inv .1) (c .before .loop .inv .0) (omega (arith, c .loop-test .left))
+    ∙ ap (λ (m : ℕ). table m (λ p. mul binary64 (getD (start .args .a .now) p nan) (wholeF (start .args .k))))
+    (start .pre .1)
 
 pub scale-spec : {M : Type 1} → statement M
 scale-spec =
@@ -51,14 +53,5 @@ scale-spec =
     (tie.spec
     Inv-loop
     μ-loop
-    int-to-float-d
-    loop-holds
-    mul-to
-    shared-slice-read-to
-    mul-to-2
-    slice-write-to
-    (λ c. omega arith)
-    (λ c. omega arith)
-    loop-again
-    same-length
-    returns)
+    int-to-float-d loop-holds mul-to shared-slice-read-to mul-to-2 slice-write-to (λ c. omega arith) (λ c. omega arith)
+    loop-again same-length returns)

@@ -2,12 +2,10 @@ use native.Mathlib.Omega.{arith}
 use mathlib.Core.Path.{refl}
 use Prim.Native.Nat.{_-_, _≤_}
 use Rattle.lists.specs.Table.{Filled, filled-none, filled-more}
-use Rattle.blocks.specs.Fill.{filled-all}
+use Rattle.lists.specs.Fill.{filled-all}
 use Rattle.series_scaling.specs.Weighed.{weighedAt, small-float, small-row}
 use Rattle.series_scaling.proofs.weigh.Statement.{statement}
 use Rattle.series_scaling.proofs.weigh.Tie as tie
-use Rattle.series_scaling.proofs.weigh.Reads as reads
-use Rattle.series_scaling.proofs.weigh.Lts as lts
 
 abbrev Inv-loop : tie.InvT-loop
 Inv-loop xs t to₀ n i₀ to i = (i ≤ n) × Filled i (weighedAt t xs) to₀ to
@@ -28,7 +26,9 @@ shared-slice-read-to : tie.Need-shared-slice-read-to Inv-loop μ-loop
 shared-slice-read-to c = omega (arith, (c .before .before .before) .pre .0 .1)
 
 int-to-float-to : tie.Need-int-to-float-to Inv-loop μ-loop
-int-to-float-to c = small-float (small-row ((c .before .before .before .before) .pre .0 .0) ((c .before .before .before .before) .pre .1) (c .before .before .loop-test .taken))
+int-to-float-to c =
+    let start = c .before .before .before .before in
+    small-float (small-row (start .pre .0 .0) (start .pre .1) (c .before .before .loop-test .taken))
 
 mul-to-2 : tie.Need-mul-to-2 Inv-loop μ-loop
 mul-to-2 c = omega (arith, c .before .before .before .loop .inv .1 .len)
@@ -51,15 +51,5 @@ weigh-spec =
     (tie.spec
     Inv-loop
     μ-loop
-    loop-holds
-    div-j
-    mul-to
-    shared-slice-read-to
-    int-to-float-to
-    mul-to-2
-    slice-write-to
-    (λ c. omega arith)
-    (λ c. omega arith)
-    loop-again
-    same-length
-    returns)
+    loop-holds div-j mul-to shared-slice-read-to int-to-float-to mul-to-2 slice-write-to (λ c. omega arith)
+    (λ c. omega arith) loop-again same-length returns)

@@ -10,38 +10,65 @@ use borrow.Author.Needs.{needs}
 use Rattle.sheet.proofs.solve.Statement.{statement}
 use Rattle.sheet.proofs.solve.Tie as tie
 
-none : (c : tie.Else1) → readRefusal (c .before .before .before .before .before .before .before .before .before .before .before .args .text .now) .number ≡ 0
+none : (c : tie.Else1) →
+    let start = c .before .before .before .before .before .before .before .before .before .before .before in
+    readRefusal (start .args .text .now) .number ≡ 0
 none c = ap (λ (r : Refusal). r .number) (sym (c .before .before .before .before .read .ensures .answer)) ∙ c .if1 .left
 
 returns : tie.Need-returns
-returns c = record { refusal = c .refused .ensures ∙ read-refused _ (c .before .before .before .before .before .read .ensures .answer) (c .before .if1 .taken); headers-len = c .before .before .before .before .before .read .ensures .len; steps-len = refl; known-len = refl; pool-len = refl; done = λ z. absurd (c .before .if1 .taken (ap (λ (x : Refusal). x .number) (sym (c .refused .ensures)) ∙ z)) }
+returns c =
+    let c5 = c .before .before .before .before .before in
+    record {
+      refusal = c .refused .ensures ∙ read-refused _ (c5 .read .ensures .answer) (c .before .if1 .taken);
+      headers-len = c5 .read .ensures .len;
+      steps-len = refl;
+      known-len = refl;
+      pool-len = refl;
+      done = λ z. absurd (c .before .if1 .taken (ap (λ (x : Refusal). x .number) (sym (c .refused .ensures)) ∙ z));
+    }
 
 slice-reshare-prefix-run-read : tie.Need-slice-reshare-prefix-run-read
-slice-reshare-prefix-run-read c = omega (arith, c .before .before .before .before .before .read .ensures .len, c .input-count .ensures, (opened (c .before .before .before .before .before .before .before .before .before .before .before .before .args .text .now) (none (c .before))) .sizes .few, c .before .before .before .before .before .before .before .before .before .before .before .before .pre .headers)
+slice-reshare-prefix-run-read c =
+    let start = c .before .before .before .before .before .before .before .before .before .before .before .before in
+    omega (
+      arith,
+      c .before .before .before .before .before .read .ensures .len,
+      c .input-count .ensures,
+      (opened (start .args .text .now) (none (c .before))) .sizes .few,
+      start .pre .headers,
+    )
 
 slice-aggregate-run-read : tie.Need-slice-aggregate-run-read
 slice-aggregate-run-read c = sym (length-take-le _ _ (slice-reshare-prefix-run-read (c .before)))
 
 run-read-requires : tie.Need-run-read-requires
-run-read-requires c κs = (record { read = none (c .before .before .before .before .before); headers = rw (c .before .before .before .before .input-count .ensures) (c .before .before .before .before .before .before .before .before .before .read .ensures .headers (c .before .before .before .before .before .if1 .left)) }, record { steps = c .before .before .before .before .before .before .before .before .before .before .before .before .before .before .before .before .pre .steps; known = c .before .before .before .before .before .before .before .before .before .before .before .before .before .before .before .before .pre .known; pool = c .before .before .before .before .before .before .before .before .before .before .before .before .before .before .before .before .pre .pool })
+run-read-requires c κs =
+    let c5 = c .before .before .before .before .before in let c9 = c5 .before .before .before .before in
+    let start = c9 .before .before .before .before .before .before .before in (
+      record {
+        read = none c5;
+        headers = rw (c .before .before .before .before .input-count .ensures) (c9 .read .ensures .headers (c5 .if1 .left));
+      },
+      record { steps = start .pre .steps; known = start .pre .known; pool = start .pre .pool },
+    )
 
 returns-2 : tie.Need-returns-2
-returns-2 c = record { refusal = c .before .before .before .before .before .before .run-read .ensures .refusal; headers-len = c .before .before .before .before .before .before .before .before .before .before .before .before .before .before .before .before .read .ensures .len; steps-len = search needs; known-len = search needs; pool-len = search needs; done = λ z. solution-front _ (c .before .before .before .before .before .before .run-read .ensures .done z) (c .before .before .before .before .before .before .before .before .before .before .before .before .before .before .before .before .read .ensures .headers (c .before .before .before .before .before .before .before .before .before .before .before .before .if1 .left)) }
+returns-2 c =
+    let c6 = c .before .before .before .before .before .before in
+    let c12 = c6 .before .before .before .before .before .before in let c16 = c12 .before .before .before .before in
+    record {
+      refusal = c6 .run-read .ensures .refusal;
+      headers-len = c16 .read .ensures .len;
+      steps-len = search needs;
+      known-len = search needs;
+      pool-len = search needs;
+      done = λ z. solution-front _ (c6 .run-read .ensures .done z) (c16 .read .ensures .headers (c12 .if1 .left));
+    }
 
 pub solve-spec : {M : Type 1} → statement M
 solve-spec =
     tie.close
     (tie.spec
-    (λ c κs. search needs)
-    (λ c κs. search needs)
-    (λ c. search needs)
-    returns
-    (λ c κs. search needs)
-    slice-reshare-prefix-run-read
-    slice-aggregate-run-read
-    run-read-requires
-    (λ c. search needs)
-    (λ c. search needs)
-    (λ c. search needs)
-    (λ c. search needs)
-    returns-2)
+    (λ c κs. search needs) (λ c κs. search needs) (λ c. search needs) returns (λ c κs. search needs)
+    slice-reshare-prefix-run-read slice-aggregate-run-read run-read-requires (λ c. search needs) (λ c. search needs)
+    (λ c. search needs) (λ c. search needs) returns-2)

@@ -1,11 +1,8 @@
-use mathlib.Core.Path.{_∙_, refl, sym}
-use lib.Ieee.{div, ofBits}
+use mathlib.Core.Path.{_∙_}
 use Rattle.sheet_bits.specs.Bits.{no-nan, is-nan, zero-over-zero}
 use borrow.Author.Needs.{needs}
 use Rattle.sheet_bits.proofs.float_of.Statement.{statement}
 use Rattle.sheet_bits.proofs.float_of.Tie as tie
-use Rattle.sheet_bits.proofs.float_of.Reads as reads
-use Rattle.sheet_bits.proofs.float_of.Lts as lts
 
 returns : tie.Need-returns
 returns c = zero-over-zero ∙ is-nan ((c .before) .args .word) (c .if1 .taken)

@@ -3,8 +3,6 @@ use lib.Ieee.{toBits}
 use borrow.Author.Needs.{needs}
 use Rattle.sheet_bits.proofs.word_of.Statement.{statement}
 use Rattle.sheet_bits.proofs.word_of.Tie as tie
-use Rattle.sheet_bits.proofs.word_of.Reads as reads
-use Rattle.sheet_bits.proofs.word_of.Lts as lts
 
 float-to-bits-result : tie.Need-float-to-bits-result
 float-to-bits-result c = itself ((c .before) .args .x) (c .if1 .taken)

@@ -18,10 +18,14 @@ loop-holds : tie.Need-loop-holds Inv-loop μ-loop
 loop-holds c = passing-none _ _ _
 
 returns : tie.Need-returns Inv-loop μ-loop
-returns c = sym (passing-stop (c .before .before .before .loop .inv) (c .before .before .loop-test .taken) (sym (c .before .is-line .ensures) ∙ not-true _ (c .if1 .taken)))
+returns c =
+    sym (passing-stop (c .before .before .before .loop .inv) (c .before .before .loop-test .taken)
+    (sym (c .before .is-line .ensures) ∙ not-true _ (c .if1 .taken)))
 
 loop-again : tie.Need-loop-again Inv-loop μ-loop
-loop-again c = passing-more (c .before .before .before .loop .inv) (c .before .before .loop-test .taken) (sym (c .before .is-line .ensures) ∙ not-false _ (c .if1 .left))
+loop-again c =
+    passing-more (c .before .before .before .loop .inv) (c .before .before .loop-test .taken)
+    (sym (c .before .is-line .ensures) ∙ not-false _ (c .if1 .left))
 
 returns-2 : tie.Need-returns-2 Inv-loop μ-loop
 returns-2 c = sym (passing-end (c .before .loop .inv) (c .loop-test .left))
@@ -32,12 +36,5 @@ all-lined-spec =
     (tie.spec
     Inv-loop
     μ-loop
-    loop-holds
-    (λ c. omega arith)
-    (λ c. omega arith)
-    (λ c κs. omega arith)
-    returns
-    (λ c. search needs)
-    (λ c. search needs)
-    loop-again
-    returns-2)
+    loop-holds (λ c. omega arith) (λ c. omega arith) (λ c κs. omega arith) returns (λ c. search needs)
+    (λ c. search needs) loop-again returns-2)

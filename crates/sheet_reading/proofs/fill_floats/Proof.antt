@@ -5,7 +5,7 @@ use native.Mathlib.Omega.{arith}
 use lib.ListN.{length}
 use lib.Ieee.{ofBits, binary64}
 use Rattle.lists.specs.Table.{Filled, filled-none, filled-more}
-use Rattle.blocks.specs.Fill.{filled-all}
+use Rattle.lists.specs.Fill.{filled-all}
 use Rattle.model_texts.specs.Sheet.{wordOn}
 use Rattle.sheet_reading.proofs.fill_floats.Statement.{statement}
 use Rattle.sheet_reading.proofs.fill_floats.Tie as tie
@@ -20,7 +20,11 @@ loop-holds : tie.Need-loop-holds Inv-loop μ-loop
 loop-holds c = (omega arith, (refl, filled-none))
 
 loop-again : tie.Need-loop-again Inv-loop μ-loop
-loop-again c = (omega arith, (c .before .before .before .loop .inv .1 .0, filled-more (c .before .before .before .loop .inv .1 .1) (c .float-of .ensures ∙ ap (ofBits binary64) (c .before .word-at .ensures)) (omega arith)))
+loop-again c =
+    let c3 = c .before .before .before in (
+      omega arith,
+      (c3 .loop .inv .1 .0, filled-more (c3 .loop .inv .1 .1) (c .float-of .ensures ∙ ap (ofBits binary64) (c .before .word-at .ensures)) (omega arith)),
+    )
 
 same-length : tie.Need-same-length Inv-loop μ-loop
 same-length c = c .before .loop .inv .1 .1 .len
@@ -34,15 +38,5 @@ fill-floats-spec =
     (tie.spec
     Inv-loop
     μ-loop
-    loop-holds
-    (λ c. omega arith)
-    (λ c. omega arith)
-    (λ c κs. omega arith)
-    (λ c κs. search needs)
-    (λ c. omega arith)
-    (λ c. omega arith)
-    (λ c. search needs)
-    (λ c. search needs)
-    loop-again
-    same-length
-    returns)
+    loop-holds (λ c. omega arith) (λ c. omega arith) (λ c κs. omega arith) (λ c κs. search needs) (λ c. omega arith)
+    (λ c. omega arith) (λ c. search needs) (λ c. search needs) loop-again same-length returns)

@@ -1,7 +1,6 @@
-use Prim.Native.Nat.{_/_, _^_}
+use Prim.Native.Nat.{_/_, _^_, ℕ, _%_}
 use mathlib.Core.Path.{ap}
 use lib.Bits.{and-mask}
-use Prim.Native.Nat.{ℕ, _%_}
 use Rattle.model_texts.specs.Sheet.{inputCount}
 use borrow.Author.Needs.{needs}
 use Rattle.sheet_reading.proofs.input_count.Statement.{statement}

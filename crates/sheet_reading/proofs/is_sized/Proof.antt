@@ -13,7 +13,9 @@ step-count-requires : tie.Need-step-count-requires
 step-count-requires c κs = search needs
 
 add-result : tie.Need-add-result
-add-result c = omega (arith, c .before .input-count .ensures, c .step-count .ensures, count-small (c .before .before .before .args .text .now), step-small (c .before .before .before .args .text .now))
+add-result c =
+    let start = c .before .before .before in
+    omega (arith, c .before .input-count .ensures, c .step-count .ensures, count-small (start .args .text .now), step-small (start .args .text .now))
 
 word-at-requires : tie.Need-word-at-requires
 word-at-requires c κs = search needs
@@ -23,6 +25,4 @@ unfolding rightSizes spare
 returns c = rw (c .before .before .input-count .ensures, c .before .step-count .ensures, c .word-at .ensures)
 
 pub is-sized-spec : {M : Type 1} → statement M
-is-sized-spec =
-    tie.close
-    (tie.spec input-count-requires step-count-requires add-result word-at-requires returns)
+is-sized-spec = tie.close (tie.spec input-count-requires step-count-requires add-result word-at-requires returns)

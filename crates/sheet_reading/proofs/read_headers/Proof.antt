@@ -26,7 +26,10 @@ same-length : tie.Need-same-length Inv-loop μ-loop
 same-length c = headers-len (c .before .before .before .before .loop .inv)
 
 returns : tie.Need-returns Inv-loop μ-loop
-returns c = rw (c .by .ensures) (headers-8 (c .before .before .before .before .loop .inv) (omega (arith, headers-len (c .before .before .before .before .loop .inv))) (c .before .before .is-line .ensures) (not-true _ (c .before .if1 .taken)))
+returns c =
+    let c4 = c .before .before .before .before in
+    rw (c .by .ensures) (headers-8 (c4 .loop .inv) (omega (arith, headers-len (c4 .loop .inv)))
+    (c .before .before .is-line .ensures) (not-true _ (c .before .if1 .taken)))
 
 word-at-requires : tie.Need-word-at-requires Inv-loop μ-loop
 word-at-requires c κs = omega (arith, headers-len (c .before .before .before .loop .inv))
@@ -38,7 +41,12 @@ same-length-2 : tie.Need-same-length-2 Inv-loop μ-loop
 same-length-2 c = headers-len (c .before .before .before .before .before .before .before .loop .inv)
 
 returns-2 : tie.Need-returns-2 Inv-loop μ-loop
-returns-2 c = rw (c .at .ensures) (headers-1 (c .before .before .before .before .before .before .before .loop .inv) (omega (arith, headers-len (c .before .before .before .before .before .before .before .loop .inv))) (c .before .before .before .before .before .is-line .ensures) (not-false _ (c .before .before .before .before .if1 .left)) (c .before .before .before .word-at .ensures) (c .before .before .is-good .ensures) (not-true _ (c .before .if2 .taken)))
+returns-2 c =
+    let c7 = c .before .before .before .before .before .before .before in
+    rw (c .at .ensures) (headers-1 (c7 .loop .inv) (omega (arith, headers-len (c7 .loop .inv)))
+    (c .before .before .before .before .before .is-line .ensures)
+    (not-false _ (c .before .before .before .before .if1 .left)) (c .before .before .before .word-at .ensures)
+    (c .before .before .is-good .ensures) (not-true _ (c .before .if2 .taken)))
 
 add-i : tie.Need-add-i Inv-loop μ-loop
 add-i c = omega (arith, headers-len (c .before .before .before .before .before .before .loop .inv))
@@ -47,7 +55,11 @@ loop-less : tie.Need-loop-less Inv-loop μ-loop
 loop-less c = omega (arith, headers-len (c .before .before .before .before .before .before .loop .inv))
 
 loop-again : tie.Need-loop-again Inv-loop μ-loop
-loop-again c = headers-more (c .before .before .before .before .before .before .loop .inv) (omega (arith, headers-len (c .before .before .before .before .before .before .loop .inv))) (c .before .before .before .before .is-line .ensures) (not-false _ (c .before .before .before .if1 .left)) (c .before .before .word-at .ensures) (c .before .is-good .ensures) (not-false _ (c .if2 .left))
+loop-again c =
+    let c6 = c .before .before .before .before .before .before in
+    headers-more (c6 .loop .inv) (omega (arith, headers-len (c6 .loop .inv)))
+    (c .before .before .before .before .is-line .ensures) (not-false _ (c .before .before .before .if1 .left))
+    (c .before .before .word-at .ensures) (c .before .is-good .ensures) (not-false _ (c .if2 .left))
 
 same-length-3 : tie.Need-same-length-3 Inv-loop μ-loop
 same-length-3 c = headers-len (c .before .before .loop .inv)
@@ -61,24 +73,6 @@ read-headers-spec =
     (tie.spec
     Inv-loop
     μ-loop
-    loop-holds
-    (λ c. omega arith)
-    mul-at
-    is-line-requires
-    (λ c κs. search needs)
-    same-length
-    returns
-    word-at-requires
-    (λ c κs. search needs)
-    cast-at
-    (λ c κs. search needs)
-    same-length-2
-    returns-2
-    (λ c. search needs)
-    (λ c. search needs)
-    add-i
-    loop-less
-    loop-again
-    (λ c κs. search needs)
-    same-length-3
-    returns-3)
+    loop-holds (λ c. omega arith) mul-at is-line-requires (λ c κs. search needs) same-length returns word-at-requires
+    (λ c κs. search needs) cast-at (λ c κs. search needs) same-length-2 returns-2 (λ c. search needs)
+    (λ c. search needs) add-i loop-less loop-again (λ c κs. search needs) same-length-3 returns-3)

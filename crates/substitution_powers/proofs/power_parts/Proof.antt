@@ -4,7 +4,7 @@ use Prim.Native.Nat.{_+_, _-_, _≤_, _/_, _%_}
 use lib.ListN.{length, take, drop, length-take, length-drop}
 use lib.Ieee.{mul, binary64}
 use Rattle.lists.specs.Table.{Filled, filled-none}
-use Rattle.blocks.specs.Fill.{filled-all}
+use Rattle.lists.specs.Fill.{filled-all}
 use Rattle.substitution_powers.specs.Powers.{power, byPart}
 use Rattle.substitution_powers.specs.Powers.{Begins, begins-first, begins-next, begins-fits, part-power, part-more}
 use Rattle.substitution_powers.proofs.power_parts.Statement.{statement}
@@ -16,10 +16,14 @@ Inv-loop m s width to₀ at₀ to at = Begins width at × ((at ≤ length to₀)
 abbrev μ-loop : tie.MeasureT-loop
 μ-loop m s width to₀ at₀ to at = length to₀ - at
 
-fits : (c : tie.In-loop Inv-loop μ-loop) → c .before .loop .at + c .before .before .before .args .width ≤ length (c .before .before .before .args .to .now)
+fits : (c : tie.In-loop Inv-loop μ-loop) →
+    let start = c .before .before .before in
+    c .before .loop .at + start .args .width ≤ length (start .args .to .now)
 fits c = begins-fits (c .before .before .before .pre .1) (c .before .loop .inv .0) (omega (arith, c .loop-test .taken, c .before .loop .inv .1 .1 .len))
 
-lent : (c : tie.In-loop Inv-loop μ-loop) → length (take (c .before .loop .at + c .before .before .before .args .width - c .before .loop .at) (drop (c .before .loop .at) (c .before .loop .to))) ≡ c .before .before .before .args .width
+lent : (c : tie.In-loop Inv-loop μ-loop) →
+    let start = c .before .before .before in
+    length (take (c .before .loop .at + start .args .width - c .before .loop .at) (drop (c .before .loop .at) (c .before .loop .to))) ≡ start .args .width
 lent c = let l = c .before .loop .inv .1 .1 .len in let f = fits c in simp (length-take, length-drop) (omega (arith, l, f))
 
 loop-holds : tie.Need-loop-holds Inv-loop μ-loop
@@ -44,7 +48,20 @@ loop-less : tie.Need-loop-less Inv-loop μ-loop
 loop-less c = omega (arith, fits ((c .before .before .before .before)), c .before .before .before .before .before .before .before .pre .1 .pos)
 
 loop-again : tie.Need-loop-again Inv-loop μ-loop
-loop-again c = let f = fits ((c .before .before .before .before)) in let q : c .before .before .before .before .before .loop .at + c .before .before .before .before .before .before .before .args .width - c .before .before .before .before .before .loop .at ≡ c .before .before .before .before .before .before .before .args .width = omega arith in (begins-next (c .before .before .before .before .before .loop .inv .0), (f, part-more (λ p x. mul binary64 x (power (c .before .before .before .before .before .before .before .args .m) (p % c .before .before .before .before .before .before .before .args .width / c .before .before .before .before .before .before .before .args .s))) (λ k x. mul binary64 x (power (c .before .before .before .before .before .before .before .args .m) (k / c .before .before .before .before .before .before .before .args .s))) (c .before .before .before .before .before .before .before .args .width) (c .before .before .before .before .before .loop .at + c .before .before .before .before .before .before .before .args .width - c .before .before .before .before .before .loop .at) (c .before .before .before .before .before .loop .inv .1 .1) (c .before .before .power-rows .ensures) f q (lent ((c .before .before .before .before))) (part-power (c .before .before .before .before .before .before .before .args .m) (c .before .before .before .before .before .before .before .args .s) (c .before .before .before .before .before .loop .inv .0))))
+loop-again c =
+    let c4 = c .before .before .before .before in let c5 = c4 .before in let start = c5 .before .before in
+    let f = fits c4 in
+    let q : c5 .loop .at + start .args .width - c5 .loop .at ≡ start .args .width = omega arith in (
+      begins-next (c5 .loop .inv .0),
+      (
+        f,
+        part-more (λ p x. mul binary64 x (power (start .args .m) (p % start .args .width / start .args .s)))
+            (λ k x. mul binary64 x (power (start .args .m) (k / start .args .s))) (start .args .width)
+            (c5 .loop .at + start .args .width - c5 .loop .at) (c5 .loop .inv .1 .1)
+            (c .before .before .power-rows .ensures) f q (lent c4)
+            (part-power (start .args .m) (start .args .s) (c5 .loop .inv .0)),
+      ),
+    )
 
 same-length : tie.Need-same-length Inv-loop μ-loop
 same-length c = c .before .loop .inv .1 .1 .len
@@ -58,15 +75,5 @@ power-parts-spec =
     (tie.spec
     Inv-loop
     μ-loop
-    loop-holds
-    add-power-rows
-    mul-power-rows
-    (λ c. omega arith)
-    (λ c. omega arith)
-    part-power-rows-end
-    power-rows-requires
-    add-at
-    loop-less
-    loop-again
-    same-length
-    returns)
+    loop-holds add-power-rows mul-power-rows (λ c. omega arith) (λ c. omega arith) part-power-rows-end
+    power-rows-requires add-at loop-less loop-again same-length returns)

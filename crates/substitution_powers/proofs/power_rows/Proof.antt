@@ -4,7 +4,7 @@ use Prim.Native.Nat.{_+_, _-_, _≤_, _/_}
 use lib.ListN.{length, length-take, length-drop}
 use lib.Ieee.{mul, binary64}
 use Rattle.lists.specs.Table.{Filled, filled-none}
-use Rattle.blocks.specs.Fill.{filled-all}
+use Rattle.lists.specs.Fill.{filled-all}
 use Rattle.substitution_powers.specs.Powers.{power, byRow}
 use Rattle.substitution_powers.specs.Powers.{Power, power-begins, power-first, power-next, row-power, begins-fits, part-more}
 use Rattle.substitution_powers.proofs.power_rows.Statement.{statement}
@@ -16,8 +16,12 @@ Inv-loop m s to₀ factor₀ at₀ to factor at = Power m s at factor × ((at �
 abbrev μ-loop : tie.MeasureT-loop
 μ-loop m s to₀ factor₀ at₀ to factor at = length to₀ - at
 
-fits : (c : tie.In-loop Inv-loop μ-loop) → c .before .loop .at + c .before .before .before .args .s ≤ length (c .before .before .before .args .to .now)
-fits c = begins-fits (c .before .before .before .pre) (power-begins (c .before .loop .inv .0)) (omega (arith, c .loop-test .taken, c .before .loop .inv .1 .1 .len))
+fits : (c : tie.In-loop Inv-loop μ-loop) →
+    let start = c .before .before .before in
+    c .before .loop .at + start .args .s ≤ length (start .args .to .now)
+fits c =
+    begins-fits (c .before .before .before .pre) (power-begins (c .before .loop .inv .0))
+    (omega (arith, c .loop-test .taken, c .before .loop .inv .1 .1 .len))
 
 loop-holds : tie.Need-loop-holds Inv-loop μ-loop
 loop-holds c = (power-first (c .before .args .m), (omega arith, filled-none))
@@ -41,7 +45,20 @@ loop-less : tie.Need-loop-less Inv-loop μ-loop
 loop-less c = omega (arith, fits ((c .before .before .before .before)), c .before .before .before .before .before .before .before .pre .pos)
 
 loop-again : tie.Need-loop-again Inv-loop μ-loop
-loop-again c = let l = c .before .before .before .before .before .loop .inv .1 .1 .len in let f = fits ((c .before .before .before .before)) in let q : c .before .before .before .before .before .loop .at + c .before .before .before .before .before .before .before .args .s - c .before .before .before .before .before .loop .at ≡ c .before .before .before .before .before .before .before .args .s = omega arith in (power-next (c .before .before .before .before .before .loop .inv .0) refl, (f, part-more (λ p x. mul binary64 x (power (c .before .before .before .before .before .before .before .args .m) (p / c .before .before .before .before .before .before .before .args .s))) (λ k x. mul binary64 x (c .before .before .before .before .before .loop .factor)) (c .before .before .before .before .before .before .before .args .s) (c .before .before .before .before .before .loop .at + c .before .before .before .before .before .before .before .args .s - c .before .before .before .before .before .loop .at) (c .before .before .before .before .before .loop .inv .1 .1) (c .before .before .times-each .ensures) f q (simp (length-take, length-drop) (omega (arith, l, f))) (row-power (c .before .before .before .before .before .loop .inv .0))))
+loop-again c =
+    let c5 = c .before .before .before .before .before in let start = c5 .before .before in
+    let l = c5 .loop .inv .1 .1 .len in
+    let f = fits (c .before .before .before .before) in
+    let q : c5 .loop .at + start .args .s - c5 .loop .at ≡ start .args .s = omega arith in (
+      power-next (c5 .loop .inv .0) refl,
+      (
+        f,
+        part-more (λ p x. mul binary64 x (power (start .args .m) (p / start .args .s)))
+            (λ k x. mul binary64 x (c5 .loop .factor)) (start .args .s) (c5 .loop .at + start .args .s - c5 .loop .at)
+            (c5 .loop .inv .1 .1) (c .before .before .times-each .ensures) f q
+            (simp (length-take, length-drop) (omega (arith, l, f))) (row-power (c5 .loop .inv .0)),
+      ),
+    )
 
 same-length : tie.Need-same-length Inv-loop μ-loop
 same-length c = c .before .loop .inv .1 .1 .len
@@ -55,15 +72,5 @@ power-rows-spec =
     (tie.spec
     Inv-loop
     μ-loop
-    loop-holds
-    add-times-each
-    mul-times-each
-    (λ c. omega arith)
-    (λ c. omega arith)
-    part-times-each-end
-    times-each-requires
-    add-at
-    loop-less
-    loop-again
-    same-length
-    returns)
+    loop-holds add-times-each mul-times-each (λ c. omega arith) (λ c. omega arith) part-times-each-end
+    times-each-requires add-at loop-less loop-again same-length returns)

@@ -4,7 +4,7 @@ use Prim.Native.Nat.{_-_, _≤_}
 use lib.ListN.{getD}
 use lib.Ieee.{Float, nan, mul, binary64}
 use Rattle.lists.specs.Table.{Filled, filled-none, filled-more}
-use Rattle.blocks.specs.Fill.{filled-all, filled-here}
+use Rattle.lists.specs.Fill.{filled-all, filled-here}
 use Rattle.substitution_powers.proofs.times_each.Statement.{statement}
 use Rattle.substitution_powers.proofs.times_each.Tie as tie
 
@@ -30,7 +30,12 @@ slice-write-to : tie.Need-slice-write-to Inv-loop μ-loop
 slice-write-to c = omega (arith, c .before .before .loop .inv .1 .len)
 
 loop-again : tie.Need-loop-again Inv-loop μ-loop
-loop-again c = (omega arith, filled-more (c .before .before .loop .inv .1) (ap (λ (x : Float). mul binary64 x (c .before .before .before .args .factor)) (filled-here nan (c .before .before .loop .inv .1) (omega arith))) (omega arith))
+loop-again c = (
+  omega arith,
+  filled-more (c .before .before .loop .inv .1)
+      (ap (λ (x : Float). mul binary64 x (c .before .before .before .args .factor))
+      (filled-here nan (c .before .before .loop .inv .1) (omega arith))) (omega arith),
+)
 
 same-length : tie.Need-same-length Inv-loop μ-loop
 same-length c = c .before .loop .inv .1 .len
@@ -44,13 +49,5 @@ times-each-spec =
     (tie.spec
     Inv-loop
     μ-loop
-    loop-holds
-    mul-to
-    slice-read-to
-    mul-to-2
-    slice-write-to
-    (λ c. omega arith)
-    (λ c. omega arith)
-    loop-again
-    same-length
+    loop-holds mul-to slice-read-to mul-to-2 slice-write-to (λ c. omega arith) (λ c. omega arith) loop-again same-length
     returns)

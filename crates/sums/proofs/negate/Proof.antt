@@ -1,6 +1,4 @@
-use native.Mathlib.Omega.{arith}
 use mathlib.Core.Path.{_≡_, ap, _∙_}
-use Prim.Native.Nat.{_≤_}
 use lib.ListN.{length}
 use Rattle.model.specs.Header.{stored}
 use Rattle.model.specs.Word.{headerOf}
@@ -10,25 +8,23 @@ use Rattle.sums.specs.Negate.{negate-refused, negate-kept, negate-ready,
 use borrow.Author.Needs.{needs}
 use Rattle.sums.proofs.negate.Statement.{statement}
 use Rattle.sums.proofs.negate.Tie as tie
-use Rattle.sums.proofs.negate.Reads as reads
-use Rattle.sums.proofs.negate.Lts as lts
-use Rattle.gates.proofs.one_gate.Reads as one-gate-reads
-use Rattle.gates.proofs.stored_of.Reads as stored-of-reads
-use Rattle.shape_words.proofs.word.header_of.Reads as header-of-reads
-use Rattle.sums_negation.proofs.negate_into.Reads as negate-into-reads
 
-ready : (c : tie.Else1) → OneReady Same ((c .before .before .before .before .before) .args .head) (length ((c .before .before .before .before .before) .args .a .now)) (length ((c .before .before .before .before .before) .args .out .now))
+ready : (c : tie.Else1) →
+    let start = c .before .before .before .before .before in
+    OneReady Same (start .args .head) (length (start .args .a .now)) (length (start .args .out .now))
 ready c =
-    let a = (c .before .before .before .before .before) .args in
-    negate-ready (a .head) (a .a .now) (a .out .now) ((c .before .before .before .before .before) .fits .head .fits) (c .before .before .one-gate .ensures) (c .if1 .left)
+    let start = c .before .before .before .before .before in let a = start .args in
+    negate-ready (a .head) (a .a .now) (a .out .now) (start .fits .head .fits) (c .before .before .one-gate .ensures) (c .if1 .left)
 
 counted : (c : tie.After-stored-of) → c .stored-of .result ≡ stored (headerOf ((c .before .before .before .before .before .before .before) .args .head))
 counted c = c .stored-of .ensures ∙ ap stored (c .before .header-of .ensures)
 
 returns : tie.Need-returns
 returns c =
-    let a = (c .before .before .before .before .before) .args in
-    (negate-refused (a .head) (a .a .now) (a .out .now) (c .before .before .one-gate .ensures) (c .if1 .taken), negate-kept (a .head) (a .a .now) (a .out .now) (c .before .before .one-gate .ensures) (c .if1 .taken))
+    let a = (c .before .before .before .before .before) .args in (
+      negate-refused (a .head) (a .a .now) (a .out .now) (c .before .before .one-gate .ensures) (c .if1 .taken),
+      negate-kept (a .head) (a .a .now) (a .out .now) (c .before .before .one-gate .ensures) (c .if1 .taken),
+    )
 
 stored-of-requires : tie.Need-stored-of-requires
 stored-of-requires c κs = rw (c .header-of .ensures) (ready (c .before) .good .regular .rules)
@@ -40,17 +36,18 @@ negate-into-requires c κs =
 
 returns-2 : tie.Need-returns-2
 returns-2 c =
-    let a = (c .before .before .before .before .before .before .before .before .before .before .before) .args in
-    (negate-done (a .head) (a .a .now) (a .out .now) ((c .before .before .before .before .before .before .before .before .before .before .before) .fits .head .fits) (c .before .before .before .before .before .before .before .before .one-gate .ensures) (c .before .before .before .before .before .before .if1 .left), (c .before .before .negate-into .ensures ∙ negate-out (a .head) (a .a .now) (a .out .now) ((c .before .before .before .before .before .before .before .before .before .before .before) .fits .head .fits) (c .before .before .before .before .before .before .before .before .one-gate .ensures) (c .before .before .before .before .before .before .if1 .left) (counted (c .before .before .before .before))))
+    let c6 = c .before .before .before .before .before .before in let c8 = c6 .before .before in
+    let start = c8 .before .before .before in
+    let a = start .args in (
+      negate-done (a .head) (a .a .now) (a .out .now) (start .fits .head .fits) (c8 .one-gate .ensures) (c6 .if1 .left),
+      (c .before .before .negate-into .ensures
+          ∙ negate-out (a .head) (a .a .now) (a .out .now) (start .fits .head .fits) (c8 .one-gate .ensures)
+          (c6 .if1 .left) (counted (c .before .before .before .before))),
+    )
 
 pub negate-spec : {M : Type 1} → statement M
 negate-spec =
     tie.close
     (tie.spec
-    (λ c κs. search needs)
-    returns
-    (λ c κs. search needs)
-    stored-of-requires
-    negate-into-requires
-    (λ c. search needs)
+    (λ c κs. search needs) returns (λ c κs. search needs) stored-of-requires negate-into-requires (λ c. search needs)
     returns-2)

@@ -5,8 +5,6 @@ use mathlib.Core.Path.{refl}
 use Prim.Native.Nat.{_≤_, _-_}
 use Rattle.sums_negation.proofs.negate_into.Statement.{statement}
 use Rattle.sums_negation.proofs.negate_into.Tie as tie
-use Rattle.sums_negation.proofs.negate_into.Reads as reads
-use Rattle.sums_negation.proofs.negate_into.Lts as lts
 
 abbrev Inv-loop : tie.InvT-loop
 Inv-loop a n out₀ i₀ out i = (i ≤ n) × Filled i (negatedAt a) out₀ out
@@ -32,13 +30,5 @@ negate-into-spec =
     (tie.spec
     Inv-loop
     μ-loop
-    loop-holds
-    (λ c. omega arith)
-    (λ c. omega arith)
-    (λ c. omega arith)
-    (λ c. omega arith)
-    (λ c. omega arith)
-    (λ c. omega arith)
-    loop-again
-    same-length
-    returns)
+    loop-holds (λ c. omega arith) (λ c. omega arith) (λ c. omega arith) (λ c. omega arith) (λ c. omega arith)
+    (λ c. omega arith) loop-again same-length returns)

@@ -17,5 +17,4 @@ returns : tie.Need-returns
 returns c = let e = c .before .before .before .derivative .ensures in (c .word-of .ensures ∙ ap wordOfAnswer (e .0), e .1)
 
 pub taylor-derivative-spec : {M : Type 1} → statement M
-taylor-derivative-spec =
-    tie.close (tie.spec derivative-requires word-of-requires same-length returns)
+taylor-derivative-spec = tie.close (tie.spec derivative-requires word-of-requires same-length returns)

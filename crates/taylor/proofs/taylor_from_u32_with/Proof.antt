@@ -17,5 +17,4 @@ returns : tie.Need-returns
 returns c = let e = c .before .before .before .from-u32-with .ensures in (c .word-of .ensures ∙ ap wordOfAnswer (e .0), e .1)
 
 pub taylor-from-u32-with-spec : {M : Type 1} → statement M
-taylor-from-u32-with-spec =
-    tie.close (tie.spec from-u32-with-requires word-of-requires same-length returns)
+taylor-from-u32-with-spec = tie.close (tie.spec from-u32-with-requires word-of-requires same-length returns)

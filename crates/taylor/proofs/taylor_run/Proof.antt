@@ -3,10 +3,6 @@ use Rattle.taylor.specs.Face.{wordOfRun}
 use borrow.Author.Needs.{needs}
 use Rattle.taylor.proofs.taylor_run.Statement.{statement}
 use Rattle.taylor.proofs.taylor_run.Tie as tie
-use Rattle.taylor.proofs.taylor_run.Reads as reads
-use Rattle.taylor.proofs.taylor_run.Lts as lts
-use Rattle.recipes.proofs.run.Reads as run-reads
-use Rattle.taylor.proofs.answers.word_of_run.Reads as word-of-run-reads
 
 run-requires : tie.Need-run-requires
 run-requires c κs = search needs
@@ -27,6 +23,4 @@ returns : tie.Need-returns
 returns c = let e = c .before .before .before .before .before .before .before .run .ensures in (c .word-of-run .ensures ∙ ap wordOfRun (e .0), e .1)
 
 pub taylor-run-spec : {M : Type 1} → statement M
-taylor-run-spec =
-    tie.close
-    (tie.spec run-requires word-of-run-requires same-length same-length-2 same-length-3 returns)
+taylor-run-spec = tie.close (tie.spec run-requires word-of-run-requires same-length same-length-2 same-length-3 returns)

@@ -17,5 +17,4 @@ returns : tie.Need-returns
 returns c = let e = c .before .before .before .shift-down .ensures in (c .word-of .ensures ∙ ap wordOfAnswer (e .0), e .1)
 
 pub taylor-shift-down-spec : {M : Type 1} → statement M
-taylor-shift-down-spec =
-    tie.close (tie.spec shift-down-requires word-of-requires same-length returns)
+taylor-shift-down-spec = tie.close (tie.spec shift-down-requires word-of-requires same-length returns)

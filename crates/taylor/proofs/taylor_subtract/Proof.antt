@@ -20,5 +20,4 @@ returns : tie.Need-returns
 returns c = let e = c .before .before .before .before .before .subtract .ensures in (c .word-of .ensures ∙ ap wordOfAnswer (e .0), e .1)
 
 pub taylor-subtract-spec : {M : Type 1} → statement M
-taylor-subtract-spec =
-    tie.close (tie.spec subtract-requires word-of-requires same-length same-length-2 returns)
+taylor-subtract-spec = tie.close (tie.spec subtract-requires word-of-requires same-length same-length-2 returns)

@@ -17,5 +17,4 @@ returns : tie.Need-returns
 returns c = let e = c .before .before .before .taylor-polynomial .ensures in (c .word-of .ensures ∙ ap wordOfAnswer (e .0), e .1)
 
 pub taylor-taylor-polynomial-spec : {M : Type 1} → statement M
-taylor-taylor-polynomial-spec =
-    tie.close (tie.spec taylor-polynomial-requires word-of-requires same-length returns)
+taylor-taylor-polynomial-spec = tie.close (tie.spec taylor-polynomial-requires word-of-requires same-length returns)

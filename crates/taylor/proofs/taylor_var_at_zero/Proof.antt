@@ -17,5 +17,4 @@ returns : tie.Need-returns
 returns c = let e = c .before .before .before .var-at-zero .ensures in (c .word-of .ensures ∙ ap wordOfAnswer (e .0), e .1)
 
 pub taylor-var-at-zero-spec : {M : Type 1} → statement M
-taylor-var-at-zero-spec =
-    tie.close (tie.spec var-at-zero-requires word-of-requires same-length returns)
+taylor-var-at-zero-spec = tie.close (tie.spec var-at-zero-requires word-of-requires same-length returns)

@@ -17,5 +17,4 @@ returns : tie.Need-returns
 returns c = let e = c .before .before .before .var-with-degrees-p1 .ensures in (c .word-of .ensures ∙ ap wordOfAnswer (e .0), e .1)
 
 pub taylor-var-with-degrees-p1-spec : {M : Type 1} → statement M
-taylor-var-with-degrees-p1-spec =
-    tie.close (tie.spec var-with-degrees-p1-requires word-of-requires same-length returns)
+taylor-var-with-degrees-p1-spec = tie.close (tie.spec var-with-degrees-p1-requires word-of-requires same-length returns)

@@ -17,5 +17,4 @@ returns : tie.Need-returns
 returns c = let e = c .before .before .before .zero-with .ensures in (c .word-of .ensures ∙ ap wordOfAnswer (e .0), e .1)
 
 pub taylor-zero-with-spec : {M : Type 1} → statement M
-taylor-zero-with-spec =
-    tie.close (tie.spec zero-with-requires word-of-requires same-length returns)
+taylor-zero-with-spec = tie.close (tie.spec zero-with-requires word-of-requires same-length returns)

@@ -12,18 +12,24 @@ same-length : tie.Need-same-length
 same-length c = search needs
 
 returns : tie.Need-returns
-returns c = dropped-all (c .before .before .before .before .before .before .before .args .s) (c .before .before .before .before .before .before .before .args .m) (c .before .before .before .before .before .before .before .args .a .now) (length (c .before .before .before .before .before .before .before .args .to .now)) (c .before .before .before .before .if1 .taken) ((c .before .before .before .before .before .before .before) .pre .one (c .before .before .before .before .if1 .taken) .0) (c .before .before .sum-rows .ensures .1)
+returns c =
+    let c4 = c .before .before .before .before in let start = c4 .before .before .before in
+    dropped-all (start .args .s) (start .args .m) (start .args .a .now) (length (start .args .to .now)) (c4 .if1 .taken)
+    (start .pre .one (c4 .if1 .taken) .0) (c .before .before .sum-rows .ensures .1)
 
 kept-rows-requires : tie.Need-kept-rows-requires
-kept-rows-requires c κs = ((c .before .before .before .before) .pre .small, (c .before .before .before .before) .pre .many (c .before .if1 .left))
+kept-rows-requires c κs =
+    let start = c .before .before .before .before in
+    (start .pre .small, start .pre .many (c .before .if1 .left))
 
 same-length-2 : tie.Need-same-length-2
 same-length-2 c = search needs
 
 returns-2 : tie.Need-returns-2
-returns-2 c = dropped-kept (c .before .before .before .before .before .before .before .args .s) (c .before .before .before .before .before .before .before .args .m) (c .before .before .before .before .before .before .before .args .a .now) (length (c .before .before .before .before .before .before .before .args .to .now)) (c .before .before .before .before .if1 .left) (c .before .before .kept-rows .ensures)
+returns-2 c =
+    let start = c .before .before .before .before .before .before .before in
+    dropped-kept (start .args .s) (start .args .m) (start .args .a .now) (length (start .args .to .now))
+    (c .before .before .before .before .if1 .left) (c .before .before .kept-rows .ensures)
 
 pub drop-part-spec : {M : Type 1} → statement M
-drop-part-spec =
-    tie.close
-    (tie.spec sum-rows-requires same-length returns kept-rows-requires same-length-2 returns-2)
+drop-part-spec = tie.close (tie.spec sum-rows-requires same-length returns kept-rows-requires same-length-2 returns-2)

@@ -2,26 +2,21 @@ use Rattle.model.specs.Header.{varWith}
 use borrow.Author.Needs.{needs}
 use Rattle.model.proofs.Header.var_with_degrees_p1.Statement.{statement}
 use Rattle.model.proofs.Header.var_with_degrees_p1.Tie as tie
-use Rattle.model.proofs.Header.var_with_degrees_p1.Reads as reads
-use Rattle.model.proofs.Header.var_with_degrees_p1.Lts as lts
-use Rattle.model.proofs.Header.zero_with.Reads as zero-with-reads
-use Rattle.model.proofs.two_at_most.Reads as two-at-most-reads
 
 returns : tie.Need-returns
 unfolding varWith
-returns c = simp (c .two-at-most4 .ensures, c .before .two-at-most3 .ensures, c .before .before .two-at-most2 .ensures, c .before .before .before .two-at-most .ensures, c .before .before .before .before .before .zero-with .ensures)
+returns c =
+    simp (
+      c .two-at-most4 .ensures,
+      c .before .two-at-most3 .ensures,
+      c .before .before .two-at-most2 .ensures,
+      c .before .before .before .two-at-most .ensures,
+      c .before .before .before .before .before .zero-with .ensures,
+    )
 
 pub var-with-degrees-p1-spec : {M : Type 1} → statement M
 var-with-degrees-p1-spec =
     tie.close
     (tie.spec
-    (λ c κs. search needs)
-    (λ c. search needs)
-    (λ c κs. search needs)
-    (λ c. search needs)
-    (λ c κs. search needs)
-    (λ c. search needs)
-    (λ c κs. search needs)
-    (λ c. search needs)
-    (λ c κs. search needs)
-    returns)
+    (λ c κs. search needs) (λ c. search needs) (λ c κs. search needs) (λ c. search needs) (λ c κs. search needs)
+    (λ c. search needs) (λ c κs. search needs) (λ c. search needs) (λ c κs. search needs) returns)

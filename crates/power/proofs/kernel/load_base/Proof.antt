@@ -14,10 +14,16 @@ slice-aggregate-copy : tie.Need-slice-aggregate-copy
 slice-aggregate-copy c = sym (length-take-le _ _ (c .before .before .before .before .pre (omega (arith, c .before .if1 .taken))))
 
 copy-requires : tie.Need-copy-requires
-copy-requires c κs = omega (arith, length-take-le (length (c .before .before .before .before .args .a .now)) (c .before .before .before .before .args .work .now) (c .before .before .before .before .pre (omega (arith, c .before .if1 .taken))))
+copy-requires c κs =
+    let start = c .before .before .before .before in
+    omega (arith, length-take-le (length (start .args .a .now)) (start .args .work .now) (start .pre (omega (arith, c .before .if1 .taken))))
 
 returns : tie.Need-returns
-returns c = loaded-copy (c .before .before .before .before .before .before .before .args .e) (c .before .before .before .before .before .before .before .args .a .now) (drop (length (c .before .before .before .before .before .before .before .args .a .now)) (c .before .before .before .before .before .before .before .args .work .now)) (c .before .before .copy .ensures) (length-take-le (length (c .before .before .before .before .before .before .before .args .a .now)) (c .before .before .before .before .before .before .before .args .work .now) (c .before .before .before .before .before .before .before .pre (omega (arith, c .before .before .before .before .if1 .taken))))
+returns c =
+    let start = c .before .before .before .before .before .before .before in
+    loaded-copy (start .args .e) (start .args .a .now) (drop (length (start .args .a .now)) (start .args .work .now))
+    (c .before .before .copy .ensures) (length-take-le (length (start .args .a .now)) (start .args .work .now)
+    (start .pre (omega (arith, c .before .before .before .before .if1 .taken))))
 
 returns-2 : tie.Need-returns-2
 returns-2 c = loaded-none (omega (arith, c .if1 .left))
@@ -26,9 +32,4 @@ pub load-base-spec : {M : Type 1} → statement M
 load-base-spec =
     tie.close
     (tie.spec
-    slice-relend-prefix-copy
-    slice-aggregate-copy
-    copy-requires
-    (λ c. search needs)
-    returns
-    returns-2)
+    slice-relend-prefix-copy slice-aggregate-copy copy-requires (λ c. search needs) returns returns-2)

@@ -8,31 +8,48 @@ use Rattle.power.proofs.kernel.power_loaded.Statement.{statement}
 use Rattle.power.proofs.kernel.power_loaded.Tie as tie
 
 count-of-requires : tie.Need-count-of-requires
-count-of-requires c κs = ends-lens (c .before .before .before .before .before .before .before .before .before .pre) (c .before .before .before .before .before .before .before .before .before .args .work .now) refl (c .before .before .before .before .power-front .ensures)
+count-of-requires c κs =
+    let start = c .before .before .before .before .before .before .before .before .before in
+    ends-lens (start .pre) (start .args .work .now) refl (c .before .before .before .before .power-front .ensures)
 
 mul-clear : tie.Need-mul-clear
-mul-clear c = omega (arith, ends-small (c .before .before .before .before .before .before .before .before .before .before .pre) (c .before .before .before .before .before .before .before .before .before .before .args .work .now) refl (c .before .before .before .before .before .power-front .ensures) (c .count-of .ensures), powers-most (c .before .before .before .before .before .before .before .before .before .before .pre))
+mul-clear c =
+    let start = c .before .before .before .before .before .before .before .before .before .before in
+    omega (
+      arith,
+      ends-small (start .pre) (start .args .work .now) refl (c .before .before .before .before .before .power-front .ensures) (c .count-of .ensures),
+      powers-most (start .pre),
+    )
 
 sub-clear : tie.Need-sub-clear
-sub-clear c = ends-small (c .before .before .before .before .before .before .before .before .before .before .pre) (c .before .before .before .before .before .before .before .before .before .before .args .work .now) refl (c .before .before .before .before .before .power-front .ensures) (c .count-of .ensures)
+sub-clear c =
+    let start = c .before .before .before .before .before .before .before .before .before .before in
+    ends-small (start .pre) (start .args .work .now) refl (c .before .before .before .before .before .power-front .ensures) (c .count-of .ensures)
 
 part-clear-start : tie.Need-part-clear-start
-part-clear-start c = ends-small (c .before .before .before .before .before .before .before .before .before .before .pre) (c .before .before .before .before .before .before .before .before .before .before .args .work .now) refl (c .before .before .before .before .before .power-front .ensures) (c .count-of .ensures)
+part-clear-start c =
+    let start = c .before .before .before .before .before .before .before .before .before .before in
+    ends-small (start .pre) (start .args .work .now) refl (c .before .before .before .before .before .power-front .ensures) (c .count-of .ensures)
 
 returns : tie.Need-returns
-returns c = let k = c .before .before .before .before .before .before .before .before .before .power-front .kept .1 .1 .1 .1 .1 .0 in let o = c .before .before .before .before .before .before .before .before .before .before .before .before .before .before .pre .out in (c .before .before .before .before .before .before .before .before .before .power-front .ensures .lengths, ends-padded (c .before .before .before .before .before .before .before .before .before .before .before .before .before .before .pre) (c .before .before .before .before .before .before .before .before .before .before .before .before .before .before .args .work .now) refl (c .before .before .before .before .before .before .before .before .before .power-front .ensures) (k ∙ o) (c .before .before .before .before .count-of .ensures) (c .before .before .clear .ensures) (simp (length-take, length-drop) (omega (arith, k, o, ends-small (c .before .before .before .before .before .before .before .before .before .before .before .before .before .before .pre) (c .before .before .before .before .before .before .before .before .before .before .before .before .before .before .args .work .now) refl (c .before .before .before .before .before .before .before .before .before .power-front .ensures) (c .before .before .before .before .count-of .ensures)))))
+returns c =
+    let c4 = c .before .before .before .before in let c9 = c4 .before .before .before .before .before in
+    let start = c9 .before .before .before .before .before in let k = c9 .power-front .kept .1 .1 .1 .1 .1 .0 in
+    let o = start .pre .out in (
+      c9 .power-front .ensures .lengths,
+      ends-padded (start .pre) (start .args .work .now) refl (c9 .power-front .ensures) (k ∙ o) (c4 .count-of .ensures)
+          (c .before .before .clear .ensures) (simp (length-take, length-drop)
+          (omega (
+            arith,
+            k,
+            o,
+            ends-small (start .pre) (start .args .work .now) refl (c9 .power-front .ensures) (c4 .count-of .ensures),
+          ))),
+    )
 
 pub power-loaded-spec : {M : Type 1} → statement M
 power-loaded-spec =
     tie.close
     (tie.spec
-    (λ c κs. search needs)
-    count-of-requires
-    mul-clear
-    sub-clear
-    part-clear-start
-    (λ c. search needs)
-    (λ c κs. search needs)
-    (λ c. search needs)
-    (λ c. search needs)
-    returns)
+    (λ c κs. search needs) count-of-requires mul-clear sub-clear part-clear-start (λ c. search needs)
+    (λ c κs. search needs) (λ c. search needs) (λ c. search needs) returns)

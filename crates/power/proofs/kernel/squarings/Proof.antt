@@ -21,28 +21,60 @@ loop-holds : tie.Need-loop-holds Inv-loop μ-loop
 loop-holds c = (turning-first (c .before .before .pre .0) (c .before .before .pre .1) (c .before .before .args .work .now) refl (omega arith), refl)
 
 take-bit-requires : tie.Need-take-bit-requires Inv-loop μ-loop
-take-bit-requires c κs = λ _. turn-bit (c .before .before .before .before .before .before .pre .0) (c .before .before .before .before .before .before .pre .1) (c .before .before .before .loop .inv .0) (simp length-set) refl (c .before .before .before .loop .inv .1)
+take-bit-requires c κs =
+    let c3 = c .before .before .before in let start = c3 .before .before .before in
+    λ _. turn-bit (start .pre .0) (start .pre .1) (c3 .loop .inv .0) (simp length-set) refl (c3 .loop .inv .1)
 
 times-to-requires : tie.Need-times-to-requires Inv-loop μ-loop
-times-to-requires c κs = (turn-square (c .before .before .before .before .before .before .before .before .before .before .before .before .before .pre .0) (c .before .before .before .before .before .before .before .before .before .before .before .before .before .pre .1) (c .before .before .before .before .before .before .before .before .before .before .loop .inv .0) (simp length-set) (c .before .before .before .before .before .before .before .before .before .loop-test .taken) (c .before .before .before .before .before .before .take-bit .kept .0) (c .before .before .before .before .before .before .take-bit .kept .1 .1 .1 .1 .1 .1 .0 ∙ c .before .before .before .before .before .before .before .before .before .before .loop .inv .1), omega arith)
+times-to-requires c κs =
+    let c6 = c .before .before .before .before .before .before in let c9 = c6 .before .before .before in
+    let c10 = c9 .before in
+    let start = c10 .before .before .before in (
+      turn-square (start .pre .0) (start .pre .1) (c10 .loop .inv .0) (simp length-set) (c9 .loop-test .taken)
+          (c6 .take-bit .kept .0) (c6 .take-bit .kept .1 .1 .1 .1 .1 .1 .0 ∙ c10 .loop .inv .1),
+      omega arith,
+    )
 
 loop-less : tie.Need-loop-less Inv-loop μ-loop
-loop-less c = omega (arith, c .before .before .before .before .before .before .before .before .before .before .before .before .before .before .loop-test .taken)
+loop-less c =
+    let c12 = c .before .before .before .before .before .before .before .before .before .before .before .before in
+    let c14 = c12 .before .before in
+    omega (arith, c14 .loop-test .taken)
 
 loop-again : tie.Need-loop-again Inv-loop μ-loop
-loop-again c = (turn-next (c .before .before .before .before .before .before .before .before .before .before .before .before .before .before .before .before .before .before .pre .0) (c .before .before .before .before .before .before .before .before .before .before .before .before .before .before .before .before .before .before .pre .1) (c .before .before .before .before .before .before .before .before .before .before .before .before .before .before .before .loop .inv .0) (simp length-set) (c .before .before .before .before .before .before .before .before .before .before .before .before .before .before .loop-test .taken) (c .before .before .before .before .before .before .before .before .before .before .before .take-bit .ensures) (c .before .before .before .before .times-to .ensures) (c .before .before .before .before .times-to .kept .0 ∙ c .before .before .before .before .before .before .before .before .before .before .before .take-bit .kept .0), c .before .before .before .before .times-to .kept .1 .1 .1 .1 .1 .1 .1 .1 .0 ∙ (c .before .before .before .before .before .before .before .before .before .before .before .take-bit .kept .1 .1 .1 .1 .1 .1 .0 ∙ c .before .before .before .before .before .before .before .before .before .before .before .before .before .before .before .loop .inv .1))
+loop-again c =
+    let c4 = c .before .before .before .before in
+    let c11 = c4 .before .before .before .before .before .before .before in let c14 = c11 .before .before .before in
+    let c15 = c14 .before in
+    let start = c15 .before .before .before in (
+      turn-next (start .pre .0) (start .pre .1) (c15 .loop .inv .0) (simp length-set) (c14 .loop-test .taken)
+          (c11 .take-bit .ensures) (c4 .times-to .ensures) (c4 .times-to .kept .0 ∙ c11 .take-bit .kept .0),
+      c4 .times-to .kept .1 .1 .1 .1 .1 .1 .1 .1 .0 ∙ (c11 .take-bit .kept .1 .1 .1 .1 .1 .1 .0 ∙ c15 .loop .inv .1),
+    )
 
 times-front-requires : tie.Need-times-front-requires Inv-loop μ-loop
-times-front-requires c κs = turn-bit (c .before .before .before .before .before .before .pre .0) (c .before .before .before .before .before .before .pre .1) (c .before .before .before .loop .inv .0) (simp length-set) refl (c .before .before .before .loop .inv .1)
+times-front-requires c κs =
+    let c3 = c .before .before .before in let start = c3 .before .before .before in
+    turn-bit (start .pre .0) (start .pre .1) (c3 .loop .inv .0) (simp length-set) refl (c3 .loop .inv .1)
 
 same-length : tie.Need-same-length Inv-loop μ-loop
-same-length c = c .before .before .before .before .times-front .kept .0 ∙ (c .before .before .before .before .before .before .before .before .loop .inv .0 .len ∙ simp length-set)
+same-length c =
+    let c8 = c .before .before .before .before .before .before .before .before in
+    c .before .before .before .before .times-front .kept .0 ∙ (c8 .loop .inv .0 .len ∙ simp length-set)
 
 same-length-2 : tie.Need-same-length-2 Inv-loop μ-loop
-same-length-2 c = c .before .before .before .before .times-front .kept .1 .1 .1 .1 .1 .1 .1 .0 ∙ c .before .before .before .before .before .before .before .before .loop .inv .1
+same-length-2 c =
+    let c8 = c .before .before .before .before .before .before .before .before in
+    c .before .before .before .before .times-front .kept .1 .1 .1 .1 .1 .1 .1 .0 ∙ c8 .loop .inv .1
 
 returns : tie.Need-returns Inv-loop μ-loop
-returns c = rw (begun-base (c .before .before .before .before .before .before .before .before .before .before .before .pre .0) (c .before .before .before .before .before .before .before .before .before .before .before .pre .1) (c .before .before .before .before .before .before .before .before .before .before .before .args .work .now) refl) at (turn-last (c .before .before .before .before .before .before .before .before .before .before .before .pre .0) (c .before .before .before .before .before .before .before .before .before .before .before .pre .1) (c .before .before .before .before .before .before .before .before .loop .inv .0) (simp length-set) (omega (arith, c .before .before .before .before .before .before .before .loop-test .left)) (c .before .before .before .before .times-front .ensures))
+returns c =
+    let c8 = c .before .before .before .before .before .before .before .before in
+    let start = c8 .before .before .before in
+    rw (begun-base (start .pre .0) (start .pre .1) (start .args .work .now) refl) at
+    (turn-last (start .pre .0) (start .pre .1) (c8 .loop .inv .0) (simp length-set)
+    (omega (arith, c .before .before .before .before .before .before .before .loop-test .left))
+    (c .before .before .before .before .times-front .ensures))
 
 pub squarings-spec : {M : Type 1} → statement M
 squarings-spec =
@@ -50,14 +82,5 @@ squarings-spec =
     (tie.spec
     Inv-loop
     μ-loop
-    mul-work
-    slice-write-work
-    loop-holds
-    take-bit-requires
-    times-to-requires
-    loop-less
-    loop-again
-    times-front-requires
-    same-length
-    same-length-2
-    returns)
+    mul-work slice-write-work loop-holds take-bit-requires times-to-requires loop-less loop-again times-front-requires
+    same-length same-length-2 returns)

@@ -16,12 +16,5 @@ pub grown-to-spec : {M : Type 1} → statement M
 grown-to-spec =
     tie.close
     (tie.spec
-    (λ c. search needs)
-    (λ c. search needs)
-    (λ c. search needs)
-    (λ c. search needs)
-    add-least
-    (λ c κs. search needs)
-    (λ c. search needs)
-    (λ c. search needs)
-    returns)
+    (λ c. search needs) (λ c. search needs) (λ c. search needs) (λ c. search needs) add-least (λ c κs. search needs)
+    (λ c. search needs) (λ c. search needs) returns)

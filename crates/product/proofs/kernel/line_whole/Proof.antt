@@ -18,46 +18,55 @@ use borrow.Author.Needs.{needs}
 use Rattle.product.proofs.kernel.line_whole.Statement.{statement}
 use Rattle.product.proofs.kernel.line_whole.Tie as tie
 
-tests : (c : tie.Else2) → (eqb (length (c .before .before .before .before .before .args .a .now)) 1 ≡ false) × (eq (c .before .before .before .before .before .args .line .c) oneF ≡ false)
-tests c = neither (eqb (length (c .before .before .before .before .before .args .a .now)) 1) (eq (c .before .before .before .before .before .args .line .c) oneF) (c .if2 .left)
+tests : (c : tie.Else2) →
+    let start = c .before .before .before .before .before in
+    (eqb (length (start .args .a .now)) 1 ≡ false) × (eq (start .args .line .c) oneF ≡ false)
+tests c =
+    let start = c .before .before .before .before .before in
+    neither (eqb (length (start .args .a .now)) 1) (eq (start .args .line .c) oneF) (c .if2 .left)
 
 big : (c : tie.Else2) → 1 < count (c .before .before .before .before .before .args .n)
 big c =
-    let t = (c .before .before .before .before .before) .pre .raises in
-    let one = eqb-false (length (c .before .before .before .before .before .args .a .now)) 1 (tests c .0) in
-    let full : length (c .before .before .before .before .before .args .a .now) ≡ count (c .before .before .before .before .before .args .n) = t .full in
+    let start = c .before .before .before .before .before in let t = start .pre .raises in
+    let one = eqb-false (length (start .args .a .now)) 1 (tests c .0) in
+    let full : length (start .args .a .now) ≡ count (start .args .n) = t .full in
     omega (arith, count-pos (raises-lens t))
 
 raise-to-requires : tie.Need-raise-to-requires
 raise-to-requires c κs = (c .before .before .before .before .before) .pre .raises
 
 returns : tie.Need-returns
-returns c = line-raised (c .before .before .before .before .before .before .before .before .args .limits) (c .before .before .before .before .before .before .before .before .args .line) (block (c .before .before .before .before .before .before .before .before .args .n) (c .before .before .before .before .before .before .before .before .args .a .now)) (c .before .before .before .before .if1 .taken) (c .before .before .raise-to .ensures)
+returns c =
+    let start = c .before .before .before .before .before .before .before .before in
+    line-raised (start .args .limits) (start .args .line) (block (start .args .n) (start .args .a .now))
+    (c .before .before .before .before .if1 .taken) (c .before .before .raise-to .ensures)
 
 linear-product-requires : tie.Need-linear-product-requires
-linear-product-requires c κs = whole-room (c .before .before .before .before .before .before .before .before .before .before .before .args .a .now) ((c .before .before .before .before .before .before .before .before .before .before .before) .pre) refl (c .before .before .before .before .keep .ensures)
+linear-product-requires c κs =
+    let start = c .before .before .before .before .before .before .before .before .before .before .before in
+    whole-room (start .args .a .now) (start .pre) refl (c .before .before .before .before .keep .ensures)
 
 returns-2 : tie.Need-returns-2
-returns-2 c = whole-line (c .before .before .before .before .before .before .before .before .before .before .before .before .before .before .before .before .args .a .now) ((c .before .before .before .before .before .before .before .before .before .before .before .before .before .before .before .before) .pre) refl (c .before .before .before .before .before .before .before .before .before .keep .ensures) (λ y. linearProduct (λ x. productOf 0 (c .before .before .before .before .before .before .before .before .before .before .before .before .before .before .before .before .args .limits) x (constantBlock (c .before .before .before .before .before .before .before .before .before .before .before .before .before .before .before .before .args .line .c))) (c .before .before .before .before .before .before .before .before .before .before .before .before .before .before .before .before .args .limits) (c .before .before .before .before .before .before .before .before .before .before .before .before .before .before .before .before .args .line) y) (c .before .before .before .before .linear-product .ensures)
+returns-2 c =
+    let c9 = c .before .before .before .before .before .before .before .before .before in
+    let start = c9 .before .before .before .before .before .before .before in
+    whole-line (start .args .a .now) (start .pre) refl (c9 .keep .ensures)
+    (λ y. linearProduct (λ x. productOf 0 (start .args .limits) x (constantBlock (start .args .line .c)))
+    (start .args .limits) (start .args .line) y) (c .before .before .before .before .linear-product .ensures)
 
 line-to-requires : tie.Need-line-to-requires
 line-to-requires c κs = ((c .before .before .before .before .before .before) .pre .raises, big (c .before))
 
 returns-3 : tie.Need-returns-3
-returns-3 c = line-scaled (c .before .before .before .before .before .before .before .before .before .args .limits) (c .before .before .before .before .before .before .before .before .before .args .line) (block (c .before .before .before .before .before .before .before .before .before .args .n) (c .before .before .before .before .before .before .before .before .before .args .a .now)) (c .before .before .before .before .before .if1 .left) (tests (c .before .before .before .before) .1) (big (c .before .before .before .before)) (c .before .before .line-to .ensures)
+returns-3 c =
+    let c4 = c .before .before .before .before in let start = c4 .before .before .before .before .before in
+    line-scaled (start .args .limits) (start .args .line) (block (start .args .n) (start .args .a .now))
+    (c .before .before .before .before .before .if1 .left) (tests c4 .1) (big c4)
+    (c .before .before .line-to .ensures)
 
 pub line-whole-spec : {M : Type 1} → statement M
 line-whole-spec =
     tie.close
     (tie.spec
-    raise-to-requires
-    (λ c. search needs)
-    returns
-    (λ c κs. search needs)
-    linear-product-requires
-    (λ c. search needs)
-    (λ c. search needs)
-    returns-2
-    line-to-requires
-    (λ c. search needs)
-    returns-3)
+    raise-to-requires (λ c. search needs) returns (λ c κs. search needs) linear-product-requires (λ c. search needs)
+    (λ c. search needs) returns-2 line-to-requires (λ c. search needs) returns-3)

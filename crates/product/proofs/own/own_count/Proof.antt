@@ -10,23 +10,50 @@ use borrow.Author.Needs.{needs}
 use Rattle.product.proofs.own.own_count.Statement.{statement}
 use Rattle.product.proofs.own.own_count.Tie as tie
 
-tested : (c : tie.Else1) → ((c .before .before .is-good .result && c .before .keeps-header .result) && eqb (c .before .before .before .before .before .args .bh % 2 ^ 13) 0) ≡ true
+tested : (c : tie.Else1)
+    → ((c .before .before .is-good .result && c .before .keeps-header .result)
+    && eqb (c .before .before .before .before .before .args .bh % 2 ^ 13) 0) ≡ true
 tested c = not-false _ (rw (and-mask (c .before .before .before .before .before .args .bh) 13) at (c .if1 .left))
 
 returns : tie.Need-returns
 returns c = λ z. absurd (z refl)
 
 stored-of-requires : tie.Need-stored-of-requires
-stored-of-requires c κs = tested-good (c .before .before .before .before .before .args .ah) (c .before .before .before .before .before .args .am) (c .before .before .before .before .before .args .bh) (c .before .before .before .before .before .args .bm) (c .before .before .before .before .before .args .lent) (c .before .before .before .before .before .args .scratch) (c .before .before .before .before .header-of .ensures) (c .before .before .before .header-of2 .ensures) (c .before .before .is-good .ensures) (c .before .keeps-header .ensures) (tested (c)) .regular .rules
+stored-of-requires c κs =
+    let start = c .before .before .before .before .before in
+    tested-good (start .args .ah) (start .args .am) (start .args .bh) (start .args .bm) (start .args .lent)
+    (start .args .scratch) (c .before .before .before .before .header-of .ensures)
+    (c .before .before .before .header-of2 .ensures) (c .before .before .is-good .ensures)
+    (c .before .keeps-header .ensures) (tested c) .regular .rules
 
 stored-of-requires-2 : tie.Need-stored-of-requires-2
-stored-of-requires-2 c κs = tested-ruled (c .before .before .before .before .before .before .args .ah) (c .before .before .before .before .before .before .args .am) (c .before .before .before .before .before .before .args .bh) (c .before .before .before .before .before .before .args .bm) (c .before .before .before .before .before .before .args .lent) (c .before .before .before .before .before .before .args .scratch) (c .before .before .before .before .before .header-of .ensures) (c .before .before .before .before .header-of2 .ensures) (c .before .before .before .is-good .ensures) (c .before .before .keeps-header .ensures) (tested (c .before))
+stored-of-requires-2 c κs =
+    let start = c .before .before .before .before .before .before in
+    tested-ruled (start .args .ah) (start .args .am) (start .args .bh) (start .args .bm) (start .args .lent)
+    (start .args .scratch) (c .before .before .before .before .before .header-of .ensures)
+    (c .before .before .before .before .header-of2 .ensures) (c .before .before .before .is-good .ensures)
+    (c .before .before .keeps-header .ensures) (tested (c .before))
 
 mul-if2 : tie.Need-mul-if2
-mul-if2 c = let m = tested-good (c .before .before .before .before .before .before .before .args .ah) (c .before .before .before .before .before .before .before .args .am) (c .before .before .before .before .before .before .before .args .bh) (c .before .before .before .before .before .before .before .args .bm) (c .before .before .before .before .before .before .before .args .lent) (c .before .before .before .before .before .before .before .args .scratch) (c .before .before .before .before .before .before .header-of .ensures) (c .before .before .before .before .before .header-of2 .ensures) (c .before .before .before .before .is-good .ensures) (c .before .before .before .keeps-header .ensures) (tested (c .before .before)) .most in omega (arith, m, c .before .stored-of .ensures)
+mul-if2 c =
+    let start = c .before .before .before .before .before .before .before in
+    let m =
+    tested-good (start .args .ah) (start .args .am) (start .args .bh) (start .args .bm) (start .args .lent)
+    (start .args .scratch) (c .before .before .before .before .before .before .header-of .ensures)
+    (c .before .before .before .before .before .header-of2 .ensures)
+    (c .before .before .before .before .is-good .ensures) (c .before .before .before .keeps-header .ensures)
+    (tested (c .before .before)) .most in
+    omega (arith, m, c .before .stored-of .ensures)
 
 returns-2 : tie.Need-returns-2
-returns-2 c = λ z. tested-owns (c .before .before .before .before .before .before .before .before .args .ah) (c .before .before .before .before .before .before .before .before .args .am) (c .before .before .before .before .before .before .before .before .args .bh) (c .before .before .before .before .before .before .before .before .args .bm) (c .before .before .before .before .before .before .before .before .args .lent) (c .before .before .before .before .before .before .before .before .args .scratch) (c .before .before .before .before .before .before .before .header-of .ensures) (c .before .before .before .before .before .before .header-of2 .ensures) (c .before .before .before .before .before .is-good .ensures) (c .before .before .before .before .keeps-header .ensures) (tested (c .before .before .before)) (c .before .before .stored-of .ensures) (c .before .stored-of2 .ensures) (c .if2 .taken)
+returns-2 c =
+    let start = c .before .before .before .before .before .before .before .before in
+    λ z. tested-owns (start .args .ah) (start .args .am) (start .args .bh) (start .args .bm) (start .args .lent)
+    (start .args .scratch) (c .before .before .before .before .before .before .before .header-of .ensures)
+    (c .before .before .before .before .before .before .header-of2 .ensures)
+    (c .before .before .before .before .before .is-good .ensures)
+    (c .before .before .before .before .keeps-header .ensures) (tested (c .before .before .before))
+    (c .before .before .stored-of .ensures) (c .before .stored-of2 .ensures) (c .if2 .taken)
 
 returns-3 : tie.Need-returns-3
 returns-3 c = λ z. absurd (z refl)
@@ -35,13 +62,5 @@ pub own-count-spec : {M : Type 1} → statement M
 own-count-spec =
     tie.close
     (tie.spec
-    (λ c κs. search needs)
-    (λ c κs. search needs)
-    (λ c κs. search needs)
-    (λ c κs. search needs)
-    returns
-    stored-of-requires
-    stored-of-requires-2
-    mul-if2
-    returns-2
-    returns-3)
+    (λ c κs. search needs) (λ c κs. search needs) (λ c κs. search needs) (λ c κs. search needs) returns
+    stored-of-requires stored-of-requires-2 mul-if2 returns-2 returns-3)

@@ -14,8 +14,12 @@ Inv-loop xs mx tx nx ys my ty ny n s res₀ k₀ res k = (k ≤ n) × Filled (k 
 abbrev μ-loop : tie.MeasureT-loop
 μ-loop xs mx tx nx ys my ty ny n s res₀ k₀ res k = n - k
 
-fits : (c : tie.In-loop Inv-loop μ-loop) → c .before .loop .k * (c .before .before .before .before .before) .args .s + (c .before .before .before .before .before) .args .s ≤ length (c .before .loop .res)
-fits c = omega (arith, row-there ((c .before .before .before .before .before) .args .s) (c .loop-test .taken) ((c .before .before .before .before .before) .pre .full), c .before .loop .inv .1 .len)
+fits : (c : tie.In-loop Inv-loop μ-loop) →
+    let start = c .before .before .before .before .before in
+    c .before .loop .k * start .args .s + start .args .s ≤ length (c .before .loop .res)
+fits c =
+    let start = c .before .before .before .before .before in
+    omega (arith, row-there (start .args .s) (c .loop-test .taken) (start .pre .full), c .before .loop .inv .1 .len)
 
 loop-holds : tie.Need-loop-holds Inv-loop μ-loop
 loop-holds c = (omega arith, row-none ((c .before .before .before) .args .s))
@@ -46,31 +50,38 @@ part-each-line-end c = omega (arith, fits (c .before .before))
 
 each-line-requires : tie.Need-each-line-requires Inv-loop μ-loop
 each-line-requires c κs =
-    let e : c .before .before .before .before .loop .k * (c .before .before .before .before .before .before .before .before) .args .s + (c .before .before .before .before .before .before .before .before) .args .s - c .before .before .before .before .loop .k * (c .before .before .before .before .before .before .before .before) .args .s ≡ (c .before .before .before .before .before .before .before .before) .args .s = omega arith in
-    lining-of ((c .before .before .before .before .before .before .before .before) .pre) (c .before .before .before .loop-test .taken) (c .before .before .from .ensures) (c .before .upto .ensures) e (c .before .before .before .before .loop .res)
+    let c4 = c .before .before .before .before in let start = c4 .before .before .before .before in
+    let e : c4 .loop .k * start .args .s + start .args .s - c4 .loop .k * start .args .s ≡ start .args .s = omega arith in
+    lining-of (start .pre) (c .before .before .before .loop-test .taken) (c .before .before .from .ensures) (c .before .upto .ensures) e (c4 .loop .res)
 
 add-k : tie.Need-add-k Inv-loop μ-loop
-add-k c = omega (arith, (c .before .before .before .before .before .before .before .before .before .before .before) .pre .many, c .before .before .before .before .before .before .loop-test .taken)
+add-k c =
+    let start = c .before .before .before .before .before .before .before .before .before .before .before in
+    omega (arith, start .pre .many, c .before .before .before .before .before .before .loop-test .taken)
 
 loop-less : tie.Need-loop-less Inv-loop μ-loop
 loop-less c = omega (arith, c .before .before .before .before .before .before .loop-test .taken)
 
 loop-again : tie.Need-loop-again Inv-loop μ-loop
 loop-again c =
-    let a = (c .before .before .before .before .before .before .before .before .before .before .before) .args in
-    let l = c .before .before .before .before .before .before .before .loop in
-    let e : c .before .before .before .before .before .before .before .loop .k * (c .before .before .before .before .before .before .before .before .before .before .before) .args .s + (c .before .before .before .before .before .before .before .before .before .before .before) .args .s - c .before .before .before .before .before .before .before .loop .k * (c .before .before .before .before .before .before .before .before .before .before .before) .args .s ≡ (c .before .before .before .before .before .before .before .before .before .before .before) .args .s = omega arith in
-    (omega (arith, c .before .before .before .before .before .before .loop-test .taken), plane-next (a .xs .now) (a .mx) (a .tx) (a .nx) (a .ys .now) (a .my) (a .ty) (a .ny) (a .s) (l .k) (l .inv .1) (c .before .before .before .before .before .from .ensures) (c .before .before .before .before .upto .ensures) e (row-there (a .s) (c .before .before .before .before .before .before .loop-test .taken) ((c .before .before .before .before .before .before .before .before .before .before .before) .pre .full)) (c .before .before .each-line .ensures))
+    let c6 = c .before .before .before .before .before .before in let c7 = c6 .before in
+    let start = c7 .before .before .before .before in let a = start .args in let l = c7 .loop in
+    let e : c7 .loop .k * start .args .s + start .args .s - c7 .loop .k * start .args .s ≡ start .args .s = omega arith in (
+      omega (arith, c6 .loop-test .taken),
+      plane-next (a .xs .now) (a .mx) (a .tx) (a .nx) (a .ys .now) (a .my) (a .ty) (a .ny) (a .s) (l .k) (l .inv .1)
+          (c .before .before .before .before .before .from .ensures)
+          (c .before .before .before .before .upto .ensures) e
+          (row-there (a .s) (c6 .loop-test .taken) (start .pre .full)) (c .before .before .each-line .ensures),
+    )
 
 same-length : tie.Need-same-length Inv-loop μ-loop
 same-length c = c .before .loop .inv .1 .len
 
 returns : tie.Need-returns Inv-loop μ-loop
 returns c =
-    let a = (c .before .before .before .before .before) .args in
-    let l = c .before .loop in
+    let start = c .before .before .before .before .before in let a = start .args in let l = c .before .loop in
     let e : l .k ≡ a .n = omega (arith, l .inv .0, c .loop-test .left) in
-    plane-end (a .xs .now) (a .mx) (a .tx) (a .nx) (a .ys .now) (a .my) (a .ty) (a .ny) (a .s) (l .k) (l .inv .1) (rw e ((c .before .before .before .before .before) .pre .full))
+    plane-end (a .xs .now) (a .mx) (a .tx) (a .nx) (a .ys .now) (a .my) (a .ty) (a .ny) (a .s) (l .k) (l .inv .1) (rw e (start .pre .full))
 
 pub plane-spec : {M : Type 1} → statement M
 plane-spec =
@@ -78,18 +89,5 @@ plane-spec =
     (tie.spec
     Inv-loop
     μ-loop
-    loop-holds
-    mul-at
-    from-requires
-    upto-requires
-    add-each-line
-    mul-each-line
-    sub-each-line
-    part-each-line-start
-    part-each-line-end
-    each-line-requires
-    add-k
-    loop-less
-    loop-again
-    same-length
-    returns)
+    loop-holds mul-at from-requires upto-requires add-each-line mul-each-line sub-each-line part-each-line-start
+    part-each-line-end each-line-requires add-k loop-less loop-again same-length returns)

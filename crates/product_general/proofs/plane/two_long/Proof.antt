@@ -68,32 +68,16 @@ same-length c = ap length (c .before .before .plane .ensures) ∙ length-table _
 
 returns : tie.Need-returns
 returns c =
-    let a = (c .before .before .before .before .before .before .before) .args in
-    let p = (c .before .before .before .before .before .before .before) .pre in
-    let h = p .1 .1 .0 .some in
-    rows-plane (a .t2) (a .t5) (a .t7) (p .0 .result) (p .1 .1 .0) (p .1 .1 .1) (a .xs .now) (a .ys .now) (a .res .now) (stride-at (a .t2) (p .0 .by-x) h) (stride-at (a .t5) (p .0 .by-y) h) (stride-at (a .t7) (p .0 .by-r) h) (p .1 .0 .full) (c .before .before .plane .ensures)
+    let start = c .before .before .before .before .before .before .before in let a = start .args in
+    let p = start .pre in let h = p .1 .1 .0 .some in
+    rows-plane (a .t2) (a .t5) (a .t7) (p .0 .result) (p .1 .1 .0) (p .1 .1 .1) (a .xs .now) (a .ys .now) (a .res .now)
+    (stride-at (a .t2) (p .0 .by-x) h) (stride-at (a .t5) (p .0 .by-y) h) (stride-at (a .t7) (p .0 .by-r) h)
+    (p .1 .0 .full) (c .before .before .plane .ensures)
 
 pub two-long-spec : {M : Type 1} → statement M
 two-long-spec =
     tie.close
     (tie.spec
-    add-w
-    mul-plane
-    array-read-plane
-    mul-plane-2
-    array-read-plane-2
-    mul-plane-3
-    array-read-plane-3
-    mul-plane-4
-    array-read-plane-4
-    mul-plane-5
-    array-read-plane-5
-    mul-plane-6
-    array-read-plane-6
-    mul-plane-7
-    array-read-plane-7
-    mul-plane-8
-    array-read-plane-8
-    plane-requires
-    same-length
-    returns)
+    add-w mul-plane array-read-plane mul-plane-2 array-read-plane-2 mul-plane-3 array-read-plane-3 mul-plane-4
+    array-read-plane-4 mul-plane-5 array-read-plane-5 mul-plane-6 array-read-plane-6 mul-plane-7 array-read-plane-7
+    mul-plane-8 array-read-plane-8 plane-requires same-length returns)

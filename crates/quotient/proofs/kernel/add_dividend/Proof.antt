@@ -11,7 +11,9 @@ array-read-if1 : tie.Need-array-read-if1
 array-read-if1 c = lit< tt
 
 returns : tie.Need-returns
-returns c = row-kept (c .before .before .before .args .xs .now) ((c .before .before .before) .pre) (c .if1 .taken) (c .before .before .before .args .row .now) refl
+returns c =
+    let start = c .before .before .before in
+    row-kept (start .args .xs .now) (start .pre) (c .if1 .taken) (start .args .row .now) refl
 
 array-read-from : tie.Need-array-read-from
 array-read-from c = lit< tt
@@ -47,32 +49,27 @@ part-join-block-start : tie.Need-part-join-block-start
 part-join-block-start c = omega (arith, dividend-in ((c .before .before .before .before) .pre) (omega (arith, c .before .if1 .left)) (c .count-of .ensures))
 
 join-block-requires : tie.Need-join-block-requires
-join-block-requires c κs = adding-row ((c .before .before .before .before .before .before) .pre) (omega (arith, c .before .before .before .if1 .left)) (c .before .before .count-of .ensures) (simp (length-take, length-drop) (omega arith)) refl
+join-block-requires c κs =
+    adding-row ((c .before .before .before .before .before .before) .pre)
+    (omega (arith, c .before .before .before .if1 .left)) (c .before .before .count-of .ensures)
+    (simp (length-take, length-drop) (omega arith)) refl
 
 same-length : tie.Need-same-length
-same-length c = ap length (c .before .before .join-block .ensures) ∙ (length-table _ _ ∙ (row-count (c .before .before .before .before .before .before .before .before .before .args .t3) ∙ sym ((c .before .before .before .before .before .before .before .before .before) .pre .row)))
+same-length c =
+    let start = c .before .before .before .before .before .before .before .before .before in
+    ap length (c .before .before .join-block .ensures) ∙ (length-table _ _ ∙ (row-count (start .args .t3) ∙ sym (start .pre .row)))
 
 returns-2 : tie.Need-returns-2
-returns-2 c = row-added (c .before .before .before .before .before .before .before .before .before .args .xs .now) ((c .before .before .before .before .before .before .before .before .before) .pre) (omega (arith, c .before .before .before .before .before .before .if1 .left)) (c .before .before .before .before .before .before .before .before .before .args .row .now) (c .before .before .before .before .before .count-of .ensures) (c .before .before .join-block .ensures)
+returns-2 c =
+    let start = c .before .before .before .before .before .before .before .before .before in
+    row-added (start .args .xs .now) (start .pre)
+    (omega (arith, c .before .before .before .before .before .before .if1 .left)) (start .args .row .now)
+    (c .before .before .before .before .before .count-of .ensures) (c .before .before .join-block .ensures)
 
 pub add-dividend-spec : {M : Type 1} → statement M
 add-dividend-spec =
     tie.close
     (tie.spec
-    array-read-if1
-    returns
-    array-read-from
-    array-read-join-block
-    array-read-t22
-    array-read-from-2
-    array-read-t22-2
-    array-read-join-block-2
-    count-of-requires
-    mul-from
-    mul-join-block
-    sub-join-block
-    part-join-block-start
-    (λ c. omega arith)
-    join-block-requires
-    same-length
-    returns-2)
+    array-read-if1 returns array-read-from array-read-join-block array-read-t22 array-read-from-2 array-read-t22-2
+    array-read-join-block-2 count-of-requires mul-from mul-join-block sub-join-block part-join-block-start
+    (λ c. omega arith) join-block-requires same-length returns-2)

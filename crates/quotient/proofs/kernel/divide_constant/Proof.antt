@@ -10,7 +10,9 @@ same-length : tie.Need-same-length
 same-length c = c .before .before .copy .kept .1 .0
 
 returns : tie.Need-returns
-returns c = rw (c .before .before .before .before .if1 .taken, c .before .before .copy .ensures, (c .before .before .before .before .before .before .before) .pre) (take-length (c .before .before .before .before .before .before .before .args .a .now))
+returns c =
+    let start = c .before .before .before .before .before .before .before in
+    rw (c .before .before .before .before .if1 .taken, c .before .before .copy .ensures, start .pre) (take-length (start .args .a .now))
 
 divide-by-requires : tie.Need-divide-by-requires
 divide-by-requires c κs = (c .before .before .before .before) .pre
@@ -22,6 +24,4 @@ returns-2 : tie.Need-returns-2
 returns-2 c = rw (c .before .before .before .before .if1 .left) (c .before .before .divide-by .ensures)
 
 pub divide-constant-spec : {M : Type 1} → statement M
-divide-constant-spec =
-    tie.close
-    (tie.spec copy-requires same-length returns divide-by-requires same-length-2 returns-2)
+divide-constant-spec = tie.close (tie.spec copy-requires same-length returns divide-by-requires same-length-2 returns-2)

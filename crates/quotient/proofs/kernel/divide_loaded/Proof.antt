@@ -1,18 +1,12 @@
 use native.Mathlib.Omega.{arith}
-use mathlib.Core.Path.{_≡_, refl, sym, ap, _∙_}
-use Prim.Native.Nat.{_≤_, _<_}
-use lib.ListN.{length}
+use mathlib.Core.Path.{sym, _∙_}
 use lib.Seq.{length-take-le}
 use borrow.Author.Tests.{eq-eqb, ne-eqb}
-use Rattle.quotient.specs.Room.{Recurring, loadedQuotient}
+use Rattle.quotient.specs.Room.{loadedQuotient}
 use Rattle.quotient.specs.Into.{recurring-fits}
 use borrow.Author.Needs.{needs}
 use Rattle.quotient.proofs.kernel.divide_loaded.Statement.{statement}
 use Rattle.quotient.proofs.kernel.divide_loaded.Tie as tie
-use Rattle.quotient.proofs.kernel.divide_loaded.Reads as reads
-use Rattle.quotient.proofs.kernel.divide_loaded.Lts as lts
-use Rattle.quotient.proofs.kernel.divide_constant.Reads as divide-constant-reads
-use Rattle.quotient.proofs.kernel.recur.Reads as recur-reads
 
 slice-read-divide-constant : tie.Need-slice-read-divide-constant
 slice-read-divide-constant c = omega (arith, recurring-fits (c .before .before .before .before .pre .0) .1)
@@ -24,7 +18,9 @@ slice-aggregate-divide-constant : tie.Need-slice-aggregate-divide-constant
 slice-aggregate-divide-constant c = sym (length-take-le _ _ (recurring-fits (c .before .before .before .before .before .pre .0) .0))
 
 divide-constant-requires : tie.Need-divide-constant-requires
-divide-constant-requires c κs = c .before .before .before .before .before .before .pre .1 (c .before .before .before .if1 .taken) ∙ sym (length-take-le _ _ (recurring-fits (c .before .before .before .before .before .before .pre .0) .0))
+divide-constant-requires c κs =
+    let start = c .before .before .before .before .before .before in
+    start .pre .1 (c .before .before .before .if1 .taken) ∙ sym (length-take-le _ _ (recurring-fits (start .pre .0) .0))
 
 returns : tie.Need-returns
 unfolding loadedQuotient
@@ -38,15 +34,6 @@ pub divide-loaded-spec : {M : Type 1} → statement M
 divide-loaded-spec =
     tie.close
     (tie.spec
-    (λ c. search needs)
-    slice-read-divide-constant
-    slice-reshare-prefix-divide-constant
-    slice-aggregate-divide-constant
-    divide-constant-requires
-    (λ c. search needs)
-    (λ c. search needs)
-    returns
-    (λ c κs. search needs)
-    (λ c. search needs)
-    (λ c. search needs)
-    returns-2)
+    (λ c. search needs) slice-read-divide-constant slice-reshare-prefix-divide-constant slice-aggregate-divide-constant
+    divide-constant-requires (λ c. search needs) (λ c. search needs) returns (λ c κs. search needs) (λ c. search needs)
+    (λ c. search needs) returns-2)

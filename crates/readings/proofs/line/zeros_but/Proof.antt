@@ -19,13 +19,19 @@ loop-holds : tie.Need-loop-holds Inv-loop μ-loop
 loop-holds c = (omega arith, zeros-none (c .args .a .now) (c .args .s))
 
 returns : tie.Need-returns Inv-loop μ-loop
-returns c = sym (zeros-stop ((c .before .before .before .before) .args .a .now) ((c .before .before .before .before) .args .s) (c .before .before .before .loop .k) _ (c .before .before .before .loop .inv .1) (not-true _ (c .if1 .taken)) (omega arith))
+returns c =
+    let c3 = c .before .before .before in let start = c3 .before in
+    sym (zeros-stop (start .args .a .now) (start .args .s) (c3 .loop .k) _ (c3 .loop .inv .1) (not-true _ (c .if1 .taken)) (omega arith))
 
 loop-again : tie.Need-loop-again Inv-loop μ-loop
-loop-again c = (omega arith, zeros-more ((c .before .before .before .before) .args .a .now) ((c .before .before .before .before) .args .s) (c .before .before .before .loop .k) (c .before .before .before .loop .inv .1) (not-false _ (c .if1 .left)))
+loop-again c =
+    let c3 = c .before .before .before in let start = c3 .before in
+    (omega arith, zeros-more (start .args .a .now) (start .args .s) (c3 .loop .k) (c3 .loop .inv .1) (not-false _ (c .if1 .left)))
 
 returns-2 : tie.Need-returns-2 Inv-loop μ-loop
-returns-2 c = let e : c .before .loop .k ≡ length ((c .before .before) .args .a .now) = omega (arith, c .before .loop .inv .0) in sym (c .before .loop .inv .1) ∙ ap (zerosBut ((c .before .before) .args .a .now) ((c .before .before) .args .s)) e
+returns-2 c = let e : c .before .loop .k ≡ length ((c .before .before) .args .a .now) =
+    omega (arith, c .before .loop .inv .0) in
+    sym (c .before .loop .inv .1) ∙ ap (zerosBut ((c .before .before) .args .a .now) ((c .before .before) .args .s)) e
 
 pub zeros-but-spec : {M : Type 1} → statement M
 zeros-but-spec =
@@ -33,11 +39,4 @@ zeros-but-spec =
     (tie.spec
     Inv-loop
     μ-loop
-    loop-holds
-    (λ c. omega arith)
-    (λ c. omega arith)
-    returns
-    (λ c. omega arith)
-    (λ c. omega arith)
-    loop-again
-    returns-2)
+    loop-holds (λ c. omega arith) (λ c. omega arith) returns (λ c. omega arith) (λ c. omega arith) loop-again returns-2)

@@ -1,5 +1,5 @@
 use native.Mathlib.Omega.{arith}
-use mathlib.Core.Path.{_≡_, refl, sym, ap, _∙_}
+use mathlib.Core.Path.{_≡_, ap, _∙_}
 use Prim.Native.Nat.{ℕ, _-_, _≤_}
 use mathlib.Core.List.{List}
 use lib.ListN.{length}
@@ -9,10 +9,6 @@ use Rattle.recipes_check.specs.Counts.{word-ruled}
 use Rattle.recipes.specs.Standing.{Begun, Starting, starting-none, starting-fits, starting-more}
 use Rattle.recipes.proofs.running.note_starts.Statement.{statement}
 use Rattle.recipes.proofs.running.note_starts.Tie as tie
-use Rattle.recipes.proofs.running.note_starts.Reads as reads
-use Rattle.recipes.proofs.running.note_starts.Lts as lts
-use Rattle.gates.proofs.stored_of.Reads as stored-of-reads
-use Rattle.shape_words.proofs.word.header_of.Reads as header-of-reads
 
 abbrev Inv-loop : tie.InvT-loop
 Inv-loop headers starts₀ from₀ i₀ starts from i = Starting headers starts₀ starts from i
@@ -27,19 +23,33 @@ loop-holds : tie.Need-loop-holds Inv-loop μ-loop
 loop-holds c = starting-none
 
 mul-starts : tie.Need-mul-starts Inv-loop μ-loop
-mul-starts c = omega (arith, c .before .before .before .before .pre .1, c .before .loop .inv .begun .len, c .before .before .before .before .good)
+mul-starts c =
+    let start = c .before .before .before .before in
+    omega (arith, start .pre .1, c .before .loop .inv .begun .len, start .good)
 
 slice-write-starts : tie.Need-slice-write-starts Inv-loop μ-loop
 slice-write-starts c = omega (arith, c .before .before .before .before .pre .1, c .before .loop .inv .begun .len)
 
 stored-of-requires : tie.Need-stored-of-requires Inv-loop μ-loop
-stored-of-requires c κs = rw (c .header-of .ensures) (word-ruled (c .before .before .before .before .before .before .args .headers .now) (c .before .before .before .before .before .before .pre .0) (c .before .before .before .loop .i))
+stored-of-requires c κs =
+    let start = c .before .before .before .before .before .before in
+    rw (c .header-of .ensures) (word-ruled (start .args .headers .now) (start .pre .0) (c .before .before .before .loop .i))
 
 add-from : tie.Need-add-from Inv-loop μ-loop
-add-from c = record { fits = starting-fits (c .before .before .before .before .loop .inv) (c .before .before .before .before .before .before .before .pre .0) (c .stored-of .ensures ∙ ap stored (c .before .header-of .ensures)) (c .before .before .before .before .before .before .before .pre .1 .1) }
+add-from c =
+    let start = c .before .before .before .before .before .before .before in
+    record {
+      fits =
+          starting-fits (c .before .before .before .before .loop .inv) (start .pre .0)
+          (c .stored-of .ensures ∙ ap stored (c .before .header-of .ensures)) (start .pre .1 .1);
+    }
 
 loop-again : tie.Need-loop-again Inv-loop μ-loop
-loop-again c = starting-more (c .before .before .before .before .loop .inv) (c .before .before .before .before .before .before .before .pre .0) (c .stored-of .ensures ∙ ap stored (c .before .header-of .ensures)) (c .before .before .before .loop-test .taken) (c .before .before .before .before .before .before .before .pre .1 .0)
+loop-again c =
+    let start = c .before .before .before .before .before .before .before in
+    starting-more (c .before .before .before .before .loop .inv) (start .pre .0)
+    (c .stored-of .ensures ∙ ap stored (c .before .header-of .ensures))
+    (c .before .before .before .loop-test .taken) (start .pre .1 .0)
 
 same-length : tie.Need-same-length Inv-loop μ-loop
 same-length c = c .before .loop .inv .begun .len
@@ -53,16 +63,5 @@ note-starts-spec =
     (tie.spec
     Inv-loop
     μ-loop
-    loop-holds
-    mul-starts
-    slice-write-starts
-    (λ c. search needs)
-    (λ c. search needs)
-    (λ c κs. search needs)
-    stored-of-requires
-    add-from
-    (λ c. search needs)
-    (λ c. search needs)
-    loop-again
-    same-length
-    returns)
+    loop-holds mul-starts slice-write-starts (λ c. search needs) (λ c. search needs) (λ c κs. search needs)
+    stored-of-requires add-from (λ c. search needs) (λ c. search needs) loop-again same-length returns)

@@ -22,6 +22,4 @@ returns-2 : tie.Need-returns-2
 returns-2 c = simp (sym (c .before .is-shift .ensures) ∙ c .if1 .left)
 
 pub below-limit-spec : {M : Type 1} → statement M
-below-limit-spec =
-    tie.close
-    (tie.spec is-shift-requires cast-result mul-result array-read-result returns returns-2)
+below-limit-spec = tie.close (tie.spec is-shift-requires cast-result mul-result array-read-result returns returns-2)

@@ -10,17 +10,15 @@ uses-of-requires : tie.Need-uses-of-requires
 uses-of-requires c κs = rw (ap (λ (s : Step). s .kind) (c .step-of .ensures)) (small-kind _)
 
 returns : tie.Need-returns
-returns c = formed-is _ _ (c .before .before .before .before .before .before .before .step-of .ensures) (c .before .before .before .before .before .before .uses-of .ensures) (c .before .before .before .before .before .is-named .ensures) (c .before .before .before .is-named2 .ensures) (c .before .before .is-zero-unless .ensures) (c .is-zero-unless2 .ensures)
+returns c =
+    formed-is _ _ (c .before .before .before .before .before .before .before .step-of .ensures)
+    (c .before .before .before .before .before .before .uses-of .ensures)
+    (c .before .before .before .before .before .is-named .ensures) (c .before .before .before .is-named2 .ensures)
+    (c .before .before .is-zero-unless .ensures) (c .is-zero-unless2 .ensures)
 
 pub is-formed-spec : {M : Type 1} → statement M
 is-formed-spec =
     tie.close
     (tie.spec
-    (λ c κs. search needs)
-    uses-of-requires
-    (λ c κs. search needs)
-    (λ c κs. search needs)
-    (λ c κs. search needs)
-    (λ c. search needs)
-    (λ c κs. search needs)
-    returns)
+    (λ c κs. search needs) uses-of-requires (λ c κs. search needs) (λ c κs. search needs) (λ c κs. search needs)
+    (λ c. search needs) (λ c κs. search needs) returns)

@@ -10,7 +10,14 @@ cast-t16 c = record { fits = simp (and-mask (c .args .word / 2 ^ 14) 32) (omega 
 
 returns : tie.Need-returns
 unfolding stepOf
-returns c = let w = c .args .word in simp (and-mask (w / 2 ^ 60) 4, and-mask (w / 2 ^ 54) 6, and-mask (w / 2 ^ 48) 6, and-mask (w / 2 ^ 46) 2, and-mask (w / 2 ^ 14) 32)
+returns c = let w = c .args .word in
+    simp (
+      and-mask (w / 2 ^ 60) 4,
+      and-mask (w / 2 ^ 54) 6,
+      and-mask (w / 2 ^ 48) 6,
+      and-mask (w / 2 ^ 46) 2,
+      and-mask (w / 2 ^ 14) 32,
+    )
 
 pub step-of-spec : {M : Type 1} → statement M
 step-of-spec = tie.close (tie.spec cast-t16 returns)

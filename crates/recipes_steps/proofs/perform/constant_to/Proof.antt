@@ -1,36 +1,26 @@
-use native.Mathlib.Omega.{arith}
-use mathlib.Core.Path.{_≡_, refl, sym, ap, _∙_}
-use mathlib.Core.List.{List, _++_}
-use Prim.Native.Nat.{ℕ, _+_, _-_, _*_, _≤_, _<_}
-use lib.ListN.{length, take, drop, length-take, length-drop, length-append}
-use lib.Seq.{length-take-le, take-at}
-use lib.Ieee.{Float}
-use Rattle.model.specs.Header.{count, stored}
+use mathlib.Core.Path.{_∙_}
+use Prim.Native.Nat.{_-_}
 use lib.ListN.{length-set}
 use Rattle.model.specs.Constructed.{wholeF}
 use Rattle.recipes_steps.specs.Ready.{constant-kept}
 use borrow.Author.Needs.{needs}
 use Rattle.recipes_steps.proofs.perform.constant_to.Statement.{statement}
 use Rattle.recipes_steps.proofs.perform.constant_to.Tie as tie
-use Rattle.recipes_steps.proofs.perform.constant_to.Reads as reads
-use Rattle.recipes_steps.proofs.perform.constant_to.Lts as lts
-use Rattle.recipes_operands.proofs.pad.Reads as pad-reads
 
 same-length : tie.Need-same-length
-same-length c = c .before .before .pad .kept .0 ∙ length-set (c .before .before .before .before .before .before .args .pool .now) (c .before .before .before .before .before .before .args .at) (wholeF (c .before .before .before .before .before .before .args .n))
+same-length c =
+    let start = c .before .before .before .before .before .before in
+    c .before .before .pad .kept .0 ∙ length-set (start .args .pool .now) (start .args .at) (wholeF (start .args .n))
 
 returns : tie.Need-returns
-returns c = constant-kept (c .before .before .before .before .before .before .args .at) (c .before .before .before .before .before .before .args .room) (c .before .before .before .before .before .before .args .pool .now) (wholeF (c .before .before .before .before .before .before .args .n)) (c .before .before .before .before .before .before .pre .0) (c .before .before .before .before .before .before .pre .1) (c .before .before .pad .ensures)
+returns c =
+    let start = c .before .before .before .before .before .before in
+    constant-kept (start .args .at) (start .args .room) (start .args .pool .now) (wholeF (start .args .n))
+    (start .pre .0) (start .pre .1) (c .before .before .pad .ensures)
 
 pub constant-to-spec : {M : Type 1} → statement M
 constant-to-spec =
     tie.close
     (tie.spec
-    (λ c. search needs)
-    (λ c. search needs)
-    (λ c. search needs)
-    (λ c. search needs)
-    (λ c. search needs)
-    (λ c κs. search needs)
-    same-length
-    returns)
+    (λ c. search needs) (λ c. search needs) (λ c. search needs) (λ c. search needs) (λ c. search needs)
+    (λ c κs. search needs) same-length returns)

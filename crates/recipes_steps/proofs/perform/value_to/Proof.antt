@@ -1,11 +1,6 @@
-use native.Mathlib.Omega.{arith}
-use mathlib.Core.Path.{_≡_, refl, sym, ap, _∙_}
-use mathlib.Core.List.{List, _++_}
-use Prim.Native.Nat.{ℕ, _+_, _-_, _*_, _≤_, _<_}
-use lib.ListN.{length, take, drop, length-take, length-drop, length-append}
-use lib.Seq.{length-take-le, take-at}
-use lib.Ieee.{Float}
-use Rattle.model.specs.Header.{count, stored}
+use mathlib.Core.Path.{ap, _∙_}
+use Prim.Native.Nat.{_-_}
+use lib.ListN.{take}
 use Rattle.model.specs.Refusals.{padded}
 use Rattle.model.specs.Poly.{Poly}
 use Rattle.recipes_operands.specs.Lent.{lying, kept-as}
@@ -13,55 +8,103 @@ use Rattle.recipes_steps.specs.Ready.{to-power, power-value, to-pair, pa
 use borrow.Author.Needs.{needs}
 use Rattle.recipes_steps.proofs.perform.value_to.Statement.{statement}
 use Rattle.recipes_steps.proofs.perform.value_to.Tie as tie
-use Rattle.recipes_steps.proofs.perform.value_to.Reads as reads
-use Rattle.recipes_steps.proofs.perform.value_to.Lts as lts
-use Rattle.recipes_pairs.proofs.pair_to.Reads as pair-to-reads
-use Rattle.recipes_singles.proofs.change_to.Reads as change-to-reads
-use Rattle.recipes_singles.proofs.power_to.Reads as power-to-reads
-use Rattle.recipes_steps.proofs.substitute.substitute_to.Reads as substitute-to-reads
 
 power-to-requires : tie.Need-power-to-requires
-power-to-requires c κs = (to-power (c .before .before .before .before .before .before .pre .0) (c .before .before .if1 .taken), (c .before .before .before .before .before .before .pre .1 .0 .left, c .before .before .before .before .before .before .pre .1 .1))
+power-to-requires c κs =
+    let start = c .before .before .before .before .before .before in
+    (to-power (start .pre .0) (c .before .before .if1 .taken), (start .pre .1 .0 .left, start .pre .1 .1))
 
 returns : tie.Need-returns
-returns c = (c .before .before .before .before .power-to .ensures .0 ∙ ap (λ (p : Poly). p .head) (power-value (c .before .before .before .before .before .before .before .before .before .before .before .pre .0) (c .before .before .before .before .before .before .before .if1 .taken) (lying (c .before .before .before .before .before .before .before .before .before .before .before .args .xi) (c .before .before .before .before .before .before .before .before .before .before .before .args .coefficients .now) (take (c .before .before .before .before .before .before .before .before .before .before .before .args .at) (c .before .before .before .before .before .before .before .before .before .before .before .args .pool .now)) (c .before .before .before .before .before .before .before .before .before .before .before .args .xf) (c .before .before .before .before .before .before .before .before .before .before .before .args .x)) (lying (c .before .before .before .before .before .before .before .before .before .before .before .args .yi) (c .before .before .before .before .before .before .before .before .before .before .before .args .coefficients .now) (take (c .before .before .before .before .before .before .before .before .before .before .before .args .at) (c .before .before .before .before .before .before .before .before .before .before .before .args .pool .now)) (c .before .before .before .before .before .before .before .before .before .before .before .args .yf) (c .before .before .before .before .before .before .before .before .before .before .before .args .y))), kept-as (ap (λ (p : Poly). padded (c .before .before .before .before .before .before .before .before .before .before .before .args .n) (p .coeffs)) (power-value (c .before .before .before .before .before .before .before .before .before .before .before .pre .0) (c .before .before .before .before .before .before .before .if1 .taken) (lying (c .before .before .before .before .before .before .before .before .before .before .before .args .xi) (c .before .before .before .before .before .before .before .before .before .before .before .args .coefficients .now) (take (c .before .before .before .before .before .before .before .before .before .before .before .args .at) (c .before .before .before .before .before .before .before .before .before .before .before .args .pool .now)) (c .before .before .before .before .before .before .before .before .before .before .before .args .xf) (c .before .before .before .before .before .before .before .before .before .before .before .args .x)) (lying (c .before .before .before .before .before .before .before .before .before .before .before .args .yi) (c .before .before .before .before .before .before .before .before .before .before .before .args .coefficients .now) (take (c .before .before .before .before .before .before .before .before .before .before .before .args .at) (c .before .before .before .before .before .before .before .before .before .before .before .args .pool .now)) (c .before .before .before .before .before .before .before .before .before .before .before .args .yf) (c .before .before .before .before .before .before .before .before .before .before .before .args .y)))) (c .before .before .before .before .power-to .ensures .1))
+returns c =
+    let c4 = c .before .before .before .before in let c7 = c4 .before .before .before in
+    let start = c7 .before .before .before .before in (
+      c4 .power-to .ensures .0 ∙ ap (λ (p : Poly). p .head)
+          (power-value (start .pre .0) (c7 .if1 .taken)
+          (lying (start .args .xi) (start .args .coefficients .now) (take (start .args .at) (start .args .pool .now))
+          (start .args .xf) (start .args .x)) (lying (start .args .yi) (start .args .coefficients .now)
+          (take (start .args .at) (start .args .pool .now)) (start .args .yf) (start .args .y))),
+      kept-as (ap (λ (p : Poly). padded (start .args .n) (p .coeffs))
+          (power-value (start .pre .0) (c7 .if1 .taken)
+          (lying (start .args .xi) (start .args .coefficients .now) (take (start .args .at) (start .args .pool .now))
+          (start .args .xf) (start .args .x)) (lying (start .args .yi) (start .args .coefficients .now)
+          (take (start .args .at) (start .args .pool .now)) (start .args .yf) (start .args .y))))
+          (c4 .power-to .ensures .1),
+    )
 
 pair-to-requires : tie.Need-pair-to-requires
-pair-to-requires c κs = (to-pair (c .before .before .before .before .before .before .before .pre .0) (c .before .before .if2 .taken), (c .before .before .before .before .before .before .before .pre .1 .0 .left, (c .before .before .before .before .before .before .before .pre .1 .0 .right, c .before .before .before .before .before .before .before .pre .1 .1)))
+pair-to-requires c κs =
+    let start = c .before .before .before .before .before .before .before in
+    (to-pair (start .pre .0) (c .before .before .if2 .taken), (start .pre .1 .0 .left, (start .pre .1 .0 .right, start .pre .1 .1)))
 
 returns-2 : tie.Need-returns-2
-returns-2 c = (c .before .before .before .before .pair-to .ensures .0 ∙ ap (λ (p : Poly). p .head) (pair-value (c .before .before .before .before .before .before .before .before .before .before .before .before .pre .0) (c .before .before .before .before .before .before .before .if2 .taken) (lying (c .before .before .before .before .before .before .before .before .before .before .before .before .args .xi) (c .before .before .before .before .before .before .before .before .before .before .before .before .args .coefficients .now) (take (c .before .before .before .before .before .before .before .before .before .before .before .before .args .at) (c .before .before .before .before .before .before .before .before .before .before .before .before .args .pool .now)) (c .before .before .before .before .before .before .before .before .before .before .before .before .args .xf) (c .before .before .before .before .before .before .before .before .before .before .before .before .args .x)) (lying (c .before .before .before .before .before .before .before .before .before .before .before .before .args .yi) (c .before .before .before .before .before .before .before .before .before .before .before .before .args .coefficients .now) (take (c .before .before .before .before .before .before .before .before .before .before .before .before .args .at) (c .before .before .before .before .before .before .before .before .before .before .before .before .args .pool .now)) (c .before .before .before .before .before .before .before .before .before .before .before .before .args .yf) (c .before .before .before .before .before .before .before .before .before .before .before .before .args .y))), kept-as (ap (λ (p : Poly). padded (c .before .before .before .before .before .before .before .before .before .before .before .before .args .n) (p .coeffs)) (pair-value (c .before .before .before .before .before .before .before .before .before .before .before .before .pre .0) (c .before .before .before .before .before .before .before .if2 .taken) (lying (c .before .before .before .before .before .before .before .before .before .before .before .before .args .xi) (c .before .before .before .before .before .before .before .before .before .before .before .before .args .coefficients .now) (take (c .before .before .before .before .before .before .before .before .before .before .before .before .args .at) (c .before .before .before .before .before .before .before .before .before .before .before .before .args .pool .now)) (c .before .before .before .before .before .before .before .before .before .before .before .before .args .xf) (c .before .before .before .before .before .before .before .before .before .before .before .before .args .x)) (lying (c .before .before .before .before .before .before .before .before .before .before .before .before .args .yi) (c .before .before .before .before .before .before .before .before .before .before .before .before .args .coefficients .now) (take (c .before .before .before .before .before .before .before .before .before .before .before .before .args .at) (c .before .before .before .before .before .before .before .before .before .before .before .before .args .pool .now)) (c .before .before .before .before .before .before .before .before .before .before .before .before .args .yf) (c .before .before .before .before .before .before .before .before .before .before .before .before .args .y)))) (c .before .before .before .before .pair-to .ensures .1))
+returns-2 c =
+    let c4 = c .before .before .before .before in let c7 = c4 .before .before .before in
+    let start = c7 .before .before .before .before .before in (
+      c4 .pair-to .ensures .0 ∙ ap (λ (p : Poly). p .head)
+          (pair-value (start .pre .0) (c7 .if2 .taken)
+          (lying (start .args .xi) (start .args .coefficients .now) (take (start .args .at) (start .args .pool .now))
+          (start .args .xf) (start .args .x)) (lying (start .args .yi) (start .args .coefficients .now)
+          (take (start .args .at) (start .args .pool .now)) (start .args .yf) (start .args .y))),
+      kept-as (ap (λ (p : Poly). padded (start .args .n) (p .coeffs))
+          (pair-value (start .pre .0) (c7 .if2 .taken)
+          (lying (start .args .xi) (start .args .coefficients .now) (take (start .args .at) (start .args .pool .now))
+          (start .args .xf) (start .args .x)) (lying (start .args .yi) (start .args .coefficients .now)
+          (take (start .args .at) (start .args .pool .now)) (start .args .yf) (start .args .y))))
+          (c4 .pair-to .ensures .1),
+    )
 
 substitute-to-requires : tie.Need-substitute-to-requires
-substitute-to-requires c κs = (to-substitute (c .before .before .before .before .before .before .before .before .pre .0) (c .before .before .if3 .taken), (c .before .before .before .before .before .before .before .before .pre .1 .0 .left, (c .before .before .before .before .before .before .before .before .pre .1 .0 .right, c .before .before .before .before .before .before .before .before .pre .1 .1)))
+substitute-to-requires c κs =
+    let start = c .before .before .before .before .before .before .before .before in
+    (to-substitute (start .pre .0) (c .before .before .if3 .taken), (start .pre .1 .0 .left, (start .pre .1 .0 .right, start .pre .1 .1)))
 
 returns-3 : tie.Need-returns-3
-returns-3 c = (c .before .before .before .before .substitute-to .ensures .0 ∙ ap (λ (p : Poly). p .head) (substitute-value (c .before .before .before .before .before .before .before .before .before .before .before .before .before .pre .0) (c .before .before .before .before .before .before .before .if3 .taken) (lying (c .before .before .before .before .before .before .before .before .before .before .before .before .before .args .xi) (c .before .before .before .before .before .before .before .before .before .before .before .before .before .args .coefficients .now) (take (c .before .before .before .before .before .before .before .before .before .before .before .before .before .args .at) (c .before .before .before .before .before .before .before .before .before .before .before .before .before .args .pool .now)) (c .before .before .before .before .before .before .before .before .before .before .before .before .before .args .xf) (c .before .before .before .before .before .before .before .before .before .before .before .before .before .args .x)) (lying (c .before .before .before .before .before .before .before .before .before .before .before .before .before .args .yi) (c .before .before .before .before .before .before .before .before .before .before .before .before .before .args .coefficients .now) (take (c .before .before .before .before .before .before .before .before .before .before .before .before .before .args .at) (c .before .before .before .before .before .before .before .before .before .before .before .before .before .args .pool .now)) (c .before .before .before .before .before .before .before .before .before .before .before .before .before .args .yf) (c .before .before .before .before .before .before .before .before .before .before .before .before .before .args .y))), kept-as (ap (λ (p : Poly). padded (c .before .before .before .before .before .before .before .before .before .before .before .before .before .args .n) (p .coeffs)) (substitute-value (c .before .before .before .before .before .before .before .before .before .before .before .before .before .pre .0) (c .before .before .before .before .before .before .before .if3 .taken) (lying (c .before .before .before .before .before .before .before .before .before .before .before .before .before .args .xi) (c .before .before .before .before .before .before .before .before .before .before .before .before .before .args .coefficients .now) (take (c .before .before .before .before .before .before .before .before .before .before .before .before .before .args .at) (c .before .before .before .before .before .before .before .before .before .before .before .before .before .args .pool .now)) (c .before .before .before .before .before .before .before .before .before .before .before .before .before .args .xf) (c .before .before .before .before .before .before .before .before .before .before .before .before .before .args .x)) (lying (c .before .before .before .before .before .before .before .before .before .before .before .before .before .args .yi) (c .before .before .before .before .before .before .before .before .before .before .before .before .before .args .coefficients .now) (take (c .before .before .before .before .before .before .before .before .before .before .before .before .before .args .at) (c .before .before .before .before .before .before .before .before .before .before .before .before .before .args .pool .now)) (c .before .before .before .before .before .before .before .before .before .before .before .before .before .args .yf) (c .before .before .before .before .before .before .before .before .before .before .before .before .before .args .y)))) (c .before .before .before .before .substitute-to .ensures .1))
+returns-3 c =
+    let c4 = c .before .before .before .before in let c7 = c4 .before .before .before in
+    let start = c7 .before .before .before .before .before .before in (
+      c4 .substitute-to .ensures .0 ∙ ap (λ (p : Poly). p .head)
+          (substitute-value (start .pre .0) (c7 .if3 .taken)
+          (lying (start .args .xi) (start .args .coefficients .now) (take (start .args .at) (start .args .pool .now))
+          (start .args .xf) (start .args .x)) (lying (start .args .yi) (start .args .coefficients .now)
+          (take (start .args .at) (start .args .pool .now)) (start .args .yf) (start .args .y))),
+      kept-as (ap (λ (p : Poly). padded (start .args .n) (p .coeffs))
+          (substitute-value (start .pre .0) (c7 .if3 .taken)
+          (lying (start .args .xi) (start .args .coefficients .now) (take (start .args .at) (start .args .pool .now))
+          (start .args .xf) (start .args .x)) (lying (start .args .yi) (start .args .coefficients .now)
+          (take (start .args .at) (start .args .pool .now)) (start .args .yf) (start .args .y))))
+          (c4 .substitute-to .ensures .1),
+    )
 
 change-to-requires : tie.Need-change-to-requires
-change-to-requires c κs = (to-change (c .before .before .before .before .before .before .before .before .before .pre .0) (c .before .before .before .before .before .if1 .left) (c .before .before .before .before .if2 .left) (c .before .before .before .if3 .left), (c .before .before .before .before .before .before .before .before .before .pre .1 .0 .left, c .before .before .before .before .before .before .before .before .before .pre .1 .1))
+change-to-requires c κs =
+    let start = c .before .before .before .before .before .before .before .before .before in (
+      to-change (start .pre .0) (c .before .before .before .before .before .if1 .left)
+          (c .before .before .before .before .if2 .left) (c .before .before .before .if3 .left),
+      (start .pre .1 .0 .left, start .pre .1 .1),
+    )
 
 returns-4 : tie.Need-returns-4
-returns-4 c = (c .before .before .before .before .change-to .ensures .0 ∙ ap (λ (p : Poly). p .head) (change-value (c .before .before .before .before .before .before .before .before .before .before .before .before .before .before .pre .0) (c .before .before .before .before .before .before .before .before .before .before .if1 .left) (c .before .before .before .before .before .before .before .before .before .if2 .left) (c .before .before .before .before .before .before .before .before .if3 .left) (lying (c .before .before .before .before .before .before .before .before .before .before .before .before .before .before .args .xi) (c .before .before .before .before .before .before .before .before .before .before .before .before .before .before .args .coefficients .now) (take (c .before .before .before .before .before .before .before .before .before .before .before .before .before .before .args .at) (c .before .before .before .before .before .before .before .before .before .before .before .before .before .before .args .pool .now)) (c .before .before .before .before .before .before .before .before .before .before .before .before .before .before .args .xf) (c .before .before .before .before .before .before .before .before .before .before .before .before .before .before .args .x)) (lying (c .before .before .before .before .before .before .before .before .before .before .before .before .before .before .args .yi) (c .before .before .before .before .before .before .before .before .before .before .before .before .before .before .args .coefficients .now) (take (c .before .before .before .before .before .before .before .before .before .before .before .before .before .before .args .at) (c .before .before .before .before .before .before .before .before .before .before .before .before .before .before .args .pool .now)) (c .before .before .before .before .before .before .before .before .before .before .before .before .before .before .args .yf) (c .before .before .before .before .before .before .before .before .before .before .before .before .before .before .args .y))), kept-as (ap (λ (p : Poly). padded (c .before .before .before .before .before .before .before .before .before .before .before .before .before .before .args .n) (p .coeffs)) (change-value (c .before .before .before .before .before .before .before .before .before .before .before .before .before .before .pre .0) (c .before .before .before .before .before .before .before .before .before .before .if1 .left) (c .before .before .before .before .before .before .before .before .before .if2 .left) (c .before .before .before .before .before .before .before .before .if3 .left) (lying (c .before .before .before .before .before .before .before .before .before .before .before .before .before .before .args .xi) (c .before .before .before .before .before .before .before .before .before .before .before .before .before .before .args .coefficients .now) (take (c .before .before .before .before .before .before .before .before .before .before .before .before .before .before .args .at) (c .before .before .before .before .before .before .before .before .before .before .before .before .before .before .args .pool .now)) (c .before .before .before .before .before .before .before .before .before .before .before .before .before .before .args .xf) (c .before .before .before .before .before .before .before .before .before .before .before .before .before .before .args .x)) (lying (c .before .before .before .before .before .before .before .before .before .before .before .before .before .before .args .yi) (c .before .before .before .before .before .before .before .before .before .before .before .before .before .before .args .coefficients .now) (take (c .before .before .before .before .before .before .before .before .before .before .before .before .before .before .args .at) (c .before .before .before .before .before .before .before .before .before .before .before .before .before .before .args .pool .now)) (c .before .before .before .before .before .before .before .before .before .before .before .before .before .before .args .yf) (c .before .before .before .before .before .before .before .before .before .before .before .before .before .before .args .y)))) (c .before .before .before .before .change-to .ensures .1))
+returns-4 c =
+    let c4 = c .before .before .before .before in let c8 = c4 .before .before .before .before in let c9 = c8 .before in
+    let c10 = c9 .before in
+    let start = c10 .before .before .before .before in (
+      c4 .change-to .ensures .0 ∙ ap (λ (p : Poly). p .head)
+          (change-value (start .pre .0) (c10 .if1 .left) (c9 .if2 .left) (c8 .if3 .left)
+          (lying (start .args .xi) (start .args .coefficients .now) (take (start .args .at) (start .args .pool .now))
+          (start .args .xf) (start .args .x)) (lying (start .args .yi) (start .args .coefficients .now)
+          (take (start .args .at) (start .args .pool .now)) (start .args .yf) (start .args .y))),
+      kept-as (ap (λ (p : Poly). padded (start .args .n) (p .coeffs))
+          (change-value (start .pre .0) (c10 .if1 .left) (c9 .if2 .left) (c8 .if3 .left)
+          (lying (start .args .xi) (start .args .coefficients .now) (take (start .args .at) (start .args .pool .now))
+          (start .args .xf) (start .args .x)) (lying (start .args .yi) (start .args .coefficients .now)
+          (take (start .args .at) (start .args .pool .now)) (start .args .yf) (start .args .y))))
+          (c4 .change-to .ensures .1),
+    )
 
 pub value-to-spec : {M : Type 1} → statement M
 value-to-spec =
     tie.close
     (tie.spec
-    power-to-requires
-    (λ c. search needs)
-    (λ c. search needs)
-    returns
-    pair-to-requires
-    (λ c. search needs)
-    (λ c. search needs)
-    returns-2
-    substitute-to-requires
-    (λ c. search needs)
-    (λ c. search needs)
-    returns-3
-    (λ c. search needs)
-    change-to-requires
-    (λ c. search needs)
-    (λ c. search needs)
-    returns-4)
+    power-to-requires (λ c. search needs) (λ c. search needs) returns pair-to-requires (λ c. search needs)
+    (λ c. search needs) returns-2 substitute-to-requires (λ c. search needs) (λ c. search needs) returns-3
+    (λ c. search needs) change-to-requires (λ c. search needs) (λ c. search needs) returns-4)

@@ -11,53 +11,82 @@ use Rattle.recipes_steps.specs.Substitute.{plain-0, plain-1, plain-2}
 use borrow.Author.Needs.{needs}
 use Rattle.recipes_steps.proofs.substitute.plain_from.Statement.{statement}
 use Rattle.recipes_steps.proofs.substitute.plain_from.Tie as tie
-use Rattle.recipes_steps.proofs.substitute.plain_from.Reads as reads
-use Rattle.recipes_steps.proofs.substitute.plain_from.Lts as lts
-use Rattle.blocks.proofs.copy.Reads as copy-reads
-use Rattle.gates.proofs.stored_of.Reads as stored-of-reads
-use Rattle.recipes_operands.proofs.operand.Reads as operand-reads
-use Rattle.substitution.proofs.kernel.line_put.Reads as line-put-reads
-use Rattle.substitution.proofs.kernel.zero_put.Reads as zero-put-reads
 
-part-is : (c : tie.After-operand) → c .operand .result .now ≡ take (stored (c .before .before .before .before .before .args .x)) (drop (c .before .before .before .before .before .args .xf) (source (c .before .before .before .before .before .args .xi) (c .before .before .before .before .before .args .coefficients .now) (c .before .before .before .before .before .args .pool .now)))
-part-is c = c .operand .ensures ∙ ap (λ (k : ℕ). take k (drop (c .before .before .before .before .before .args .xf) (source (c .before .before .before .before .before .args .xi) (c .before .before .before .before .before .args .coefficients .now) (c .before .before .before .before .before .args .pool .now)))) (c .before .stored-of .ensures)
+part-is : (c : tie.After-operand) →
+    let start = c .before .before .before .before .before in
+    c .operand .result .now ≡ take (stored (start .args .x))
+    (drop (start .args .xf) (source (start .args .xi) (start .args .coefficients .now) (start .args .pool .now)))
+part-is c =
+    let start = c .before .before .before .before .before in
+    c .operand .ensures
+    ∙ ap (λ (k : ℕ). take k (drop (start .args .xf)
+    (source (start .args .xi) (start .args .coefficients .now) (start .args .pool .now))))
+    (c .before .stored-of .ensures)
 
-full : (c : tie.After-operand) → length (take (stored (c .before .before .before .before .before .args .x)) (drop (c .before .before .before .before .before .args .xf) (source (c .before .before .before .before .before .args .xi) (c .before .before .before .before .before .args .coefficients .now) (c .before .before .before .before .before .args .pool .now)))) ≡ stored (c .before .before .before .before .before .args .x)
-full c = length-operand (c .before .before .before .before .before .args .xf) (stored (c .before .before .before .before .before .args .x)) (source (c .before .before .before .before .before .args .xi) (c .before .before .before .before .before .args .coefficients .now) (c .before .before .before .before .before .args .pool .now)) (c .before .before .before .before .before .pre .1 .1)
+full : (c : tie.After-operand) →
+    let start = c .before .before .before .before .before in
+    length (take (stored (start .args .x)) (drop (start .args .xf)
+    (source (start .args .xi) (start .args .coefficients .now) (start .args .pool .now)))) ≡ stored (start .args .x)
+full c =
+    let start = c .before .before .before .before .before in
+    length-operand (start .args .xf) (stored (start .args .x))
+    (source (start .args .xi) (start .args .coefficients .now) (start .args .pool .now)) (start .pre .1 .1)
 
 part-full : (c : tie.After-operand) → length (c .operand .result .now) ≡ stored (c .before .before .before .before .before .args .x)
 part-full c = ap length (part-is c) ∙ full c
 
 copy-requires : tie.Need-copy-requires
-copy-requires c κs = omega (arith, c .before .before .before .before .before .before .before .before .pre .0 .same (c .before .if1 .taken), part-full (c .before .before .before))
+copy-requires c κs =
+    let start = c .before .before .before .before .before .before .before .before in
+    omega (arith, start .pre .0 .same (c .before .if1 .taken), part-full (c .before .before .before))
 
 returns : tie.Need-returns
-returns c = stands-same (plain-0 (c .before .before .before .before .before .before .before .before .before .before .before .args .w) (c .before .before .before .before .before .before .before .before .before .before .before .args .limits) (c .before .before .before .before .before .before .before .before .before .before .before .args .v) (block (c .before .before .before .before .before .before .before .before .before .before .before .args .x .lengths) (take (stored (c .before .before .before .before .before .before .before .before .before .before .before .args .x)) (drop (c .before .before .before .before .before .before .before .before .before .before .before .args .xf) (source (c .before .before .before .before .before .before .before .before .before .before .before .args .xi) (c .before .before .before .before .before .before .before .before .before .before .before .args .coefficients .now) (c .before .before .before .before .before .before .before .before .before .before .before .args .pool .now))))) (c .before .before .before .before .if1 .taken)) (copied-stands (c .before .before .before .before .before .before .before .before .before .before .before .args .x .lengths) (take (stored (c .before .before .before .before .before .before .before .before .before .before .before .args .x)) (drop (c .before .before .before .before .before .before .before .before .before .before .before .args .xf) (source (c .before .before .before .before .before .before .before .before .before .before .before .args .xi) (c .before .before .before .before .before .before .before .before .before .before .before .args .coefficients .now) (c .before .before .before .before .before .before .before .before .before .before .before .args .pool .now)))) (c .before .before .copy .ensures ∙ ap (take (length (c .before .before .before .before .before .before .before .before .before .before .before .args .out .now))) (part-is (c .before .before .before .before .before .before))) (c .before .before .before .before .before .before .before .before .before .before .before .pre .0 .same (c .before .before .before .before .if1 .taken) ∙ sym (full (c .before .before .before .before .before .before))))
+returns c =
+    let c4 = c .before .before .before .before in let c6 = c4 .before .before in
+    let start = c6 .before .before .before .before .before in
+    stands-same (plain-0 (start .args .w) (start .args .limits) (start .args .v)
+    (block (start .args .x .lengths) (take (stored (start .args .x))
+    (drop (start .args .xf) (source (start .args .xi) (start .args .coefficients .now) (start .args .pool .now)))))
+    (c4 .if1 .taken)) (copied-stands (start .args .x .lengths)
+    (take (stored (start .args .x)) (drop (start .args .xf)
+    (source (start .args .xi) (start .args .coefficients .now) (start .args .pool .now))))
+    (c .before .before .copy .ensures ∙ ap (take (length (start .args .out .now))) (part-is c6))
+    (start .pre .0 .same (c4 .if1 .taken) ∙ sym (full c6)))
 
 zero-put-requires : tie.Need-zero-put-requires
-zero-put-requires c κs = rw (part-full (c .before .before .before .before)) (c .before .before .before .before .before .before .before .before .before .pre .0 .row (c .before .if2 .taken))
+zero-put-requires c κs =
+    let start = c .before .before .before .before .before .before .before .before .before in
+    rw (part-full (c .before .before .before .before)) (start .pre .0 .row (c .before .if2 .taken))
 
 returns-2 : tie.Need-returns-2
-returns-2 c = stands-same (plain-1 (c .before .before .before .before .before .before .before .before .before .before .before .before .args .w) (c .before .before .before .before .before .before .before .before .before .before .before .before .args .limits) (c .before .before .before .before .before .before .before .before .before .before .before .before .args .v) (block (c .before .before .before .before .before .before .before .before .before .before .before .before .args .x .lengths) (take (stored (c .before .before .before .before .before .before .before .before .before .before .before .before .args .x)) (drop (c .before .before .before .before .before .before .before .before .before .before .before .before .args .xf) (source (c .before .before .before .before .before .before .before .before .before .before .before .before .args .xi) (c .before .before .before .before .before .before .before .before .before .before .before .before .args .coefficients .now) (c .before .before .before .before .before .before .before .before .before .before .before .before .args .pool .now))))) (c .before .before .before .before .if2 .taken)) (rw (part-is (c .before .before .before .before .before .before .before)) at (put-stands (c .before .before .zero-put .ensures)))
+returns-2 c =
+    let start = c .before .before .before .before .before .before .before .before .before .before .before .before in
+    stands-same (plain-1 (start .args .w) (start .args .limits) (start .args .v)
+    (block (start .args .x .lengths) (take (stored (start .args .x))
+    (drop (start .args .xf) (source (start .args .xi) (start .args .coefficients .now) (start .args .pool .now)))))
+    (c .before .before .before .before .if2 .taken))
+    (rw (part-is (c .before .before .before .before .before .before .before)) at
+    (put-stands (c .before .before .zero-put .ensures)))
 
 line-put-requires : tie.Need-line-put-requires
-line-put-requires c κs = rw (part-full (c .before .before .before .before .before)) (c .before .before .before .before .before .before .before .before .before .before .pre .0 .line (c .before .before .before .if1 .left) (c .before .before .if2 .left))
+line-put-requires c κs =
+    let start = c .before .before .before .before .before .before .before .before .before .before in
+    rw (part-full (c .before .before .before .before .before)) (start .pre .0 .line (c .before .before .before .if1 .left) (c .before .before .if2 .left))
 
 returns-3 : tie.Need-returns-3
-returns-3 c = stands-same (plain-2 (c .before .before .before .before .before .before .before .before .before .before .before .before .before .args .w) (c .before .before .before .before .before .before .before .before .before .before .before .before .before .args .limits) (c .before .before .before .before .before .before .before .before .before .before .before .before .before .args .v) (block (c .before .before .before .before .before .before .before .before .before .before .before .before .before .args .x .lengths) (take (stored (c .before .before .before .before .before .before .before .before .before .before .before .before .before .args .x)) (drop (c .before .before .before .before .before .before .before .before .before .before .before .before .before .args .xf) (source (c .before .before .before .before .before .before .before .before .before .before .before .before .before .args .xi) (c .before .before .before .before .before .before .before .before .before .before .before .before .before .args .coefficients .now) (c .before .before .before .before .before .before .before .before .before .before .before .before .before .args .pool .now))))) (c .before .before .before .before .before .before .if1 .left) (c .before .before .before .before .before .if2 .left)) (rw (part-is (c .before .before .before .before .before .before .before .before)) at (put-stands (c .before .before .line-put .ensures)))
+returns-3 c =
+    let c8 = c .before .before .before .before .before .before .before .before in
+    let start = c8 .before .before .before .before .before in
+    stands-same (plain-2 (start .args .w) (start .args .limits) (start .args .v)
+    (block (start .args .x .lengths) (take (stored (start .args .x))
+    (drop (start .args .xf) (source (start .args .xi) (start .args .coefficients .now) (start .args .pool .now)))))
+    (c .before .before .before .before .before .before .if1 .left)
+    (c .before .before .before .before .before .if2 .left))
+    (rw (part-is c8) at (put-stands (c .before .before .line-put .ensures)))
 
 pub plain-from-spec : {M : Type 1} → statement M
 plain-from-spec =
     tie.close
     (tie.spec
-    (λ c κs. search needs)
-    (λ c κs. search needs)
-    copy-requires
-    (λ c. search needs)
-    returns
-    zero-put-requires
-    (λ c. search needs)
-    returns-2
-    line-put-requires
-    (λ c. search needs)
-    returns-3)
+    (λ c κs. search needs) (λ c κs. search needs) copy-requires (λ c. search needs) returns zero-put-requires
+    (λ c. search needs) returns-2 line-put-requires (λ c. search needs) returns-3)

@@ -12,13 +12,12 @@ use Rattle.recipes_operands.specs.Lent.{lying, lies-source, part-kept}
 use Rattle.recipes_steps.specs.Substitute.{RunsTo, runs-first, to-end, to-less, to-next, same-operand}
 use Rattle.recipes_steps.proofs.substitute.rows_to.Statement.{statement}
 use Rattle.recipes_steps.proofs.substitute.rows_to.Tie as tie
-use Rattle.recipes_steps.proofs.substitute.rows_to.Reads as reads
-use Rattle.recipes_steps.proofs.substitute.rows_to.Lts as lts
-use Rattle.recipes_steps.proofs.substitute.row_from.Reads as row-from-reads
-use Rattle.substitution_turn.proofs.turn.Reads as turn-reads
 
 abbrev Inv-loop : tie.InvT-loop
-Inv-loop x xi xf v k b c limits n coefficients pool₀ at work₀ row end left₀ value₀ pool work left value = RunsTo (x .lengths) v (lying xi coefficients (take at pool₀) xf x .coeffs) left value b c limits n (stored x) (turns limits v (block (x .lengths) (lying xi coefficients (take at pool₀) xf x .coeffs)) k (putIn b work₀) (valueIn n value₀ work₀)) at pool₀ pool work
+Inv-loop x xi xf v k b c limits n coefficients pool₀ at work₀ row end left₀ value₀ pool work left value =
+    RunsTo (x .lengths) v (lying xi coefficients (take at pool₀) xf x .coeffs) left value b c limits n (stored x)
+    (turns limits v (block (x .lengths) (lying xi coefficients (take at pool₀) xf x .coeffs)) k (putIn b work₀)
+    (valueIn n value₀ work₀)) at pool₀ pool work
 
 abbrev μ-loop : tie.MeasureT-loop
 μ-loop x xi xf v k b c limits n coefficients pool₀ at work₀ row end left₀ value₀ pool work left value = left
@@ -30,28 +29,70 @@ add-end : tie.Need-add-end Inv-loop μ-loop
 add-end c = omega (arith, c .before .before .before .pre .1 .1 .1 .1, c .before .before .before .good)
 
 loop-holds : tie.Need-loop-holds Inv-loop μ-loop
-loop-holds c = runs-first (lying (c .before .before .before .args .xi) (c .before .before .before .args .coefficients .now) (take (c .before .before .before .args .at) (c .before .before .before .args .pool .now)) (c .before .before .before .args .xf) (c .before .before .before .args .x) .coeffs) (c .before .before .before .args .pool .now) (c .before .before .before .args .work .now) (c .before .before .before .pre .0) (c .before .before .before .pre .1 .0) (c .before .before .before .pre .1 .1 .1 .1)
+loop-holds c =
+    let start = c .before .before .before in
+    runs-first (lying (start .args .xi) (start .args .coefficients .now)
+    (take (start .args .at) (start .args .pool .now)) (start .args .xf) (start .args .x) .coeffs)
+    (start .args .pool .now) (start .args .work .now) (start .pre .0) (start .pre .1 .0) (start .pre .1 .1 .1 .1)
 
 slice-reshare-prefix-row-from : tie.Need-slice-reshare-prefix-row-from Inv-loop μ-loop
 slice-reshare-prefix-row-from c = omega (arith, c .before .loop .inv .stays .below .len, c .before .before .before .before .before .pre .1 .1 .1 .1)
 
 slice-aggregate-row-from : tie.Need-slice-aggregate-row-from Inv-loop μ-loop
-slice-aggregate-row-from c = sym (length-take-le _ _ (omega (arith, c .before .before .loop .inv .stays .below .len, c .before .before .before .before .before .before .pre .1 .1 .1 .1)))
+slice-aggregate-row-from c =
+    sym (length-take-le _ _
+    (omega (
+      arith,
+      c .before .before .loop .inv .stays .below .len,
+      c .before .before .before .before .before .before .pre .1 .1 .1 .1,
+    )))
 
 row-from-requires : tie.Need-row-from-requires Inv-loop μ-loop
-row-from-requires c κs = let s = to-less (c .before .before .before .loop .inv) (c .before .before .before .loop .left - 1) (omega (arith, c .before .before .loop-test .taken)) in (next-picks (s .runs .room) refl, (omega (arith, next-row (s .runs .room), s .runs .room .work), (c .before .before .before .before .before .before .before .pre .1 .1 .0, lies-source (c .before .before .before .before .before .before .before .args .coefficients .now) (take (c .before .before .before .before .before .before .before .args .at) (c .before .before .before .loop .pool)) (c .before .before .before .before .before .before .before .pre .1 .1 .1 .0) (length-take-le _ _ (omega (arith, c .before .before .before .loop .inv .stays .below .len, c .before .before .before .before .before .before .before .pre .1 .1 .1 .1))))))
+row-from-requires c κs =
+    let c3 = c .before .before .before in let start = c3 .before .before .before .before in
+    let s = to-less (c3 .loop .inv) (c3 .loop .left - 1) (omega (arith, c .before .before .loop-test .taken)) in (
+      next-picks (s .runs .room) refl,
+      (
+        omega (arith, next-row (s .runs .room), s .runs .room .work),
+        (
+          start .pre .1 .1 .0,
+          lies-source (start .args .coefficients .now) (take (start .args .at) (c3 .loop .pool))
+              (start .pre .1 .1 .1 .0) (length-take-le _ _
+              (omega (arith, c3 .loop .inv .stays .below .len, start .pre .1 .1 .1 .1))),
+        ),
+      ),
+    )
 
 mul-turn : tie.Need-mul-turn Inv-loop μ-loop
-mul-turn c = omega (arith, c .before .before .before .before .before .before .before .loop .inv .stays .below .len, c .before .before .before .before .before .before .before .before .before .before .before .pre .1 .1 .1 .1, c .before .before .before .before .before .before .before .before .before .before .before .good)
+mul-turn c =
+    let start = c .before .before .before .before .before .before .before .before .before .before .before in
+    omega (arith, c .before .before .before .before .before .before .before .loop .inv .stays .below .len, start .pre .1 .1 .1 .1, start .good)
 
 part-turn-end : tie.Need-part-turn-end Inv-loop μ-loop
-part-turn-end c = omega (arith, c .before .before .before .before .before .before .before .loop .inv .stays .below .len, c .before .before .before .before .before .before .before .before .before .before .before .pre .1 .1 .1 .1)
+part-turn-end c =
+    let start = c .before .before .before .before .before .before .before .before .before .before .before in
+    omega (arith, c .before .before .before .before .before .before .before .loop .inv .stays .below .len, start .pre .1 .1 .1 .1)
 
 turn-requires : tie.Need-turn-requires Inv-loop μ-loop
-turn-requires c κs = let s = to-less (c .before .before .before .before .before .before .before .before .loop .inv) (c .before .before .before .before .before .before .before .before .loop .left - 1) (omega (arith, c .before .before .before .before .before .before .before .loop-test .taken)) in next-turning (s .runs .room) refl (c .before .before .before .before .row-from .ensures .below .len)
+turn-requires c κs =
+    let c8 = c .before .before .before .before .before .before .before .before in
+    let s =
+    to-less (c8 .loop .inv) (c8 .loop .left - 1)
+    (omega (arith, c .before .before .before .before .before .before .before .loop-test .taken)) in
+    next-turning (s .runs .room) refl (c .before .before .before .before .row-from .ensures .below .len)
 
 loop-again : tie.Need-loop-again Inv-loop μ-loop
-loop-again c = let s = to-less (c .before .before .before .before .before .before .before .before .before .before .before .before .before .loop .inv) (c .before .before .before .before .before .before .before .before .before .before .before .before .before .loop .left - 1) (omega (arith, c .before .before .before .before .before .before .before .before .before .before .before .before .loop-test .taken)) in to-next s (same-operand (c .before .before .before .before .before .before .before .before .before .before .before .before .before .before .before .before .before .args .xi) (c .before .before .before .before .before .before .before .before .before .before .before .before .before .before .before .before .before .args .coefficients .now) (c .before .before .before .before .before .before .before .before .before .before .before .before .before .before .before .before .before .args .xf) (c .before .before .before .before .before .before .before .before .before .before .before .before .before .before .before .before .before .args .x) (c .before .before .before .before .before .before .before .before .before .before .before .before .before .loop .inv .stays .below .head)) (c .before .before .before .before .before .before .before .before .before .row-from .ensures) (c .before .before .before .before .turn .ensures) (c .before .before .before .before .turn .kept .1 .1 .1 .1 .1 .1 .0) (part-kept (c .before .before .before .before .before .before .before .before .before .before .before .before .before .before .before .before .before .args .at) (c .before .before .before .before .before .before .before .before .before .before .before .before .before .before .before .before .before .args .at + c .before .before .before .before .before .before .before .before .before .before .before .before .before .before .before .before .before .args .n) (c .before .before .before .before .before .before .before .before .before .before .before .before .before .loop .pool) (c .before .before .before .before .turn .last .1 .1 .1 .1 .1 .1 .0) (c .before .before .before .before .turn .kept .1 .1 .1 .1 .1 .1 .0 ∙ length-part (c .before .before .before .before .before .before .before .before .before .before .before .before .before .before .before .before .before .args .at) (c .before .before .before .before .before .before .before .before .before .before .before .before .before .before .before .before .before .args .at + c .before .before .before .before .before .before .before .before .before .before .before .before .before .before .before .before .before .args .n) (c .before .before .before .before .before .before .before .before .before .before .before .before .before .loop .pool) (omega arith) (omega (arith, c .before .before .before .before .before .before .before .before .before .before .before .before .before .loop .inv .stays .below .len, c .before .before .before .before .before .before .before .before .before .before .before .before .before .before .before .before .before .pre .1 .1 .1 .1))) (omega arith) (omega (arith, c .before .before .before .before .before .before .before .before .before .before .before .before .before .loop .inv .stays .below .len, c .before .before .before .before .before .before .before .before .before .before .before .before .before .before .before .before .before .pre .1 .1 .1 .1)))
+loop-again c =
+    let c4 = c .before .before .before .before in let c9 = c4 .before .before .before .before .before in
+    let c12 = c9 .before .before .before in let c13 = c12 .before in let start = c13 .before .before .before .before in
+    let s = to-less (c13 .loop .inv) (c13 .loop .left - 1) (omega (arith, c12 .loop-test .taken)) in
+    to-next s (same-operand (start .args .xi) (start .args .coefficients .now) (start .args .xf) (start .args .x)
+    (c13 .loop .inv .stays .below .head)) (c9 .row-from .ensures) (c4 .turn .ensures)
+    (c4 .turn .kept .1 .1 .1 .1 .1 .1 .0) (part-kept (start .args .at) (start .args .at + start .args .n)
+    (c13 .loop .pool) (c4 .turn .last .1 .1 .1 .1 .1 .1 .0)
+    (c4 .turn .kept .1 .1 .1 .1 .1 .1 .0 ∙ length-part (start .args .at) (start .args .at + start .args .n)
+    (c13 .loop .pool) (omega arith) (omega (arith, c13 .loop .inv .stays .below .len, start .pre .1 .1 .1 .1)))
+    (omega arith) (omega (arith, c13 .loop .inv .stays .below .len, start .pre .1 .1 .1 .1)))
 
 same-length : tie.Need-same-length Inv-loop μ-loop
 same-length c = c .before .loop .inv .stays .below .len
@@ -68,20 +109,6 @@ rows-to-spec =
     (tie.spec
     Inv-loop
     μ-loop
-    mul-row
-    add-end
-    loop-holds
-    (λ c. omega arith)
-    slice-reshare-prefix-row-from
-    slice-aggregate-row-from
-    row-from-requires
-    mul-turn
-    (λ c. omega arith)
-    (λ c. omega arith)
-    part-turn-end
-    turn-requires
-    (λ c. omega arith)
-    loop-again
-    same-length
-    same-length-2
-    returns)
+    mul-row add-end loop-holds (λ c. omega arith) slice-reshare-prefix-row-from slice-aggregate-row-from
+    row-from-requires mul-turn (λ c. omega arith) (λ c. omega arith) part-turn-end turn-requires (λ c. omega arith)
+    loop-again same-length same-length-2 returns)

@@ -11,17 +11,26 @@ use Rattle.substitution_way.specs.Way.{wayOf}
 use borrow.Author.Needs.{needs}
 use Rattle.recipes_steps.proofs.substitute.way_from.Statement.{statement}
 use Rattle.recipes_steps.proofs.substitute.way_from.Tie as tie
-use Rattle.recipes_steps.proofs.substitute.way_from.Reads as reads
-use Rattle.recipes_steps.proofs.substitute.way_from.Lts as lts
-use Rattle.gates.proofs.stored_of.Reads as stored-of-reads
-use Rattle.recipes_operands.proofs.operand.Reads as operand-reads
-use Rattle.substitution_way.proofs.choose.Reads as choose-reads
 
-part-is : (c : tie.After-operand) → c .operand .result .now ≡ take (stored (c .before .before .before .before .args .y)) (drop (c .before .before .before .before .args .yf) (source (c .before .before .before .before .args .yi) (c .before .before .before .before .args .coefficients .now) (c .before .before .before .before .args .pool .now)))
-part-is c = c .operand .ensures ∙ ap (λ (k : ℕ). take k (drop (c .before .before .before .before .args .yf) (source (c .before .before .before .before .args .yi) (c .before .before .before .before .args .coefficients .now) (c .before .before .before .before .args .pool .now)))) (c .before .stored-of .ensures)
+part-is : (c : tie.After-operand) →
+    let start = c .before .before .before .before in
+    c .operand .result .now ≡ take (stored (start .args .y))
+    (drop (start .args .yf) (source (start .args .yi) (start .args .coefficients .now) (start .args .pool .now)))
+part-is c =
+    let start = c .before .before .before .before in
+    c .operand .ensures
+    ∙ ap (λ (k : ℕ). take k (drop (start .args .yf)
+    (source (start .args .yi) (start .args .coefficients .now) (start .args .pool .now))))
+    (c .before .stored-of .ensures)
 
-full : (c : tie.After-operand) → length (take (stored (c .before .before .before .before .args .y)) (drop (c .before .before .before .before .args .yf) (source (c .before .before .before .before .args .yi) (c .before .before .before .before .args .coefficients .now) (c .before .before .before .before .args .pool .now)))) ≡ stored (c .before .before .before .before .args .y)
-full c = length-operand (c .before .before .before .before .args .yf) (stored (c .before .before .before .before .args .y)) (source (c .before .before .before .before .args .yi) (c .before .before .before .before .args .coefficients .now) (c .before .before .before .before .args .pool .now)) (c .before .before .before .before .pre .1)
+full : (c : tie.After-operand) →
+    let start = c .before .before .before .before in
+    length (take (stored (start .args .y)) (drop (start .args .yf)
+    (source (start .args .yi) (start .args .coefficients .now) (start .args .pool .now)))) ≡ stored (start .args .y)
+full c =
+    let start = c .before .before .before .before in
+    length-operand (start .args .yf) (stored (start .args .y))
+    (source (start .args .yi) (start .args .coefficients .now) (start .args .pool .now)) (start .pre .1)
 
 part-full : (c : tie.After-operand) → length (c .operand .result .now) ≡ stored (c .before .before .before .before .args .y)
 part-full c = ap length (part-is c) ∙ full c
@@ -36,7 +45,9 @@ choose-requires : tie.Need-choose-requires
 choose-requires c κs = (lengths-of (c .before .before .before .before .before .pre .0), part-full (c .before))
 
 returns : tie.Need-returns
-returns c = c .choose .ensures ∙ ap (λ (l : List Float). wayOf (c .before .before .before .before .before .before .args .vars) (c .before .before .before .before .before .before .args .v) (block (c .before .before .before .before .before .before .args .y .lengths) l)) (part-is (c .before .before))
+returns c =
+    let start = c .before .before .before .before .before .before in
+    c .choose .ensures ∙ ap (λ (l : List Float). wayOf (start .args .vars) (start .args .v) (block (start .args .y .lengths) l)) (part-is (c .before .before))
 
 pub way-from-spec : {M : Type 1} → statement M
 way-from-spec = tie.close (tie.spec stored-of-requires operand-requires choose-requires returns)

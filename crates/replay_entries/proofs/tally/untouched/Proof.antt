@@ -20,10 +20,18 @@ loop-holds : tie.Need-loop-holds Inv-loop μ-loop
 loop-holds c = (omega arith, below-none _)
 
 returns : tie.Need-returns Inv-loop μ-loop
-returns c = record { within = omega arith; each = c .before .before .before .before .loop .inv .1; stop = λ l. ne-eqb _ 0x3ff0000000000001 (λ e. c .if1 .taken (c .before .word-of .ensures ∙ e)) }
+returns c =
+    record {
+      within = omega arith;
+      each = c .before .before .before .before .loop .inv .1;
+      stop = λ l. ne-eqb _ 0x3ff0000000000001 (λ e. c .if1 .taken (c .before .word-of .ensures ∙ e));
+    }
 
 loop-again : tie.Need-loop-again Inv-loop μ-loop
-loop-again c = (omega arith, below-more _ _ (c .before .before .before .before .loop .inv .1) (eq-eqb _ 0x3ff0000000000001 (sym (c .before .word-of .ensures) ∙ c .if1 .left)))
+loop-again c = (
+  omega arith,
+  below-more _ _ (c .before .before .before .before .loop .inv .1) (eq-eqb _ 0x3ff0000000000001 (sym (c .before .word-of .ensures) ∙ c .if1 .left)),
+)
 
 returns-2 : tie.Need-returns-2 Inv-loop μ-loop
 returns-2 c = record { within = omega arith; each = c .before .loop .inv .1; stop = λ l. absurd (omega arith) }
@@ -34,14 +42,5 @@ untouched-spec =
     (tie.spec
     Inv-loop
     μ-loop
-    loop-holds
-    (λ c. search needs)
-    (λ c. search needs)
-    (λ c. search needs)
-    (λ c. search needs)
-    (λ c κs. search needs)
-    returns
-    (λ c. search needs)
-    (λ c. search needs)
-    loop-again
-    returns-2)
+    loop-holds (λ c. search needs) (λ c. search needs) (λ c. search needs) (λ c. search needs) (λ c κs. search needs)
+    returns (λ c. search needs) (λ c. search needs) loop-again returns-2)

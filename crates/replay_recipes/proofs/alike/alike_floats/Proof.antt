@@ -18,10 +18,24 @@ loop-holds : tie.Need-loop-holds Inv-loop μ-loop
 loop-holds c = (omega arith, (omega arith, (alike-one _ _, c .word-of .ensures)))
 
 returns : tie.Need-returns Inv-loop μ-loop
-returns c = record { after = omega arith; within = omega arith; each = c .before .before .before .before .loop .inv .1 .1 .0; stop = λ l e. c .if1 .taken (c .before .word-of2 .ensures ∙ e ∙ sym (c .before .before .before .before .loop .inv .1 .1 .1)) }
+returns c =
+    let c4 = c .before .before .before .before in
+    record {
+      after = omega arith;
+      within = omega arith;
+      each = c4 .loop .inv .1 .1 .0;
+      stop = λ l e. c .if1 .taken (c .before .word-of2 .ensures ∙ e ∙ sym (c4 .loop .inv .1 .1 .1));
+    }
 
 loop-again : tie.Need-loop-again Inv-loop μ-loop
-loop-again c = (omega arith, (omega arith, (below-more _ _ (c .before .before .before .before .loop .inv .1 .1 .0) (λ m. sym (c .before .word-of2 .ensures) ∙ c .if1 .left ∙ c .before .before .before .before .loop .inv .1 .1 .1), c .before .before .before .before .loop .inv .1 .1 .1)))
+loop-again c =
+    let c4 = c .before .before .before .before in (
+      omega arith,
+      (
+        omega arith,
+        (below-more _ _ (c4 .loop .inv .1 .1 .0) (λ m. sym (c .before .word-of2 .ensures) ∙ c .if1 .left ∙ c4 .loop .inv .1 .1 .1), c4 .loop .inv .1 .1 .1),
+      ),
+    )
 
 returns-2 : tie.Need-returns-2 Inv-loop μ-loop
 returns-2 c = record { after = omega arith; within = omega arith; each = c .before .loop .inv .1 .1 .0; stop = λ l e. absurd (omega arith) }
@@ -32,16 +46,5 @@ alike-floats-spec =
     (tie.spec
     Inv-loop
     μ-loop
-    (λ c. search needs)
-    (λ c. search needs)
-    (λ c κs. search needs)
-    (λ c. search needs)
-    loop-holds
-    (λ c. search needs)
-    (λ c. search needs)
-    (λ c κs. search needs)
-    returns
-    (λ c. search needs)
-    (λ c. search needs)
-    loop-again
-    returns-2)
+    (λ c. search needs) (λ c. search needs) (λ c κs. search needs) (λ c. search needs) loop-holds (λ c. search needs)
+    (λ c. search needs) (λ c κs. search needs) returns (λ c. search needs) (λ c. search needs) loop-again returns-2)

@@ -1,14 +1,7 @@
-use Rattle.model.specs.Announced.{single, paired, announced}
+use Rattle.model.specs.Announced.{announced}
 use borrow.Author.Needs.{needs}
 use Rattle.shape.proofs.announce.announced_of.Statement.{statement}
 use Rattle.shape.proofs.announce.announced_of.Tie as tie
-use Rattle.shape.proofs.announce.announced_of.Reads as reads
-use Rattle.shape.proofs.announce.announced_of.Lts as lts
-use Rattle.model.proofs.Header.none.Reads as none-reads
-use Rattle.shape.proofs.announce.paired_header.Reads as paired-header-reads
-use Rattle.shape.proofs.announce.power_header.Reads as power-header-reads
-use Rattle.shape.proofs.announce.single_header.Reads as single-header-reads
-use Rattle.shape.proofs.announce.substitution_header.Reads as substitution-header-reads
 
 returns : tie.Need-returns
 unfolding announced
@@ -58,36 +51,9 @@ pub announced-of-spec : {M : Type 1} → statement M
 announced-of-spec =
     tie.close
     (tie.spec
-    (λ c. search needs)
-    (λ c κs. search needs)
-    (λ c. search needs)
-    (λ c κs. search needs)
-    (λ c. search needs)
-    (λ c κs. search needs)
-    (λ c. search needs)
-    (λ c κs. search needs)
-    (λ c. search needs)
-    (λ c κs. search needs)
-    (λ c. search needs)
-    (λ c κs. search needs)
-    (λ c. search needs)
-    (λ c κs. search needs)
-    (λ c. search needs)
-    (λ c κs. search needs)
-    (λ c. search needs)
-    (λ c κs. search needs)
-    (λ c. search needs)
-    (λ c κs. search needs)
-    (λ c. search needs)
-    (λ c κs. search needs)
-    returns
-    returns-2
-    returns-3
-    returns-4
-    returns-5
-    returns-6
-    returns-7
-    returns-8
-    returns-9
-    returns-10
-    returns-11)
+    (λ c. search needs) (λ c κs. search needs) (λ c. search needs) (λ c κs. search needs) (λ c. search needs)
+    (λ c κs. search needs) (λ c. search needs) (λ c κs. search needs) (λ c. search needs) (λ c κs. search needs)
+    (λ c. search needs) (λ c κs. search needs) (λ c. search needs) (λ c κs. search needs) (λ c. search needs)
+    (λ c κs. search needs) (λ c. search needs) (λ c κs. search needs) (λ c. search needs) (λ c κs. search needs)
+    (λ c. search needs) (λ c κs. search needs) returns returns-2 returns-3 returns-4 returns-5 returns-6 returns-7
+    returns-8 returns-9 returns-10 returns-11)

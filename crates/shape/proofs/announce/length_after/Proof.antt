@@ -1,17 +1,6 @@
 use borrow.Author.Needs.{needs}
 use Rattle.shape.proofs.announce.length_after.Statement.{statement}
 use Rattle.shape.proofs.announce.length_after.Tie as tie
-use Rattle.shape.proofs.announce.length_after.Reads as reads
-use Rattle.shape.proofs.announce.length_after.Lts as lts
-use Rattle.shape.proofs.announce.less_in.Reads as less-in-reads
-use Rattle.shape.proofs.announce.order_length.Reads as order-length-reads
-use Rattle.shape.proofs.announce.power_length.Reads as power-length-reads
-use Rattle.shape.proofs.announce.quotient_length.Reads as quotient-length-reads
-use Rattle.shape.proofs.announce.series_length.Reads as series-length-reads
-use Rattle.shape.proofs.announce.substitution_length.Reads as substitution-length-reads
-use Rattle.shape.proofs.announce.term_length.Reads as term-length-reads
-use Rattle.shape.proofs.limits.least.Reads as least-reads
-use Rattle.shape.proofs.limits.most.Reads as most-reads
 
 returns-3 : tie.Need-returns-3
 returns-3 c = rw (c .before .enum-told3 .given .1) (c .most .ensures)
@@ -44,36 +33,9 @@ pub length-after-spec : {M : Type 1} → statement M
 length-after-spec =
     tie.close
     (tie.spec
-    (λ c. search needs)
-    (λ c. search needs)
-    (λ c. search needs)
-    (λ c κs. search needs)
-    (λ c. search needs)
-    (λ c. search needs)
-    (λ c. search needs)
-    (λ c κs. search needs)
-    (λ c. search needs)
-    (λ c κs. search needs)
-    (λ c. search needs)
-    (λ c κs. search needs)
-    (λ c. search needs)
-    (λ c κs. search needs)
-    (λ c. search needs)
-    (λ c κs. search needs)
-    (λ c. search needs)
-    (λ c κs. search needs)
-    (λ c. search needs)
-    (λ c κs. search needs)
-    (λ c. search needs)
-    (λ c κs. search needs)
-    (λ c. search needs)
-    (λ c. search needs)
-    returns-3
-    returns-4
-    returns-5
-    returns-6
-    returns-7
-    returns-8
-    returns-9
-    returns-10
-    returns-11)
+    (λ c. search needs) (λ c. search needs) (λ c. search needs) (λ c κs. search needs) (λ c. search needs)
+    (λ c. search needs) (λ c. search needs) (λ c κs. search needs) (λ c. search needs) (λ c κs. search needs)
+    (λ c. search needs) (λ c κs. search needs) (λ c. search needs) (λ c κs. search needs) (λ c. search needs)
+    (λ c κs. search needs) (λ c. search needs) (λ c κs. search needs) (λ c. search needs) (λ c κs. search needs)
+    (λ c. search needs) (λ c κs. search needs) (λ c. search needs) (λ c. search needs) returns-3 returns-4 returns-5
+    returns-6 returns-7 returns-8 returns-9 returns-10 returns-11)

@@ -1,9 +1,6 @@
 use borrow.Author.Needs.{needs}
 use Rattle.shape.proofs.announce.limit_after.Statement.{statement}
 use Rattle.shape.proofs.announce.limit_after.Tie as tie
-use Rattle.shape.proofs.announce.limit_after.Reads as reads
-use Rattle.shape.proofs.announce.limit_after.Lts as lts
-use Rattle.shape.proofs.announce.less_in.Reads as less-in-reads
 
 returns-8 : tie.Need-returns-8
 returns-8 c = rw (c .before .before .f .given .1) (c .less-in .ensures)
@@ -12,26 +9,8 @@ pub limit-after-spec : {M : Type 1} → statement M
 limit-after-spec =
     tie.close
     (tie.spec
-    (λ c. search needs)
-    (λ c. search needs)
-    (λ c. search needs)
-    (λ c. search needs)
-    (λ c. search needs)
-    (λ c. search needs)
-    (λ c. search needs)
-    (λ c. search needs)
-    (λ c κs. search needs)
-    (λ c. search needs)
-    (λ c. search needs)
-    (λ c. search needs)
-    (λ c. search needs)
-    (λ c. search needs)
-    (λ c. search needs)
-    (λ c. search needs)
-    (λ c. search needs)
-    (λ c. search needs)
-    (λ c. search needs)
-    returns-8
-    (λ c. search needs)
-    (λ c. search needs)
-    (λ c. search needs))
+    (λ c. search needs) (λ c. search needs) (λ c. search needs) (λ c. search needs) (λ c. search needs)
+    (λ c. search needs) (λ c. search needs) (λ c. search needs) (λ c κs. search needs) (λ c. search needs)
+    (λ c. search needs) (λ c. search needs) (λ c. search needs) (λ c. search needs) (λ c. search needs)
+    (λ c. search needs) (λ c. search needs) (λ c. search needs) (λ c. search needs) returns-8 (λ c. search needs)
+    (λ c. search needs) (λ c. search needs))

@@ -1,10 +1,8 @@
-use borrow.Author.Tests.{eq-eqb, ne-eqb, lt-ltb, le-ltb}
+use borrow.Author.Tests.{eq-eqb, ne-eqb}
 use native.Mathlib.Omega.{arith}
 use borrow.Author.Needs.{needs}
 use Rattle.shape.proofs.announce.order_length.Statement.{statement}
 use Rattle.shape.proofs.announce.order_length.Tie as tie
-use Rattle.shape.proofs.announce.order_length.Reads as reads
-use Rattle.shape.proofs.announce.order_length.Lts as lts
 
 returns : tie.Need-returns
 returns c = simp (ne-eqb _ _ (c .if1 .taken))

@@ -1,13 +1,8 @@
-use Rattle.model.specs.Announced.{single, paired, announced}
-use borrow.Author.Tests.{eq-eqb, ne-eqb, lt-ltb, le-ltb}
-use native.Mathlib.Omega.{arith}
+use Rattle.model.specs.Announced.{announced}
+use borrow.Author.Tests.{eq-eqb, ne-eqb}
 use borrow.Author.Needs.{needs}
 use Rattle.shape.proofs.announce.power_header.Statement.{statement}
 use Rattle.shape.proofs.announce.power_header.Tie as tie
-use Rattle.shape.proofs.announce.power_header.Reads as reads
-use Rattle.shape.proofs.announce.power_header.Lts as lts
-use Rattle.model.proofs.Header.none.Reads as none-reads
-use Rattle.shape.proofs.announce.single_header.Reads as single-header-reads
 
 none-requires : tie.Need-none-requires
 none-requires c κs = search needs

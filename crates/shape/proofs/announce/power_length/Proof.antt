@@ -1,13 +1,9 @@
-use borrow.Author.Tests.{eq-eqb, ne-eqb, lt-ltb, le-ltb}
 use native.Mathlib.Omega.{arith}
 use native.Mathlib.Nat.{mul-le-mul}
-use Prim.Native.Nat.{_*_, _-_, _≤_, _<_, _^_}
+use Prim.Native.Nat.{_-_, _≤_, _^_}
 use borrow.Author.Needs.{needs}
 use Rattle.shape.proofs.announce.power_length.Statement.{statement}
 use Rattle.shape.proofs.announce.power_length.Tie as tie
-use Rattle.shape.proofs.announce.power_length.Reads as reads
-use Rattle.shape.proofs.announce.power_length.Lts as lts
-use Rattle.shape.proofs.limits.least.Reads as least-reads
 
 sub-least : tie.Need-sub-least
 sub-least c = search needs

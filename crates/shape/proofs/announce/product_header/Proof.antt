@@ -18,15 +18,17 @@ sum-shape-requires c κs =
 returns : tie.Need-returns
 unfolding announced paired sumShape cutTo
 returns c =
-    simp (c .sum-shape .ensures, c .before .cut-to2 .ensures, c .before .before .cut-to .ensures, c .before .before .before .most .ensures, c .before .before .before .before .before .before .min-degrees-p1 .ensures)
+    simp (
+      c .sum-shape .ensures,
+      c .before .cut-to2 .ensures,
+      c .before .before .cut-to .ensures,
+      c .before .before .before .most .ensures,
+      c .before .before .before .before .before .before .min-degrees-p1 .ensures,
+    )
 
 pub product-header-spec : {M : Type 1} → statement M
 product-header-spec =
     tie.close
     (tie.spec
-    (λ c κs. search needs)
-    (λ c κs. search needs)
-    (λ c κs. search needs)
-    (λ c κs. search needs)
-    sum-shape-requires
+    (λ c κs. search needs) (λ c κs. search needs) (λ c κs. search needs) (λ c κs. search needs) sum-shape-requires
     returns)

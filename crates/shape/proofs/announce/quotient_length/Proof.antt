@@ -1,9 +1,6 @@
-use borrow.Author.Tests.{eq-eqb, ne-eqb, lt-ltb, le-ltb}
-use native.Mathlib.Omega.{arith}
+use borrow.Author.Tests.{eq-eqb, ne-eqb}
 use Rattle.shape.proofs.announce.quotient_length.Statement.{statement}
 use Rattle.shape.proofs.announce.quotient_length.Tie as tie
-use Rattle.shape.proofs.announce.quotient_length.Reads as reads
-use Rattle.shape.proofs.announce.quotient_length.Lts as lts
 
 returns : tie.Need-returns
 returns c = simp (eq-eqb _ _ (c .if1 .taken))

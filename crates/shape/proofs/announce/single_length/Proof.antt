@@ -1,10 +1,6 @@
 use borrow.Author.Needs.{needs}
 use Rattle.shape.proofs.announce.single_length.Statement.{statement}
 use Rattle.shape.proofs.announce.single_length.Tie as tie
-use Rattle.shape.proofs.announce.single_length.Reads as reads
-use Rattle.shape.proofs.announce.single_length.Lts as lts
-use Rattle.shape.proofs.announce.length_after.Reads as length-after-reads
-use Rattle.shape.proofs.announce.limit_after.Reads as limit-after-reads
 
 limit-after-requires : tie.Need-limit-after-requires
 limit-after-requires c κs = search needs

@@ -1,18 +1,10 @@
-use Rattle.model.specs.Announced.{single, paired, announced}
-use borrow.Author.Tests.{eq-eqb, ne-eqb, lt-ltb, le-ltb}
+use Rattle.model.specs.Announced.{announced}
+use borrow.Author.Tests.{lt-ltb, le-ltb}
 use native.Mathlib.Omega.{arith}
-use Rattle.shape_words.specs.Lengths.{Small}
-use Rattle.shape.specs.Limits.{min-limit-pos}
-use Rattle.lists.specs.Four.{at}
-use Prim.Native.Nat.{_≤_}
 use Rattle.shape_words.specs.Rules.{ruled-at}
-use lib.Dec.{lit<}
 use borrow.Author.Needs.{needs}
 use Rattle.shape.proofs.announce.substitution_header.Statement.{statement}
 use Rattle.shape.proofs.announce.substitution_header.Tie as tie
-use Rattle.shape.proofs.announce.substitution_header.Reads as reads
-use Rattle.shape.proofs.announce.substitution_header.Lts as lts
-use Rattle.shape.proofs.announce.paired_header.Reads as paired-header-reads
 
 returns : tie.Need-returns
 unfolding announced
@@ -25,7 +17,12 @@ array-read-paired-header : tie.Need-array-read-paired-header
 array-read-paired-header c = search needs
 
 paired-header-requires : tie.Need-paired-header-requires
-paired-header-requires c κs = let few = (c .before .before .before) .pre .0 .few in ((c .before .before .before) .pre .0, ((c .before .before .before) .pre .1, (let g = ruled-at ((c .before .before .before) .pre .0) ((c .before .before .before) .args .v) (omega arith) in (g .pos, omega (arith, g)))))
+paired-header-requires c κs =
+    let start = c .before .before .before in
+    let few = start .pre .0 .few in (
+      start .pre .0,
+      (start .pre .1, (let g = ruled-at (start .pre .0) (start .args .v) (omega arith) in (g .pos, omega (arith, g)))),
+    )
 
 returns-2 : tie.Need-returns-2
 unfolding announced

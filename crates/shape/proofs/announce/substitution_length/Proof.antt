@@ -1,13 +1,10 @@
-use borrow.Author.Tests.{eq-eqb, ne-eqb, lt-ltb, le-ltb}
+use borrow.Author.Tests.{eq-eqb, ne-eqb}
 use native.Mathlib.Omega.{arith}
 use native.Mathlib.Nat.{mul-le-mul}
-use Prim.Native.Nat.{_*_, _-_, _≤_, _<_, _^_}
+use Prim.Native.Nat.{_-_, _≤_}
 use borrow.Author.Needs.{needs}
 use Rattle.shape.proofs.announce.substitution_length.Statement.{statement}
 use Rattle.shape.proofs.announce.substitution_length.Tie as tie
-use Rattle.shape.proofs.announce.substitution_length.Reads as reads
-use Rattle.shape.proofs.announce.substitution_length.Lts as lts
-use Rattle.shape.proofs.limits.least.Reads as least-reads
 
 mul-more : tie.Need-mul-more
 mul-more c = let p : (c) .args .p - 1 ≤ 63 = omega arith in let b : (c) .args .b - 1 ≤ 63 = omega arith in omega (arith, mul-le-mul p b)
@@ -28,12 +25,5 @@ pub substitution-length-spec : {M : Type 1} → statement M
 substitution-length-spec =
     tie.close
     (tie.spec
-    (λ c. search needs)
-    (λ c. search needs)
-    mul-more
-    add-least
-    (λ c κs. search needs)
-    add-least-2
-    (λ c κs. search needs)
-    returns
-    returns-2)
+    (λ c. search needs) (λ c. search needs) mul-more add-least (λ c κs. search needs) add-least-2 (λ c κs. search needs)
+    returns returns-2)

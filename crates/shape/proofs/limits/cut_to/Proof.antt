@@ -2,9 +2,6 @@ use Rattle.model.specs.Limits.{cutTo}
 use borrow.Author.Needs.{needs}
 use Rattle.shape.proofs.limits.cut_to.Statement.{statement}
 use Rattle.shape.proofs.limits.cut_to.Tie as tie
-use Rattle.shape.proofs.limits.cut_to.Reads as reads
-use Rattle.shape.proofs.limits.cut_to.Lts as lts
-use Rattle.shape.proofs.limits.least.Reads as least-reads
 
 returns : tie.Need-returns
 unfolding cutTo
@@ -14,16 +11,6 @@ pub cut-to-spec : {M : Type 1} → statement M
 cut-to-spec =
     tie.close
     (tie.spec
-    (λ c. search needs)
-    (λ c. search needs)
-    (λ c κs. search needs)
-    (λ c. search needs)
-    (λ c. search needs)
-    (λ c κs. search needs)
-    (λ c. search needs)
-    (λ c. search needs)
-    (λ c κs. search needs)
-    (λ c. search needs)
-    (λ c. search needs)
-    (λ c κs. search needs)
-    returns)
+    (λ c. search needs) (λ c. search needs) (λ c κs. search needs) (λ c. search needs) (λ c. search needs)
+    (λ c κs. search needs) (λ c. search needs) (λ c. search needs) (λ c κs. search needs) (λ c. search needs)
+    (λ c. search needs) (λ c κs. search needs) returns)

@@ -2,9 +2,6 @@ use Rattle.model.specs.Limits.{maxShape}
 use borrow.Author.Needs.{needs}
 use Rattle.shape.proofs.limits.max_shape.Statement.{statement}
 use Rattle.shape.proofs.limits.max_shape.Tie as tie
-use Rattle.shape.proofs.limits.max_shape.Reads as reads
-use Rattle.shape.proofs.limits.max_shape.Lts as lts
-use Rattle.shape.proofs.limits.most.Reads as most-reads
 
 returns : tie.Need-returns
 unfolding maxShape
@@ -14,16 +11,6 @@ pub max-shape-spec : {M : Type 1} → statement M
 max-shape-spec =
     tie.close
     (tie.spec
-    (λ c. search needs)
-    (λ c. search needs)
-    (λ c κs. search needs)
-    (λ c. search needs)
-    (λ c. search needs)
-    (λ c κs. search needs)
-    (λ c. search needs)
-    (λ c. search needs)
-    (λ c κs. search needs)
-    (λ c. search needs)
-    (λ c. search needs)
-    (λ c κs. search needs)
-    returns)
+    (λ c. search needs) (λ c. search needs) (λ c κs. search needs) (λ c. search needs) (λ c. search needs)
+    (λ c κs. search needs) (λ c. search needs) (λ c. search needs) (λ c κs. search needs) (λ c. search needs)
+    (λ c. search needs) (λ c κs. search needs) returns)

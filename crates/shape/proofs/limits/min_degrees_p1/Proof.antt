@@ -2,9 +2,6 @@ use Rattle.model.specs.Limits.{minDegreesP1}
 use borrow.Author.Needs.{needs}
 use Rattle.shape.proofs.limits.min_degrees_p1.Statement.{statement}
 use Rattle.shape.proofs.limits.min_degrees_p1.Tie as tie
-use Rattle.shape.proofs.limits.min_degrees_p1.Reads as reads
-use Rattle.shape.proofs.limits.min_degrees_p1.Lts as lts
-use Rattle.shape.proofs.limits.min_limit.Reads as min-limit-reads
 
 returns : tie.Need-returns
 unfolding minDegreesP1
@@ -14,16 +11,6 @@ pub min-degrees-p1-spec : {M : Type 1} → statement M
 min-degrees-p1-spec =
     tie.close
     (tie.spec
-    (λ c. search needs)
-    (λ c. search needs)
-    (λ c κs. search needs)
-    (λ c. search needs)
-    (λ c. search needs)
-    (λ c κs. search needs)
-    (λ c. search needs)
-    (λ c. search needs)
-    (λ c κs. search needs)
-    (λ c. search needs)
-    (λ c. search needs)
-    (λ c κs. search needs)
-    returns)
+    (λ c. search needs) (λ c. search needs) (λ c κs. search needs) (λ c. search needs) (λ c. search needs)
+    (λ c κs. search needs) (λ c. search needs) (λ c. search needs) (λ c κs. search needs) (λ c. search needs)
+    (λ c. search needs) (λ c κs. search needs) returns)

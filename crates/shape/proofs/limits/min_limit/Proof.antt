@@ -1,12 +1,8 @@
-use borrow.Author.Tests.{eq-eqb, ne-eqb, lt-ltb, le-ltb}
-use native.Mathlib.Omega.{arith}
+use borrow.Author.Tests.{lt-ltb, le-ltb}
 use Rattle.model.specs.Limits.{minLimit}
 use borrow.Author.Needs.{needs}
 use Rattle.shape.proofs.limits.min_limit.Statement.{statement}
 use Rattle.shape.proofs.limits.min_limit.Tie as tie
-use Rattle.shape.proofs.limits.min_limit.Reads as reads
-use Rattle.shape.proofs.limits.min_limit.Lts as lts
-use Rattle.shape.proofs.limits.least.Reads as least-reads
 
 returns : tie.Need-returns
 unfolding minLimit

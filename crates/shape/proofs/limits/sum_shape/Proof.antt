@@ -2,9 +2,6 @@ use Rattle.model.specs.Limits.{sumShape}
 use borrow.Author.Needs.{needs}
 use Rattle.shape.proofs.limits.sum_shape.Statement.{statement}
 use Rattle.shape.proofs.limits.sum_shape.Tie as tie
-use Rattle.shape.proofs.limits.sum_shape.Reads as reads
-use Rattle.shape.proofs.limits.sum_shape.Lts as lts
-use Rattle.shape.proofs.limits.least.Reads as least-reads
 
 returns : tie.Need-returns
 unfolding sumShape
@@ -14,28 +11,8 @@ pub sum-shape-spec : {M : Type 1} → statement M
 sum-shape-spec =
     tie.close
     (tie.spec
-    (λ c. search needs)
-    (λ c. search needs)
-    (λ c. search needs)
-    (λ c. search needs)
-    (λ c. search needs)
-    (λ c κs. search needs)
-    (λ c. search needs)
-    (λ c. search needs)
-    (λ c. search needs)
-    (λ c. search needs)
-    (λ c. search needs)
-    (λ c κs. search needs)
-    (λ c. search needs)
-    (λ c. search needs)
-    (λ c. search needs)
-    (λ c. search needs)
-    (λ c. search needs)
-    (λ c κs. search needs)
-    (λ c. search needs)
-    (λ c. search needs)
-    (λ c. search needs)
-    (λ c. search needs)
-    (λ c. search needs)
-    (λ c κs. search needs)
-    returns)
+    (λ c. search needs) (λ c. search needs) (λ c. search needs) (λ c. search needs) (λ c. search needs)
+    (λ c κs. search needs) (λ c. search needs) (λ c. search needs) (λ c. search needs) (λ c. search needs)
+    (λ c. search needs) (λ c κs. search needs) (λ c. search needs) (λ c. search needs) (λ c. search needs)
+    (λ c. search needs) (λ c. search needs) (λ c κs. search needs) (λ c. search needs) (λ c. search needs)
+    (λ c. search needs) (λ c. search needs) (λ c. search needs) (λ c κs. search needs) returns)

@@ -1,12 +1,9 @@
 use native.Mathlib.Omega.{arith}
-use native.Mathlib.Nat.{mul-one}
-use mathlib.Core.Path.{refl, sym, _∙_}
+use mathlib.Core.Path.{sym}
 use Rattle.shape_words.specs.Lengths.{size2, size3, size4, count-is}
 use borrow.Author.Needs.{needs}
 use Rattle.shape_words.proofs.places.count_of.Statement.{statement}
 use Rattle.shape_words.proofs.places.count_of.Tie as tie
-use Rattle.shape_words.proofs.places.count_of.Reads as reads
-use Rattle.shape_words.proofs.places.count_of.Lts as lts
 
 mul-result : tie.Need-mul-result
 mul-result c = omega (arith, size2 (c .pre))
@@ -24,11 +21,5 @@ pub count-of-spec : {M : Type 1} → statement M
 count-of-spec =
     tie.close
     (tie.spec
-    (λ c. search needs)
-    (λ c. search needs)
-    (λ c. search needs)
-    (λ c. search needs)
-    mul-result
-    mul-result-2
-    mul-result-3
+    (λ c. search needs) (λ c. search needs) (λ c. search needs) (λ c. search needs) mul-result mul-result-2 mul-result-3
     returns)

@@ -3,8 +3,6 @@ use mathlib.Core.Path.{refl}
 use borrow.Author.Needs.{needs}
 use Rattle.shape_words.proofs.places.is_inside.Statement.{statement}
 use Rattle.shape_words.proofs.places.is_inside.Tie as tie
-use Rattle.shape_words.proofs.places.is_inside.Reads as reads
-use Rattle.shape_words.proofs.places.is_inside.Lts as lts
 
 returns : tie.Need-returns
 unfolding inside
@@ -14,12 +12,5 @@ pub is-inside-spec : {M : Type 1} → statement M
 is-inside-spec =
     tie.close
     (tie.spec
-    (λ c. search needs)
-    (λ c. search needs)
-    (λ c. search needs)
-    (λ c. search needs)
-    (λ c. search needs)
-    (λ c. search needs)
-    (λ c. search needs)
-    (λ c. search needs)
-    returns)
+    (λ c. search needs) (λ c. search needs) (λ c. search needs) (λ c. search needs) (λ c. search needs)
+    (λ c. search needs) (λ c. search needs) (λ c. search needs) returns)

@@ -5,8 +5,6 @@ use Rattle.shape_words.specs.Places.{next-0, next-1, next-2}
 use borrow.Author.Needs.{needs}
 use Rattle.shape_words.proofs.places.next_row.Statement.{statement}
 use Rattle.shape_words.proofs.places.next_row.Tie as tie
-use Rattle.shape_words.proofs.places.next_row.Reads as reads
-use Rattle.shape_words.proofs.places.next_row.Lts as lts
 
 add-if1 : tie.Need-add-if1
 add-if1 c = let h = (c) .pre .1 .inside .i2 in omega (arith, h, sizes-low ((c) .pre .0) 2 (lit< tt))
@@ -15,7 +13,9 @@ add-t22 : tie.Need-add-t22
 add-t22 c = let h = (c .before) .pre .1 .inside .i2 in omega (arith, h, sizes-low ((c .before) .pre .0) 2 (lit< tt))
 
 returns : tie.Need-returns
-returns c = next-2 ((c .before) .args .t1) ((c .before) .args .t2) ((c .before) .pre .0) ((c .before) .pre .1 .begins) ((c .before) .pre .1 .inside .i1) (c .if1 .taken)
+returns c =
+    next-2 ((c .before) .args .t1) ((c .before) .args .t2) ((c .before) .pre .0) ((c .before) .pre .1 .begins)
+    ((c .before) .pre .1 .inside .i1) (c .if1 .taken)
 
 add-if2 : tie.Need-add-if2
 add-if2 c = let h = (c .before) .pre .1 .inside .i1 in omega (arith, h, sizes-low ((c .before) .pre .0) 1 (lit< tt))
@@ -42,21 +42,6 @@ pub next-row-spec : {M : Type 1} → statement M
 next-row-spec =
     tie.close
     (tie.spec
-    (λ c. search needs)
-    add-if1
-    (λ c. search needs)
-    (λ c. search needs)
-    (λ c. search needs)
-    (λ c. search needs)
-    add-t22
-    returns
-    (λ c. search needs)
-    add-if2
-    (λ c. search needs)
-    (λ c. search needs)
-    (λ c. search needs)
-    add-t33
-    returns-2
-    (λ c. search needs)
-    add-t8
-    returns-3)
+    (λ c. search needs) add-if1 (λ c. search needs) (λ c. search needs) (λ c. search needs) (λ c. search needs) add-t22
+    returns (λ c. search needs) add-if2 (λ c. search needs) (λ c. search needs) (λ c. search needs) add-t33 returns-2
+    (λ c. search needs) add-t8 returns-3)

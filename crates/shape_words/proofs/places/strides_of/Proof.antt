@@ -1,14 +1,11 @@
 use native.Mathlib.Omega.{arith}
 use native.Mathlib.Nat.{mul-one}
-use mathlib.Core.Path.{refl, sym, _∙_}
-use Rattle.shape_words.specs.Lengths.{size2, size3, size4, count-is}
+use Rattle.shape_words.specs.Lengths.{size2, size3}
 use Rattle.model.specs.Places.{strides}
 use Rattle.model.specs.Header.{span}
 use borrow.Author.Needs.{needs}
 use Rattle.shape_words.proofs.places.strides_of.Statement.{statement}
 use Rattle.shape_words.proofs.places.strides_of.Tie as tie
-use Rattle.shape_words.proofs.places.strides_of.Reads as reads
-use Rattle.shape_words.proofs.places.strides_of.Lts as lts
 
 array-read-s : tie.Need-array-read-s
 array-read-s c = search needs
@@ -33,6 +30,4 @@ unfolding strides span
 returns c = simp mul-one
 
 pub strides-of-spec : {M : Type 1} → statement M
-strides-of-spec =
-    tie.close
-    (tie.spec array-read-s array-read-s-2 mul-s array-read-t6 mul-t9 array-read-t14 returns)
+strides-of-spec = tie.close (tie.spec array-read-s array-read-s-2 mul-s array-read-t6 mul-t9 array-read-t14 returns)

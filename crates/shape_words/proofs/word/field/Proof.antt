@@ -4,8 +4,6 @@ use lib.Bits.{and-mask}
 use borrow.Author.Needs.{needs}
 use Rattle.shape_words.proofs.word.field.Statement.{statement}
 use Rattle.shape_words.proofs.word.field.Tie as tie
-use Rattle.shape_words.proofs.word.field.Reads as reads
-use Rattle.shape_words.proofs.word.field.Lts as lts
 
 shr-result : tie.Need-shr-result
 shr-result c = search needs

@@ -1,14 +1,10 @@
 use Rattle.model.specs.Header.{goodHeader}
-use mathlib.Core.Path.{refl, sym, _∙_}
+use mathlib.Core.Path.{sym, _∙_}
 use Rattle.shape_words.specs.Rules.{good-vars}
 use Rattle.shape_words.specs.Lengths.{lengths-of}
 use borrow.Author.Needs.{needs}
 use Rattle.shape_words.proofs.word.good_header.Statement.{statement}
 use Rattle.shape_words.proofs.word.good_header.Tie as tie
-use Rattle.shape_words.proofs.word.good_header.Reads as reads
-use Rattle.shape_words.proofs.word.good_header.Lts as lts
-use Rattle.shape_words.proofs.places.count_of.Reads as count-of-reads
-use Rattle.shape_words.proofs.word.good_vars.Reads as good-vars-reads
 
 good-vars-requires : tie.Need-good-vars-requires
 good-vars-requires c κs = search needs

@@ -2,8 +2,6 @@ use mathlib.Core.Path.{refl}
 use Rattle.model.specs.Header.{goodVar}
 use Rattle.shape_words.proofs.word.good_var.Statement.{statement}
 use Rattle.shape_words.proofs.word.good_var.Tie as tie
-use Rattle.shape_words.proofs.word.good_var.Reads as reads
-use Rattle.shape_words.proofs.word.good_var.Lts as lts
 
 returns : tie.Need-returns
 unfolding goodVar

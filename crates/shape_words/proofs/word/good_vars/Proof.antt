@@ -2,9 +2,6 @@ use Rattle.model.specs.Header.{goodVars}
 use borrow.Author.Needs.{needs}
 use Rattle.shape_words.proofs.word.good_vars.Statement.{statement}
 use Rattle.shape_words.proofs.word.good_vars.Tie as tie
-use Rattle.shape_words.proofs.word.good_vars.Reads as reads
-use Rattle.shape_words.proofs.word.good_vars.Lts as lts
-use Rattle.shape_words.proofs.word.good_var.Reads as good-var-reads
 
 returns : tie.Need-returns
 unfolding goodVars
@@ -14,16 +11,6 @@ pub good-vars-spec : {M : Type 1} → statement M
 good-vars-spec =
     tie.close
     (tie.spec
-    (λ c. search needs)
-    (λ c. search needs)
-    (λ c κs. search needs)
-    (λ c. search needs)
-    (λ c. search needs)
-    (λ c κs. search needs)
-    (λ c. search needs)
-    (λ c. search needs)
-    (λ c κs. search needs)
-    (λ c. search needs)
-    (λ c. search needs)
-    (λ c κs. search needs)
-    returns)
+    (λ c. search needs) (λ c. search needs) (λ c κs. search needs) (λ c. search needs) (λ c. search needs)
+    (λ c κs. search needs) (λ c. search needs) (λ c. search needs) (λ c κs. search needs) (λ c. search needs)
+    (λ c. search needs) (λ c κs. search needs) returns)

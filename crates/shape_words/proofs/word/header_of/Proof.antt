@@ -4,9 +4,6 @@ use Prim.Native.Nat.{_-_, _/_, _^_}
 use borrow.Author.Needs.{needs}
 use Rattle.shape_words.proofs.word.header_of.Statement.{statement}
 use Rattle.shape_words.proofs.word.header_of.Tie as tie
-use Rattle.shape_words.proofs.word.header_of.Reads as reads
-use Rattle.shape_words.proofs.word.header_of.Lts as lts
-use Rattle.shape_words.proofs.word.field.Reads as field-reads
 
 returns : tie.Need-returns
 unfolding headerOf
@@ -16,12 +13,5 @@ pub header-of-spec : {M : Type 1} → statement M
 header-of-spec =
     tie.close
     (tie.spec
-    (λ c κs. search needs)
-    (λ c κs. search needs)
-    (λ c κs. search needs)
-    (λ c κs. search needs)
-    (λ c κs. search needs)
-    (λ c κs. search needs)
-    (λ c κs. search needs)
-    (λ c κs. search needs)
-    returns)
+    (λ c κs. search needs) (λ c κs. search needs) (λ c κs. search needs) (λ c κs. search needs) (λ c κs. search needs)
+    (λ c κs. search needs) (λ c κs. search needs) (λ c κs. search needs) returns)

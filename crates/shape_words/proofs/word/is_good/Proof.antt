@@ -3,10 +3,6 @@ use Rattle.model.specs.Word.{goodWord}
 use borrow.Author.Needs.{needs}
 use Rattle.shape_words.proofs.word.is_good.Statement.{statement}
 use Rattle.shape_words.proofs.word.is_good.Tie as tie
-use Rattle.shape_words.proofs.word.is_good.Reads as reads
-use Rattle.shape_words.proofs.word.is_good.Lts as lts
-use Rattle.shape_words.proofs.word.good_header.Reads as good-header-reads
-use Rattle.shape_words.proofs.word.header_of.Reads as header-of-reads
 
 header-of-requires : tie.Need-header-of-requires
 header-of-requires c κs = search needs

@@ -7,14 +7,11 @@ use Rattle.model.specs.Word.{fields, wordOf}
 use borrow.Author.Needs.{needs}
 use Rattle.shape_words.proofs.word.pack.Statement.{statement}
 use Rattle.shape_words.proofs.word.pack.Tie as tie
-use Rattle.shape_words.proofs.word.pack.Reads as reads
-use Rattle.shape_words.proofs.word.pack.Lts as lts
-use Rattle.shape_words.proofs.word.push.Reads as push-reads
 
 push-requires-8 : tie.Need-push-requires-8
 push-requires-8 c κs =
-    let g = (c .before .before .before .before .before .before .before .before .before) .pre in
-    let s0 : (c .before .before .before .before .before .before .before .before .before) .args .h .vars < 8 = omega (arith, g .few) in
+    let start = c .before .before .before .before .before .before .before .before .before in let g = start .pre in
+    let s0 : start .args .h .vars < 8 = omega (arith, g .few) in
     let s1 = step 8 (c .before .before .before .before .before .before .push .ensures) s0 (omega (arith, g .v0)) (g .v0 .most) in
     let s2 = step (2 ^ 9) (c .before .before .before .before .before .push2 .ensures) s1 (g .v0 .pos) (omega (arith, g .v0)) in
     let s3 = step (2 ^ 15) (c .before .before .before .before .push3 .ensures) s2 (omega (arith, g .v1)) (g .v1 .most) in
@@ -27,27 +24,25 @@ push-requires-8 c κs =
 returns : tie.Need-returns
 unfolding fields wordOf
 returns c =
-    let e : c .push8 .result ≡ fields ((c .before .before .before .before .before .before .before .before .before .before) .args .h) = simp (c .push8 .ensures, c .before .push7 .ensures, c .before .before .push6 .ensures, c .before .before .before .push5 .ensures, c .before .before .before .before .push4 .ensures, c .before .before .before .before .before .push3 .ensures, c .before .before .before .before .before .before .push2 .ensures, c .before .before .before .before .before .before .before .push .ensures) in
-    ap (λ (n : ℕ). n * 2 ^ 13 % 2 ^ 64) e ∙ shl-exact 51 13 64 (fields-lt _ ((c .before .before .before .before .before .before .before .before .before .before) .pre)) (search needs)
+    let start = c .before .before .before .before .before .before .before .before .before .before in
+    let e : c .push8 .result ≡ fields (start .args .h) =
+    simp (
+      c .push8 .ensures,
+      c .before .push7 .ensures,
+      c .before .before .push6 .ensures,
+      c .before .before .before .push5 .ensures,
+      c .before .before .before .before .push4 .ensures,
+      c .before .before .before .before .before .push3 .ensures,
+      c .before .before .before .before .before .before .push2 .ensures,
+      c .before .before .before .before .before .before .before .push .ensures,
+    ) in
+    ap (λ (n : ℕ). n * 2 ^ 13 % 2 ^ 64) e ∙ shl-exact 51 13 64 (fields-lt _ (start .pre)) (search needs)
 
 pub pack-spec : {M : Type 1} → statement M
 pack-spec =
     tie.close
     (tie.spec
-    (λ c. search needs)
-    (λ c κs. search needs)
-    (λ c. search needs)
-    (λ c κs. search needs)
-    (λ c. search needs)
-    (λ c κs. search needs)
-    (λ c. search needs)
-    (λ c κs. search needs)
-    (λ c. search needs)
-    (λ c κs. search needs)
-    (λ c. search needs)
-    (λ c κs. search needs)
-    (λ c. search needs)
-    (λ c κs. search needs)
-    (λ c. search needs)
-    push-requires-8
-    returns)
+    (λ c. search needs) (λ c κs. search needs) (λ c. search needs) (λ c κs. search needs) (λ c. search needs)
+    (λ c κs. search needs) (λ c. search needs) (λ c κs. search needs) (λ c. search needs) (λ c κs. search needs)
+    (λ c. search needs) (λ c κs. search needs) (λ c. search needs) (λ c κs. search needs) (λ c. search needs)
+    push-requires-8 returns)

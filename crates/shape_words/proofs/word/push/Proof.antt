@@ -1,12 +1,10 @@
 use native.Mathlib.Omega.{arith}
 use lib.Pow.{shl-exact}
 use lib.Bits.{or-shifted}
-use Prim.Native.Nat.{_-_, _/_, _^_}
+use Prim.Native.Nat.{_-_}
 use borrow.Author.Needs.{needs}
 use Rattle.shape_words.proofs.word.push.Statement.{statement}
 use Rattle.shape_words.proofs.word.push.Tie as tie
-use Rattle.shape_words.proofs.word.push.Reads as reads
-use Rattle.shape_words.proofs.word.push.Lts as lts
 
 sub-result : tie.Need-sub-result
 sub-result c = search needs

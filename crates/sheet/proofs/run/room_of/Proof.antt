@@ -12,40 +12,43 @@ slice-aggregate-total-of : tie.Need-slice-aggregate-total-of
 slice-aggregate-total-of c = sym (length-take-le _ _ (omega arith))
 
 total-of-requires : tie.Need-total-of-requires
-total-of-requires c κs = (front-known (c .before .before .before .args .known .now) (c .before .before .before .args .inputs) (c .before .before .before .pre .0), simp length-take (omega arith))
+total-of-requires c κs =
+    let start = c .before .before .before in
+    (front-known (start .args .known .now) (start .args .inputs) (start .pre .0), simp length-take (omega arith))
 
 slice-aggregate-total-of-2 : tie.Need-slice-aggregate-total-of-2
 slice-aggregate-total-of-2 c = sym (length-take-le _ _ (omega arith))
 
 total-of-requires-2 : tie.Need-total-of-requires-2
-total-of-requires-2 c κs = (last-known (c .before .before .before .before .before .args .known .now) (c .before .before .before .before .before .args .inputs) (c .before .before .before .before .before .pre .0), simp (length-take, length-drop) (omega arith))
+total-of-requires-2 c κs =
+    let start = c .before .before .before .before .before in
+    (last-known (start .args .known .now) (start .args .inputs) (start .pre .0), simp (length-take, length-drop) (omega arith))
 
 total-of-requires-3 : tie.Need-total-of-requires-3
-total-of-requires-3 c κs = (back-known (c .before .before .before .before .before .before .args .known .now) (c .before .before .before .before .before .before .args .inputs) (c .before .before .before .before .before .before .pre .0), simp (length-take, length-drop) (omega arith))
+total-of-requires-3 c κs =
+    let start = c .before .before .before .before .before .before in
+    (back-known (start .args .known .now) (start .args .inputs) (start .pre .0), simp (length-take, length-drop) (omega arith))
 
 largest-of-requires : tie.Need-largest-of-requires
-largest-of-requires c κs = back-known (c .before .before .before .before .before .before .before .args .known .now) (c .before .before .before .before .before .before .before .args .inputs) (c .before .before .before .before .before .before .before .pre .0)
+largest-of-requires c κs =
+    let start = c .before .before .before .before .before .before .before in
+    back-known (start .args .known .now) (start .args .inputs) (start .pre .0)
 
 mul-t16 : tie.Need-mul-t16
-mul-t16 c = omega (arith, c .largest-of .ensures, known-most (back-known (c .before .before .before .before .before .before .before .before .args .known .now) (c .before .before .before .before .before .before .before .before .args .inputs) (c .before .before .before .before .before .before .before .before .pre .0)))
+mul-t16 c =
+    let start = c .before .before .before .before .before .before .before .before in
+    omega (arith, c .largest-of .ensures, known-most (back-known (start .args .known .now) (start .args .inputs) (start .pre .0)))
 
 returns : tie.Need-returns
-returns c = room-is (c .before .before .before .before .before .before .before .before .args .known .now) (c .before .before .before .before .before .before .before .before .args .inputs) (c .before .before .before .before .total-of .ensures) (c .before .before .total-of2 .ensures) (c .before .total-of3 .ensures) (c .largest-of .ensures)
+returns c =
+    let start = c .before .before .before .before .before .before .before .before in
+    room-is (start .args .known .now) (start .args .inputs) (c .before .before .before .before .total-of .ensures)
+    (c .before .before .total-of2 .ensures) (c .before .total-of3 .ensures) (c .largest-of .ensures)
 
 pub room-of-spec : {M : Type 1} → statement M
 room-of-spec =
     tie.close
     (tie.spec
-    (λ c. search needs)
-    (λ c. search needs)
-    (λ c. search needs)
-    (λ c. search needs)
-    slice-aggregate-total-of
-    total-of-requires
-    (λ c. search needs)
-    slice-aggregate-total-of-2
-    total-of-requires-2
-    total-of-requires-3
-    largest-of-requires
-    mul-t16
-    returns)
+    (λ c. search needs) (λ c. search needs) (λ c. search needs) (λ c. search needs) slice-aggregate-total-of
+    total-of-requires (λ c. search needs) slice-aggregate-total-of-2 total-of-requires-2 total-of-requires-3
+    largest-of-requires mul-t16 returns)

@@ -17,10 +17,16 @@ loop-holds : tie.Need-loop-holds Inv-loop μ-loop
 loop-holds c = passing-none _ _ _
 
 returns : tie.Need-returns Inv-loop μ-loop
-returns c = digits-stop (c .before .before .before .before .before .before .args .text .now) (c .before .before .before .before .loop .inv) (c .before .before .before .loop-test .taken) (c .before .before .byte-at .ensures) (c .before .is-digit .ensures) (not-true _ (c .if1 .taken))
+returns c =
+    digits-stop (c .before .before .before .before .before .before .args .text .now)
+    (c .before .before .before .before .loop .inv) (c .before .before .before .loop-test .taken)
+    (c .before .before .byte-at .ensures) (c .before .is-digit .ensures) (not-true _ (c .if1 .taken))
 
 loop-again : tie.Need-loop-again Inv-loop μ-loop
-loop-again c = digits-more (c .before .before .before .before .before .before .args .text .now) (c .before .before .before .before .loop .inv) (c .before .before .before .loop-test .taken) (c .before .before .byte-at .ensures) (c .before .is-digit .ensures) (not-false _ (c .if1 .left))
+loop-again c =
+    digits-more (c .before .before .before .before .before .before .args .text .now)
+    (c .before .before .before .before .loop .inv) (c .before .before .before .loop-test .taken)
+    (c .before .before .byte-at .ensures) (c .before .is-digit .ensures) (not-false _ (c .if1 .left))
 
 returns-2 : tie.Need-returns-2 Inv-loop μ-loop
 returns-2 c = digits-end (c .before .before .before .before .args .text .now) (c .before .before .loop .inv) (c .before .loop-test .left) (c .byte-at2 .ensures)
@@ -31,14 +37,5 @@ is-line-spec =
     (tie.spec
     Inv-loop
     μ-loop
-    loop-holds
-    (λ c. search needs)
-    (λ c κs. search needs)
-    (λ c κs. search needs)
-    returns
-    (λ c. search needs)
-    (λ c. search needs)
-    loop-again
-    (λ c. search needs)
-    (λ c κs. search needs)
-    returns-2)
+    loop-holds (λ c. search needs) (λ c κs. search needs) (λ c κs. search needs) returns (λ c. search needs)
+    (λ c. search needs) loop-again (λ c. search needs) (λ c κs. search needs) returns-2)

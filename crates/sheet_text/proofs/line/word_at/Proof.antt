@@ -18,7 +18,13 @@ mul-word : tie.Need-mul-word Inv-loop μ-loop
 mul-word c = omega (arith, taking-small (c .before .loop .inv) (c .loop-test .taken))
 
 add-word : tie.Need-add-word Inv-loop μ-loop
-add-word c = omega (arith, taking-small (c .before .before .before .loop .inv) (c .before .before .loop-test .taken), c .digit-of .ensures, digit-small (c .before .byte-at .result))
+add-word c =
+    omega (
+      arith,
+      taking-small (c .before .before .before .loop .inv) (c .before .before .loop-test .taken),
+      c .digit-of .ensures,
+      digit-small (c .before .byte-at .result),
+    )
 
 loop-again : tie.Need-loop-again Inv-loop μ-loop
 loop-again c = taking-more (c .before .before .before .loop .inv) (c .before .before .loop-test .taken) (c .before .byte-at .ensures) (c .digit-of .ensures)
@@ -32,13 +38,5 @@ word-at-spec =
     (tie.spec
     Inv-loop
     μ-loop
-    loop-holds
-    (λ c. search needs)
-    mul-word
-    (λ c κs. search needs)
-    (λ c κs. search needs)
-    add-word
-    (λ c. search needs)
-    (λ c. search needs)
-    loop-again
-    returns)
+    loop-holds (λ c. search needs) mul-word (λ c κs. search needs) (λ c κs. search needs) add-word (λ c. search needs)
+    (λ c. search needs) loop-again returns)

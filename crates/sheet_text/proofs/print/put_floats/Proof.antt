@@ -17,10 +17,15 @@ loop-holds : tie.Need-loop-holds Inv-loop μ-loop
 loop-holds c = floats-none _ _ _ (omega arith)
 
 put-line-requires : tie.Need-put-line-requires Inv-loop μ-loop
-put-line-requires c κs = omega (arith, floats-next (c .before .before .before .before .loop .inv), put-len (c .before .before .before .before .loop .inv .put))
+put-line-requires c κs =
+    let c4 = c .before .before .before .before in
+    omega (arith, floats-next (c4 .loop .inv), put-len (c4 .loop .inv .put))
 
 loop-again : tie.Need-loop-again Inv-loop μ-loop
-loop-again c = floats-put (c .before .before .before .before .before .before .before .loop .inv) (c .before .before .before .before .before .before .loop-test .taken) (c .before .before .before .before .word-of .ensures) (c .before .before .put-line .ensures)
+loop-again c =
+    floats-put (c .before .before .before .before .before .before .before .loop .inv)
+    (c .before .before .before .before .before .before .loop-test .taken)
+    (c .before .before .before .before .word-of .ensures) (c .before .before .put-line .ensures)
 
 same-length : tie.Need-same-length Inv-loop μ-loop
 same-length c = put-len (c .before .loop .inv .put)
@@ -34,13 +39,5 @@ put-floats-spec =
     (tie.spec
     Inv-loop
     μ-loop
-    loop-holds
-    (λ c. search needs)
-    (λ c. search needs)
-    (λ c κs. search needs)
-    put-line-requires
-    (λ c. search needs)
-    (λ c. search needs)
-    loop-again
-    same-length
-    returns)
+    loop-holds (λ c. search needs) (λ c. search needs) (λ c κs. search needs) put-line-requires (λ c. search needs)
+    (λ c. search needs) loop-again same-length returns)

@@ -10,7 +10,13 @@ put-word-requires : tie.Need-put-word-requires
 put-word-requires c κs = search needs
 
 put-byte-requires : tie.Need-put-byte-requires
-put-byte-requires c κs = let p = c .before .before .before .put-word .ensures in omega (arith, put-len p, p .behind, length-table (hexDigit (c .before .before .before .before .before .before .args .word)) 16)
+put-byte-requires c κs = let p = c .before .before .before .put-word .ensures in
+    omega (
+      arith,
+      put-len p,
+      p .behind,
+      length-table (hexDigit (c .before .before .before .before .before .before .args .word)) 16,
+    )
 
 same-length : tie.Need-same-length
 same-length c = search needs

@@ -33,13 +33,5 @@ put-word-spec =
     (tie.spec
     Inv-loop
     μ-loop
-    loop-holds
-    (λ c κs. search needs)
-    (λ c. omega arith)
-    slice-write-to
-    (λ c. search needs)
-    (λ c. search needs)
-    loop-again
-    (λ c. omega arith)
-    same-length
-    returns)
+    loop-holds (λ c κs. search needs) (λ c. omega arith) slice-write-to (λ c. search needs) (λ c. search needs)
+    loop-again (λ c. omega arith) same-length returns)

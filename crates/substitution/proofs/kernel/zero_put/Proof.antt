@@ -13,22 +13,32 @@ slice-relend-prefix-pick : tie.Need-slice-relend-prefix-pick
 slice-relend-prefix-pick c = cuts-fits (c .before .before .before .before .pre) (c .before .row-lengths .ensures) (c .count-of .ensures)
 
 slice-aggregate-pick : tie.Need-slice-aggregate-pick
-slice-aggregate-pick c = sym (length-take-le _ (c .before .before .before .before .before .args .out .now) (cuts-fits (c .before .before .before .before .before .pre) (c .before .before .row-lengths .ensures) (c .before .count-of .ensures)))
+slice-aggregate-pick c =
+    let start = c .before .before .before .before .before in
+    sym (length-take-le _ (start .args .out .now) (cuts-fits (start .pre) (c .before .before .row-lengths .ensures) (c .before .count-of .ensures)))
 
 pick-requires : tie.Need-pick-requires
-pick-requires c κs = cuts-picks (c .before .before .before .before .before .pre) (c .before .before .row-lengths .ensures) (length-take-le _ (c .before .before .before .before .before .args .out .now) (cuts-fits (c .before .before .before .before .before .pre) (c .before .before .row-lengths .ensures) (c .before .count-of .ensures)) ∙ c .before .count-of .ensures)
+pick-requires c κs =
+    let start = c .before .before .before .before .before in
+    cuts-picks (start .pre) (c .before .before .row-lengths .ensures)
+    (length-take-le _ (start .args .out .now)
+    (cuts-fits (start .pre) (c .before .before .row-lengths .ensures) (c .before .count-of .ensures))
+    ∙ c .before .count-of .ensures)
 
 returns : tie.Need-returns
-returns c = let j = row-parts (c .before .before .before .before .before .before .before .before .args .limits) (c .before .before .before .before .before .before .before .before .args .v) (c .before .before .before .before .before .before .before .before .args .la) (c .before .before .before .before .before .before .before .before .args .a .now) 0 (c .before .before .before .before .before .row-lengths .ensures) (c .before .before .pick .ensures) in put-front (c .before .before .before .before .count-of .result) (j .0) (j .1) (c .before .before .pick .kept .1 .1 .1 .1 .1 .0 ∙ length-take-le _ (c .before .before .before .before .before .before .before .before .args .out .now) (cuts-fits (c .before .before .before .before .before .before .before .before .pre) (c .before .before .before .before .before .row-lengths .ensures) (c .before .before .before .before .count-of .ensures))) refl
+returns c =
+    let c4 = c .before .before .before .before in let c5 = c4 .before in let start = c5 .before .before .before in
+    let j =
+    row-parts (start .args .limits) (start .args .v) (start .args .la) (start .args .a .now) 0
+    (c5 .row-lengths .ensures) (c .before .before .pick .ensures) in
+    put-front (c4 .count-of .result) (j .0) (j .1)
+    (c .before .before .pick .kept .1 .1 .1 .1 .1 .0
+    ∙ length-take-le _ (start .args .out .now)
+    (cuts-fits (start .pre) (c5 .row-lengths .ensures) (c4 .count-of .ensures))) refl
 
 pub zero-put-spec : {M : Type 1} → statement M
 zero-put-spec =
     tie.close
     (tie.spec
-    (λ c κs. search needs)
-    count-of-requires
-    slice-relend-prefix-pick
-    slice-aggregate-pick
-    pick-requires
-    (λ c. search needs)
-    returns)
+    (λ c κs. search needs) count-of-requires slice-relend-prefix-pick slice-aggregate-pick pick-requires
+    (λ c. search needs) returns)

@@ -20,11 +20,5 @@ pub put-linear-spec : {M : Type 1} → statement M
 put-linear-spec =
     tie.close
     (tie.spec
-    (λ c. search needs)
-    add-result
-    (λ c. search needs)
-    (λ c κs. search needs)
-    (λ c. search needs)
-    returns
-    returns-2
+    (λ c. search needs) add-result (λ c. search needs) (λ c κs. search needs) (λ c. search needs) returns returns-2
     returns-3)

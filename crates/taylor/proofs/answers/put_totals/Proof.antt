@@ -2,9 +2,6 @@ use mathlib.Core.Path.{refl}
 use borrow.Author.Needs.{needs}
 use Rattle.taylor.proofs.answers.put_totals.Statement.{statement}
 use Rattle.taylor.proofs.answers.put_totals.Tie as tie
-use Rattle.taylor.proofs.answers.put_totals.Reads as reads
-use Rattle.taylor.proofs.answers.put_totals.Lts as lts
-use Rattle.taylor.proofs.answers.refusal_word.Reads as refusal-word-reads
 
 enum-known-r : tie.Need-enum-known-r
 enum-known-r c = search needs
@@ -22,5 +19,4 @@ returns-2 : tie.Need-returns-2
 returns-2 c = rw (c .before .before .r2 .given .1) (c .refusal-word .ensures, (refl, (refl, refl)))
 
 pub put-totals-spec : {M : Type 1} → statement M
-put-totals-spec =
-    tie.close (tie.spec enum-known-r enum-known-r-2 refusal-word-requires returns returns-2)
+put-totals-spec = tie.close (tie.spec enum-known-r enum-known-r-2 refusal-word-requires returns returns-2)

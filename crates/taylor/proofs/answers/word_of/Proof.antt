@@ -18,5 +18,4 @@ returns-2 : tie.Need-returns-2
 returns-2 c = rw (c .before .before .r2 .given .1) (c .refusal-word .ensures)
 
 pub word-of-spec : {M : Type 1} → statement M
-word-of-spec =
-    tie.close (tie.spec enum-known-r enum-known-r-2 refusal-word-requires returns returns-2)
+word-of-spec = tie.close (tie.spec enum-known-r enum-known-r-2 refusal-word-requires returns returns-2)

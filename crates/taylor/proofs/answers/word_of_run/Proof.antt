@@ -1,9 +1,6 @@
 use borrow.Author.Needs.{needs}
 use Rattle.taylor.proofs.answers.word_of_run.Statement.{statement}
 use Rattle.taylor.proofs.answers.word_of_run.Tie as tie
-use Rattle.taylor.proofs.answers.word_of_run.Reads as reads
-use Rattle.taylor.proofs.answers.word_of_run.Lts as lts
-use Rattle.taylor.proofs.answers.refusal_word.Reads as refusal-word-reads
 
 enum-told : tie.Need-enum-told
 enum-told c = search needs
@@ -21,5 +18,4 @@ returns-2 : tie.Need-returns-2
 returns-2 c = rw (c .before .before .r .given .1) (c .refusal-word .ensures)
 
 pub word-of-run-spec : {M : Type 1} → statement M
-word-of-run-spec =
-    tie.close (tie.spec enum-told enum-known-r refusal-word-requires returns returns-2)
+word-of-run-spec = tie.close (tie.spec enum-told enum-known-r refusal-word-requires returns returns-2)

@@ -1,12 +1,12 @@
 -- What a loop over rows has done, and one that changes each place in turn.
 use Prim.Native.Nat.{ℕ, zero, suc, _+_, _-_, _≤_, _<_}
 use mathlib.Core.List.{List, [], _∷_, _++_, append-assoc, append-nil}
-use mathlib.Core.Path.{_≡_, refl, sym, ap, _∙_}
+use mathlib.Core.Path.{_≡_, sym, ap, _∙_}
 use native.Mathlib.Omega.{arith}
 use native.Mathlib.Nat.{add-suc, add-zero}
-use lib.ListN.{length, getD, take, drop, length-append, length-take, length-drop}
+use lib.ListN.{length, getD, take, drop, length-append, length-drop}
 use lib.Seq.{take-at, take-all, drop-at, drop-drop, drop-length, getD-drop}
 use Rattle.lists.specs.Table.{table, length-table, table-same, table-take, front, Filled}
 
 -- a table in two parts
 pub table-add {ℓ} : {A : Type ℓ} (f : ℕ → A) (n m : ℕ) → table (n + m) f ≡ table n f ++ table m (λ k. f (n + k))
@@ -50,7 +50,8 @@ module _ {A : Type 0} where
       e .is ∙ (rw (h, drop-length d) (append-nil (table (length d) f)))
 
   -- its front was filled, and f leaves the rest as it was
-  pub filled-front : (x : A) {i : ℕ} {f : ℕ → A} {d out : List A} → Filled i f d out → i ≤ length d → ((k : ℕ) → i ≤ k → k < length d → f k ≡ getD d k x) → out ≡ table (length d) f
+  pub filled-front : (x : A) {i : ℕ} {f : ℕ → A} {d out : List A} → Filled i f d out → i ≤ length d
+      → ((k : ℕ) → i ≤ k → k < length d → f k ≡ getD d k x) → out ≡ table (length d) f
   filled-front x {i} {f} {d} e p h =
       let n : length d ≡ i + (length d - i) = omega arith in
       let t : table (length d - i) (λ k. f (i + k)) ≡ drop i d =

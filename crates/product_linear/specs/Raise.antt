@@ -1,7 +1,8 @@
--- A block shifted up by one in a variable, in contiguous rows: all the places that share the numbers of the variables before v.
+-- A block shifted up by one in a variable, in contiguous rows: all the places that share the numbers of the variables
+-- before v.
 use Prim.Native.Nat.{ℕ, zero, suc, _+_, _-_, _*_, _/_, _%_, _≤_, _<_}
 use mathlib.Core.List.{List, [], _∷_}
-use mathlib.Core.Bool.{false}
+use mathlib.Core.Bool.{false, cond}
 use mathlib.Core.Path.{_≡_, refl, sym, ap, _∙_}
 use native.Mathlib.Omega.{arith}
 use native.Mathlib.Nat.{div-add-mod', mod-lt, div-lt-iff-lt-mul, mul-le-mul-right, add-mul, mul-one, one-mul, mul-assoc}
@@ -17,14 +18,28 @@ use Rattle.lists.specs.Table.{table, table-same}
 use Rattle.model.specs.Header.{count, span}
 use Rattle.model.specs.Places.{strides, place, index, inside}
 use Rattle.model.specs.Refusals.{zeroF}
-use Rattle.model.specs.Poly.{block, readAt}
+use Rattle.model.specs.Poly.{Block, block, readAt}
 use Rattle.model.specs.Product.{raisedAt}
+use Rattle.shape_words.specs.Lengths.{Lengths}
 use Rattle.shape_words.specs.Lengths.{Inside, count-is, count-pos, count-most, lengths-pos, inside-at, inside-four, inside-is, is-inside}
 use Rattle.shape_words.specs.Places.{horner, place-index, index-inside}
 use Rattle.product_linear.specs.Rows.{raisedFlat, linedFlat, Rows}
-use Rattle.product.specs.Room.{linedAt, Raising}
 
--- for the crates above, which go by such rows too
+-- under a linear factor, c and m, at an index of the result: what is shifted there added to +0.0, then c times the
+-- block, as far as it reaches
+abbrev pub linedAt : ℕ → Float → Float → Block → List ℕ → Float
+linedAt v c m b i =
+    cond (inside (b .lengths) i) (add binary64 (add binary64 zeroF (raisedAt v m b i)) (mul binary64 c (readAt b i))) (add binary64 zeroF (raisedAt v m b i))
+
+-- r the lengths n with one row more in v, or as many
+pub record Raising (n : List ℕ) (v : ℕ) (r : List ℕ) (ma mt : ℕ) : Type 0 where
+  pub var : v < 4
+  pub from : Lengths n
+  pub to : Lengths r
+  pub other : (w : ℕ) → w < 4 → (w ≡ v → ⊥) → at r w ≡ at n w
+  pub one : at r v ≤ at n v + 1
+  pub room : count n ≤ ma
+  pub full : mt ≡ count r
 
 -- ---- a place in three parts: the variables before v, v, those after it
 
@@ -60,7 +75,9 @@ split n i (suc (suc (suc (suc v)))) h = absurd (far h)
 
 inner-lt : (n i : List ℕ) (v : ℕ) → v < 4 → Inside n i → inner n i v < at (strides n) v
 unfolding strides span inner
-inner-lt n i zero h t = let e : at n 1 * (at n 2 * (at n 3 * 1)) ≡ at n 1 * at n 2 * at n 3 = simp (mul-one, mul-assoc) in omega (arith, e, digits-lt (digits-lt (t .i1) (t .i2)) (t .i3))
+inner-lt n i zero h t = let e : at n 1 * (at n 2 * (at n 3 * 1)) ≡ at n 1 * at n 2 * at n 3 =
+    simp (mul-one, mul-assoc) in
+    omega (arith, e, digits-lt (digits-lt (t .i1) (t .i2)) (t .i3))
 inner-lt n i (suc zero) h t = omega (arith, digits-lt (t .i2) (t .i3))
 inner-lt n i (suc (suc zero)) h t = omega (arith, t .i3)
 inner-lt n i (suc (suc (suc zero))) h t = omega arith
@@ -105,13 +122,25 @@ outer-same n r i j zero h o p = refl
 outer-same n r i j (suc zero) h o p = p 0 (lit< tt) (two≢ (lit< tt))
 outer-same n r i j (suc (suc zero)) h o p = rw (p 0 (lit< tt) (two≢ (lit< tt)), p 1 (lit< tt) (two≢ (lit< tt)), o 1 (lit< tt) (two≢ (lit< tt)))
 outer-same n r i j (suc (suc (suc zero))) h o p =
-    rw (p 0 (lit< tt) (two≢ (lit< tt)), p 1 (lit< tt) (two≢ (lit< tt)), p 2 (lit< tt) (two≢ (lit< tt)), o 1 (lit< tt) (two≢ (lit< tt)), o 2 (lit< tt) (two≢ (lit< tt)))
+    rw (
+      p 0 (lit< tt) (two≢ (lit< tt)),
+      p 1 (lit< tt) (two≢ (lit< tt)),
+      p 2 (lit< tt) (two≢ (lit< tt)),
+      o 1 (lit< tt) (two≢ (lit< tt)),
+      o 2 (lit< tt) (two≢ (lit< tt)),
+    )
 outer-same n r i j (suc (suc (suc (suc v)))) h o p = absurd (far h)
 
 inner-same : (n r i j : List ℕ) (v : ℕ) → v < 4 → Others v r n → Others v j i → inner n j v ≡ inner r i v
 unfolding inner
 inner-same n r i j zero h o p =
-    rw (p 1 (lit< tt) (one≢ (lit< tt)), p 2 (lit< tt) (one≢ (lit< tt)), p 3 (lit< tt) (one≢ (lit< tt)), o 2 (lit< tt) (one≢ (lit< tt)), o 3 (lit< tt) (one≢ (lit< tt)))
+    rw (
+      p 1 (lit< tt) (one≢ (lit< tt)),
+      p 2 (lit< tt) (one≢ (lit< tt)),
+      p 3 (lit< tt) (one≢ (lit< tt)),
+      o 2 (lit< tt) (one≢ (lit< tt)),
+      o 3 (lit< tt) (one≢ (lit< tt)),
+    )
 inner-same n r i j (suc zero) h o p = rw (p 2 (lit< tt) (one≢ (lit< tt)), p 3 (lit< tt) (one≢ (lit< tt)), o 3 (lit< tt) (one≢ (lit< tt)))
 inner-same n r i j (suc (suc zero)) h o p = p 3 (lit< tt) (one≢ (lit< tt))
 inner-same n r i j (suc (suc (suc zero))) h o p = refl
@@ -124,7 +153,8 @@ digits-one {s} x y p q e =
 
 -- ---- the rows of the result
 
-module _ {n : List ℕ} {v : ℕ} {r : List ℕ} {ma mt : ℕ} (t : Raising n v r ma mt) {s width step : ℕ} (es : s ≡ at (strides n) v) (ew : width ≡ at n v * s) (ep : step ≡ at r v * s) where
+module _ {n : List ℕ} {v : ℕ} {r : List ℕ} {ma mt : ℕ} (t : Raising n v r ma mt) {s width step : ℕ}
+    (es : s ≡ at (strides n) v) (ew : width ≡ at n v * s) (ep : step ≡ at r v * s) where
   stride-r : s ≡ at (strides r) v
   stride-r = es ∙ sym (strides-same n r v (t .var) (t .other))
 
@@ -184,7 +214,8 @@ module _ {n : List ℕ} {v : ℕ} {r : List ℕ} {ma mt : ℕ} (t : Raising n v 
         let g : p / step * step + k ≡ p = div-add-mod' p step in
         let c : p / step * step ≡ p / step * at r v * s = ap (λ (x : ℕ). p / step * x) ep ∙ omega arith in
         let e : (outer r i v * at r v + at i v) * s + inner r i v ≡ (p / step * at r v + k / s) * s + k % s =
-        ap (λ (x : ℕ). (outer r i v * at r v + at i v) * x + inner r i v) stride-r ∙ (sym (split r i v (t .var)) ∙ (place-index r p ∙ omega (arith, g, d, c))) in
+        ap (λ (x : ℕ). (outer r i v * at r v + at i v) * x + inner r i v) stride-r
+        ∙ (sym (split r i v (t .var)) ∙ (place-index r p ∙ omega (arith, g, d, c))) in
         let u = digits-one (outer r i v * at r v + at i v) (p / step * at r v + k / s) (rw stride-r (inner-lt r i v (t .var) low)) (mod-lt k stride-pos) e in
         let w = digits-one (outer r i v) (p / step) (inside-at low v (t .var)) q (u .0) in
         (w .0, w .1, u .1)
@@ -263,10 +294,13 @@ module _ {n : List ℕ} {v : ℕ} {r : List ℕ} {ma mt : ℕ} (t : Raising n v 
     lined-place : (c m : Float) (xs : List Float) → linedFlat c m s width step xs p ≡ linedAt v c m (block n xs) i
     lined-place c m xs =
         let u = raise-place m xs in
-        let y : getD (drop (p / step * width) xs) k nan ≡ readAt (block n xs) i = getD-drop (p / step * width) xs k nan ∙ ap (λ (q : ℕ). getD xs q nan) (sym kept) in
+        let y : getD (drop (p / step * width) xs) k nan ≡ readAt (block n xs) i =
+        getD-drop (p / step * width) xs k nan ∙ ap (λ (q : ℕ). getD xs q nan) (sym kept) in
         decide (ltb k width)
         (λ e. rw (e, is-inside (reached (ltb-true k width e)))
-        (ap (λ (z : Float). add binary64 (add binary64 zeroF z) (mul binary64 c (getD (drop (p / step * width) xs) k nan))) u ∙ ap (λ (z : Float). add binary64 (add binary64 zeroF (raisedAt v m (block n xs) i)) (mul binary64 c z)) y))
+        (ap (λ (z : Float). add binary64 (add binary64 zeroF z)
+        (mul binary64 c (getD (drop (p / step * width) xs) k nan))) u
+        ∙ ap (λ (z : Float). add binary64 (add binary64 zeroF (raisedAt v m (block n xs) i)) (mul binary64 c z)) y))
         (λ e. rw (e, past (ltb-false k width e)) (ap (λ (z : Float). add binary64 zeroF z) u))
 
   -- the result reaches as far as the block
@@ -276,8 +310,10 @@ module _ {n : List ℕ} {v : ℕ} {r : List ℕ} {ma mt : ℕ} (t : Raising n v 
       let b : at n v * s ≤ at r v * s = mul-le-mul-right s h in
       (omega (arith, a, ew), omega (arith, b, ew, ep))
 
-  pub lined-is : (c m : Float) (xs : List Float) {o : List Float} → o ≡ table mt (linedFlat c m s width step xs) → o ≡ table (count r) (λ k. linedAt v c m (block n xs) (index r k))
+  pub lined-is : (c m : Float) (xs : List Float) {o : List Float} → o ≡ table mt (linedFlat c m s width step xs)
+      → o ≡ table (count r) (λ k. linedAt v c m (block n xs) (index r k))
   lined-is c m xs e = e ∙ (ap (λ (x : ℕ). table x (linedFlat c m s width step xs)) (t .full) ∙ table-same _ _ (count r) (λ p h. lined-place p h c m xs))
 
-  pub raise-is : (m : Float) (xs : List Float) {o : List Float} → o ≡ table mt (raisedFlat m s width step xs) → o ≡ table (count r) (λ k. raisedAt v m (block n xs) (index r k))
+  pub raise-is : (m : Float) (xs : List Float) {o : List Float} → o ≡ table mt (raisedFlat m s width step xs)
+      → o ≡ table (count r) (λ k. raisedAt v m (block n xs) (index r k))
   raise-is m xs e = e ∙ (ap (λ (x : ℕ). table x (raisedFlat m s width step xs)) (t .full) ∙ table-same _ _ (count r) (λ p h. raise-place p h m xs))
