@@ -123,6 +123,28 @@ uint64_t taylor_check(const uint64_t *headers, size_t headers_len, const uint64_
 uint64_t taylor_run(const uint64_t *headers, size_t headers_len, const double *coefficients, size_t coefficients_len, const uint64_t *steps,
                     size_t steps_len, double *pool, size_t pool_len, uint64_t *words, size_t words_len, double *scratch, size_t scratch_len);
 
+/* ---- the settings store: 32 departments in 544 lent words, the last eight versions of each
+ *
+ * Each function answers 0 and writes through its pointers, or a refusal (number + 256 * 64) and writes nothing: 18 fewer than 544 words or, but for
+ * settings_fresh, words that no calls leave; 3 department above 31; 4 chance not from 0 to 1, horizon not 1 to 255, recipe above 65,535; 13 `from` is not
+ * the current version; 14 version not kept; 15 the current version is 2^32 - 1. The first in the order named at a function is told. */
+
+/* every department at version 0: chance 0.0, horizon 1, recipe 0; refusal 18 */
+uint64_t settings_fresh(uint64_t *words, size_t len);
+
+/* the current version; a kept one: refusals 18, 3; 18, 3, 14 */
+uint64_t settings_read(const uint64_t *words, size_t len, uint64_t department, uint64_t *version, double *chance, uint64_t *horizon,
+                       uint64_t *recipe);
+uint64_t settings_read_version(const uint64_t *words, size_t len, uint64_t department, uint64_t version, double *chance, uint64_t *horizon,
+                               uint64_t *recipe);
+
+/* the next version, started from version `from`: refusals 18, 3, 4, 13, 15 */
+uint64_t settings_save(uint64_t *words, size_t len, uint64_t department, uint64_t from, double chance, uint64_t horizon, uint64_t recipe,
+                       uint64_t *version);
+
+/* the content of the version `kept` as the next one: refusals 18, 3, 13, 14, 15 */
+uint64_t settings_bring_back(uint64_t *words, size_t len, uint64_t department, uint64_t from, uint64_t kept, uint64_t *version);
+
 #ifdef __cplusplus
 }
 #endif

@@ -69,6 +69,17 @@ mod face {
             headers: *const u64, headers_len: usize, coefficients: *const f64, coefficients_len: usize, steps: *const u64, steps_len: usize,
             pool: *mut f64, pool_len: usize, words: *mut u64, words_len: usize, scratch: *mut f64, scratch_len: usize,
         ) -> u64;
+        pub fn settings_fresh(words: *mut u64, len: usize) -> u64;
+        pub fn settings_read(
+            words: *const u64, len: usize, department: u64, version: *mut u64, chance: *mut f64, horizon: *mut u64, recipe: *mut u64,
+        ) -> u64;
+        pub fn settings_read_version(
+            words: *const u64, len: usize, department: u64, version: u64, chance: *mut f64, horizon: *mut u64, recipe: *mut u64,
+        ) -> u64;
+        pub fn settings_save(
+            words: *mut u64, len: usize, department: u64, from: u64, chance: f64, horizon: u64, recipe: u64, version: *mut u64,
+        ) -> u64;
+        pub fn settings_bring_back(words: *mut u64, len: usize, department: u64, from: u64, kept: u64, version: *mut u64) -> u64;
     }
 }
 
@@ -295,4 +306,61 @@ pub fn run(
         )
     };
     if word == 0 { Ok(()) } else { Err(refusal(word)) }
+}
+
+/// How many words a settings store takes.
+pub const SETTINGS_WORDS: usize = 544;
+
+/// What a planner sets for a department.
+#[derive(Clone, Copy, Debug, PartialEq)]
+pub struct Settings {
+    pub chance: f64,
+    pub horizon: u64,
+    pub recipe: u64,
+}
+
+/// A fresh settings store: every department at version 0, 0.0, 1, 0.
+pub fn settings_fresh(words: &mut [u64]) -> Result<(), Refusal> {
+    let word = unsafe { face::settings_fresh(words.as_mut_ptr(), words.len()) };
+    if word == 0 { Ok(()) } else { Err(refusal(word)) }
+}
+
+/// A department's current version and what it holds.
+pub fn settings_read(words: &[u64], department: u64) -> Result<(u64, Settings), Refusal> {
+    let (mut version, mut held) = (0, Settings { chance: 0.0, horizon: 0, recipe: 0 });
+    let word = unsafe {
+        face::settings_read(
+            words.as_ptr(), words.len(), department, &mut version, &mut held.chance, &mut held.horizon, &mut held.recipe,
+        )
+    };
+    if word == 0 { Ok((version, held)) } else { Err(refusal(word)) }
+}
+
+/// What a kept version holds.
+pub fn settings_read_version(words: &[u64], department: u64, version: u64) -> Result<Settings, Refusal> {
+    let mut held = Settings { chance: 0.0, horizon: 0, recipe: 0 };
+    let word = unsafe {
+        face::settings_read_version(
+            words.as_ptr(), words.len(), department, version, &mut held.chance, &mut held.horizon, &mut held.recipe,
+        )
+    };
+    if word == 0 { Ok(held) } else { Err(refusal(word)) }
+}
+
+/// The next version, made from version `from`; answers its number.
+pub fn settings_save(words: &mut [u64], department: u64, from: u64, content: Settings) -> Result<u64, Refusal> {
+    let mut version = 0;
+    let word = unsafe {
+        face::settings_save(
+            words.as_mut_ptr(), words.len(), department, from, content.chance, content.horizon, content.recipe, &mut version,
+        )
+    };
+    if word == 0 { Ok(version) } else { Err(refusal(word)) }
+}
+
+/// What the version `kept` holds as the next version; answers its number.
+pub fn settings_bring_back(words: &mut [u64], department: u64, from: u64, kept: u64) -> Result<u64, Refusal> {
+    let mut version = 0;
+    let word = unsafe { face::settings_bring_back(words.as_mut_ptr(), words.len(), department, from, kept, &mut version) };
+    if word == 0 { Ok(version) } else { Err(refusal(word)) }
 }

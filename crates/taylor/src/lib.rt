@@ -2,6 +2,7 @@
 // A header word's low five bits are zero, a refusal's are not (specs/Face.antt, specs/Apart.antt). Four limits or four
 // indices are four words.
 mod answers;
+mod settings;
 
 use answers::put;
 use answers::put_linear;

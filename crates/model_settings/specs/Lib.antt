@@ -1,0 +1,3 @@
+pub mod Store
+pub mod Words
+pub mod Calls

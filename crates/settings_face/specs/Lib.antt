@@ -1,0 +1,4 @@
+pub mod Face
+pub mod After
+pub mod Chance
+pub mod Between

@@ -1,0 +1,10 @@
+pub mod Sound
+pub mod Put
+pub mod Held
+pub mod Agree
+pub mod Sequences
+pub mod Encoded
+pub mod Exact
+pub mod Reached
+pub mod Saves
+pub mod Planner
