@@ -80,6 +80,8 @@ mod face {
             words: *mut u64, len: usize, department: u64, from: u64, chance: f64, horizon: u64, recipe: u64, version: *mut u64,
         ) -> u64;
         pub fn settings_bring_back(words: *mut u64, len: usize, department: u64, from: u64, kept: u64, version: *mut u64) -> u64;
+        pub fn taylor_npy_read(file: *const u8, file_len: usize, out: *mut f64, out_len: usize) -> u64;
+        pub fn taylor_npy_write(head: u64, a: *const f64, a_len: usize, file: *mut u8, file_len: usize, written: *mut u64) -> u64;
     }
 }
 
@@ -363,4 +365,14 @@ pub fn settings_bring_back(words: &mut [u64], department: u64, from: u64, kept: 
     let mut version = 0;
     let word = unsafe { face::settings_bring_back(words.as_mut_ptr(), words.len(), department, from, kept, &mut version) };
     if word == 0 { Ok(version) } else { Err(refusal(word)) }
+/// A NumPy array file's values at the front of `out`: its header word.
+pub fn npy_read(file: &[u8], out: &mut [f64]) -> Result<u64, Refusal> {
+    answer(unsafe { face::taylor_npy_read(file.as_ptr(), file.len(), out.as_mut_ptr(), out.len()) })
+}
+
+/// The NumPy array file of a polynomial at the front of `file`: how many bytes it has.
+pub fn npy_write(head: u64, a: &[f64], file: &mut [u8]) -> Result<usize, Refusal> {
+    let mut written = 0;
+    let word = unsafe { face::taylor_npy_write(head, a.as_ptr(), a.len(), file.as_mut_ptr(), file.len(), &mut written) };
+    if word == 0 { Ok(written as usize) } else { Err(refusal(word)) }
 }

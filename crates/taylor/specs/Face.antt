@@ -4,6 +4,7 @@
 use Prim.Native.Nat.{ℕ, _+_, _*_, _^_}
 use mathlib.Core.Bool.{cond}
 use mathlib.Core.List.{List, [], _∷_}
+use mathlib.Core.Path.{_≡_}
 use lib.Ieee.{Float}
 use Rattle.model.specs.declared.Refusal.{Refusal}
 use Rattle.model.specs.declared.Answer.{Answer}
@@ -16,6 +17,9 @@ use Rattle.model_recipes.specs.declared.CheckAnswer.{CheckAnswer}
 use Rattle.model_recipes.specs.declared.CheckAnswer.the-variants as check-answer
 use Rattle.model_recipes.specs.declared.RunAnswer.{RunAnswer}
 use Rattle.model_recipes.specs.declared.RunAnswer.the-variants as run-answer
+use Rattle.npy_files.specs.declared.Written.{Written}
+use Rattle.npy_files.specs.declared.Written.the-variants as written
+use Rattle.npy_files.specs.Reads as npy
 
 -- four limits or four indices of a call, as the entry takes them
 abbrev pub fourOf : ℕ → ℕ → ℕ → ℕ → List ℕ
@@ -78,3 +82,18 @@ inputsAfter (check-answer.Refused r) old = old
 abbrev pub wordOfRun : RunAnswer → ℕ
 wordOfRun run-answer.Done = 0
 wordOfRun (run-answer.Refused r) = wordOfRefusal r
+
+-- an array file is read: the word of an answer that its reading has
+pub record FileRead (t : List ℕ) (old : List Float) (w : ℕ) (new : List Float) : Type 0 where
+  pub answer : Answer
+  pub word : w ≡ wordOfAnswer answer
+  pub reading : npy.Reading t old answer new
+
+-- an array file is written, and how many bytes it has; or not
+abbrev pub wordOfWritten : Written → ℕ
+wordOfWritten (written.Done n) = 0
+wordOfWritten (written.Refused r) = wordOfRefusal r
+
+abbrev pub lengthAfter : Written → ℕ → ℕ
+lengthAfter (written.Done n) old = n
+lengthAfter (written.Refused r) old = old

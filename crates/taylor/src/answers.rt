@@ -5,11 +5,13 @@ use model::Reading;
 use model::Refusal;
 use model_recipes::CheckAnswer;
 use model_recipes::RunAnswer;
+use npy_files::Written;
 ghost use mathlib.Core.Path.{_≡_};
 ghost use Prim.Native.Nat.{_<_};
 ghost use Rattle.taylor.specs.Face.{wordOfRefusal, wordOfAnswer, wordOfReading, valueAfter, variableOf};
 ghost use Rattle.taylor.specs.Face.{wordOfLinear, constantAfter, factorAfter, wordOfCheck, poolAfter};
 ghost use Rattle.taylor.specs.Face.{largestAfter, inputsAfter, wordOfRun};
+ghost use Rattle.taylor.specs.Face.{wordOfWritten, lengthAfter};
 
 // A refusal as one word.
 fn refusal_word(r: Refusal) -> u64
@@ -88,5 +90,19 @@ pub fn word_of_run(r: RunAnswer) -> u64
     match r {
         RunAnswer::Done => 0,
         RunAnswer::Refused(e) => refusal_word(e),
+    }
+}
+
+// The length of a file that was written, written through `length`; a refusal writes nothing.
+pub fn put_written(r: Written, length: &mut u64) -> u64
+    ensures answer { λ w. ⌜ w ≡ wordOfWritten r ⌝ }
+    ensures length { λ w. ⌜ now (length .exit) ≡ lengthAfter r (now (length .entry)) ⌝ }
+{
+    match r {
+        Written::Done(n) => {
+            *length = n as u64;
+            0
+        }
+        Written::Refused(e) => refusal_word(e),
     }
 }

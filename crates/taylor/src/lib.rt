@@ -7,6 +7,7 @@ mod settings;
 use answers::put;
 use answers::put_linear;
 use answers::put_totals;
+use answers::put_written;
 use answers::word_of;
 use answers::word_of_run;
 ghost use mathlib.Core.Path.{_≡_};
@@ -31,8 +32,10 @@ ghost use Rattle.model.specs.Shifts.{derivativeAnswer, derivativeOut, expansion
 ghost use Rattle.model.specs.Substitute.{substituteAnswer, substituteOut, substituteScratch};
 ghost use Rattle.model_recipes.specs.Check.{checkAnswer};
 ghost use Rattle.model_recipes.specs.Run.{runAnswer, runPool, runWords, runScratch};
+ghost use Rattle.npy_files.specs.Writes.{writeAnswer, writeFile};
 ghost use Rattle.taylor.specs.Face.{fourOf, wordOfAnswer, wordOfReading, valueAfter, wordOfLinear, constantAfter};
 ghost use Rattle.taylor.specs.Face.{factorAfter, wordOfCheck, poolAfter, largestAfter, inputsAfter, wordOfRun};
+ghost use Rattle.taylor.specs.Face.{FileRead, wordOfWritten, lengthAfter};
 
 // +0.0, with no variables: refusal 5.
 #[no_mangle]
@@ -462,4 +465,22 @@ pub extern "C" fn taylor_run(
         (now (steps .entry)) (now (pool .entry)) (now (words .entry)) (now (scratch .entry)) ⌝ }
 {
     word_of_run(recipes::run(headers, coefficients, steps, pool, words, scratch))
+}
+
+// The values of a NumPy array file, in row order, at the front of `out`: refusals 10, 5, 10.
+#[no_mangle]
+pub extern "C" fn taylor_npy_read(file: &[u8], out: &mut [f64]) -> u64
+    ensures { λ r. ⌜ FileRead (now (file .entry)) (now (out .entry)) r (now (out .exit)) ⌝ }
+{
+    word_of(npy::read(file, out))
+}
+
+// The NumPy array file of a polynomial, its shape the stored lengths, at the front of `file`, and through `written` how many bytes it has: refusals 1, 2, 5; 0 when done.
+#[no_mangle]
+pub extern "C" fn taylor_npy_write(head: u64, a: &[f64], file: &mut [u8], written: &mut u64) -> u64
+    ensures answer { λ r. ⌜ r ≡ wordOfWritten (writeAnswer head (now (a .entry)) (now (file .entry))) ⌝ }
+    ensures bytes { λ r. ⌜ now (file .exit) ≡ writeFile head (now (a .entry)) (now (file .entry)) ⌝ }
+    ensures length { λ r. ⌜ now (written .exit) ≡ lengthAfter (writeAnswer head (now (a .entry)) (now (file .entry))) (now (written .entry)) ⌝ }
+{
+    put_written(npy::write(head, a, file), written)
 }

@@ -1,0 +1,95 @@
+use native.Mathlib.Omega.{arith}
+use mathlib.Core.Path.{_≡_, refl, sym, ap, _∙_}
+use borrow.Author.Tests.{not-true, not-false}
+use lib.Seq.{length-take-le}
+use Prim.Native.Nat.{ℕ, _+_, _*_, _≤_}
+use lib.ListN.{length, take}
+use Rattle.model.specs.declared.Header.{Header}
+use Rattle.model.specs.Header.{count}
+use Rattle.model.specs.Word.{headerOf}
+use Rattle.shape_words.specs.Lengths.{Lengths, lengths-of}
+use Rattle.shape_words.specs.Words.{good-word}
+use Rattle.npy_writing.specs.Front.{Shaped, PutFront}
+use Rattle.sheet_text.specs.Put.{put-len}
+use Rattle.npy.specs.Writing.{write-bad, write-shaped, write-few, write-short, write-done}
+use mathlib.Core.Path.{subst}
+use borrow.Author.Needs.{needs}
+use Rattle.npy.proofs.write.Statement.{statement}
+use Rattle.npy.proofs.write.Tie as tie
+use Rattle.npy.proofs.write.Reads as reads
+use Rattle.npy.proofs.write.Lts as lts
+use Rattle.npy_bytes.proofs.put_data.Reads as put-data-reads
+use Rattle.npy_files.proofs.Written.refused.Reads as refused-reads
+use Rattle.npy_writing.proofs.put_front.Reads as put-front-reads
+use Rattle.shape_words.proofs.places.count_of.Reads as count-of-reads
+use Rattle.shape_words.proofs.word.header_of.Reads as header-of-reads
+use Rattle.shape_words.proofs.word.is_good.Reads as is-good-reads
+
+is-good-requires : tie.Need-is-good-requires
+is-good-requires c κs = search needs
+
+refused-requires : tie.Need-refused-requires
+refused-requires c κs = search needs
+
+returns : tie.Need-returns
+returns c = write-bad (c .before .before .before .before .before .args .head) (c .before .before .before .before .before .args .a .now) (c .before .before .before .before .before .args .file .now) (c .before .before .is-good .ensures) (not-true _ (c .before .if1 .taken)) (c .refused .ensures)
+
+header-of-requires : tie.Need-header-of-requires
+header-of-requires c κs = search needs
+
+count-of-requires : tie.Need-count-of-requires
+count-of-requires c κs = subst (λ (x : Header). Lengths (x .lengths)) (sym (c .before .header-of .ensures)) (lengths-of (good-word (c .before .before .before .before .before .before .args .head) (sym (c .before .before .before .is-good .ensures) ∙ not-false _ (c .before .before .if1 .left)) .regular .rules))
+
+refused-requires-2 : tie.Need-refused-requires-2
+refused-requires-2 c κs = search needs
+
+returns-2 : tie.Need-returns-2
+returns-2 c = write-few (c .before .before .before .before .before .before .before .before .before .args .head) (c .before .before .before .before .before .before .before .before .before .args .a .now) (c .before .before .before .before .before .before .before .before .before .args .file .now) (c .before .before .before .before .before .before .is-good .ensures) (not-false _ (c .before .before .before .before .before .if1 .left)) (c .before .before .count-of .ensures ∙ ap (λ (x : Header). count (x .lengths)) (c .before .before .before .before .header-of .ensures)) (c .before .if2 .taken) (c .refused2 .ensures)
+
+mul-if3 : tie.Need-mul-if3
+mul-if3 c = search needs
+
+add-if3 : tie.Need-add-if3
+add-if3 c = search needs
+
+refused-requires-3 : tie.Need-refused-requires-3
+refused-requires-3 c κs = search needs
+
+returns-3 : tie.Need-returns-3
+returns-3 c = write-short (c .before .before .before .before .before .before .before .before .before .before .args .head) (c .before .before .before .before .before .before .before .before .before .before .args .a .now) (c .before .before .before .before .before .before .before .before .before .before .args .file .now) (c .before .before .before .before .before .before .before .is-good .ensures) (not-false _ (c .before .before .before .before .before .before .if1 .left)) (c .before .before .before .count-of .ensures ∙ ap (λ (x : Header). count (x .lengths)) (c .before .before .before .before .before .header-of .ensures)) (c .before .before .if2 .left) (c .before .if3 .taken) (c .refused3 .ensures)
+
+put-front-requires : tie.Need-put-front-requires
+put-front-requires c κs = (subst (λ (x : Header). Shaped (x .vars) (x .lengths)) (sym (c .before .before .before .before .before .header-of .ensures)) (write-shaped (c .before .before .before .before .before .before .before .before .before .before .args .head) (c .before .before .before .before .before .before .before .before .before .before .args .a .now) (c .before .before .before .before .before .before .before .before .before .before .args .file .now) (c .before .before .before .before .before .before .before .is-good .ensures) (not-false _ (c .before .before .before .before .before .before .if1 .left))), omega (arith, c .before .if3 .left))
+
+slice-aggregate-put-data : tie.Need-slice-aggregate-put-data
+slice-aggregate-put-data c = sym (length-take-le (c .before .before .before .before .before .before .before .count-of .result) (c .before .before .before .before .before .before .before .before .before .before .before .before .before .before .args .a .now) (c .before .before .before .before .before .before .if2 .left))
+
+put-data-requires : tie.Need-put-data-requires
+put-data-requires c κs = omega (arith, length-take-le (c .before .before .before .before .before .before .before .before .count-of .result) (c .before .before .before .before .before .before .before .before .before .before .before .before .before .before .before .args .a .now) (c .before .before .before .before .before .before .before .if2 .left), put-len (c .before .before .before .before .put-front .ensures .put), c .before .before .before .before .put-front .ensures .is, c .before .before .before .before .before .before .if3 .left)
+
+same-length : tie.Need-same-length
+same-length c = search needs
+
+returns-4 : tie.Need-returns-4
+returns-4 c = write-done (c .before .before .before .before .before .before .before .before .before .before .before .before .before .before .before .before .before .before .args .head) (c .before .before .before .before .before .before .before .before .before .before .before .before .before .before .before .before .before .before .args .a .now) (c .before .before .before .before .before .before .before .before .before .before .before .before .before .before .before .before .before .before .args .file .now) (c .before .before .before .before .before .before .before .before .before .before .before .before .before .before .before .is-good .ensures) (not-false _ (c .before .before .before .before .before .before .before .before .before .before .before .before .before .before .if1 .left)) (c .before .before .before .before .before .before .before .before .before .before .before .count-of .ensures ∙ ap (λ (x : Header). count (x .lengths)) (c .before .before .before .before .before .before .before .before .before .before .before .before .before .header-of .ensures)) (c .before .before .before .before .before .before .before .before .before .before .if2 .left) (c .before .before .before .before .before .before .before .before .before .if3 .left) (c .before .before .before .before .before .before .before .before .before .before .before .before .before .header-of .ensures) (c .before .before .before .before .before .before .before .put-front .ensures) (c .before .before .put-data .ensures)
+
+pub write-spec : {M : Type 1} → statement M
+write-spec =
+    tie.close
+    (tie.spec
+    is-good-requires
+    refused-requires
+    returns
+    header-of-requires
+    count-of-requires
+    refused-requires-2
+    returns-2
+    mul-if3
+    add-if3
+    refused-requires-3
+    returns-3
+    put-front-requires
+    slice-aggregate-put-data
+    put-data-requires
+    same-length
+    returns-4)

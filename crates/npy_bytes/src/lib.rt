@@ -1,0 +1,107 @@
+// Bytes of array files as numbers and floats, and back.
+use sheet_bits::float_of;
+use sheet_bits::word_of;
+ghost use mathlib.Core.Path.{_≡_};
+ghost use Prim.Native.Nat.{_+_, _*_, _≤_, _<_};
+ghost use lib.ListN.{length};
+ghost use Rattle.lists.specs.Table.{table};
+ghost use Rattle.npy_grammar.specs.Text.{eight};
+ghost use Rattle.npy_files.specs.Frame.{little, startsWith};
+ghost use Rattle.npy_files.specs.Values.{valueAt};
+ghost use Rattle.npy_files.specs.Writes.{lowBytes, dataOut};
+ghost use Rattle.npy_bytes.specs.Words.{byteLow};
+ghost use Rattle.sheet_text.specs.Put.{Put};
+
+// Whether a file starts with these bytes.
+pub fn starts_with(file: &[u8], word: &[u8]) -> bool
+    ensures { λ r. ⌜ r ≡ startsWith (now (word .entry)) (now (file .entry)) ⌝ }
+{
+    let mut k = 0;
+    while k < word.len() {
+        if file.len() <= k {
+            return false;
+        }
+        if file[k] != word[k] {
+            return false;
+        }
+        k += 1;
+    }
+    true
+}
+
+fn wide(b: u8) -> u64
+    ensures { λ r. ⌜ (r ≡ b) × (r ≤ 255) ⌝ }
+{
+    b as u64
+}
+
+// The number in two bytes.
+pub fn little_2(file: &[u8], at: usize) -> u64
+    requires { ⌜ at + 2 ≤ length (now file) ⌝ }
+    ensures { λ r. ⌜ (r ≡ little 2 (now (file .entry)) at) × (r ≤ 65535) ⌝ }
+{
+    wide(file[at]) + 256 * wide(file[at + 1])
+}
+
+// The word in eight bytes.
+fn little_8(file: &[u8], at: usize) -> u64
+    requires { ⌜ at + 8 ≤ length (now file) ⌝ }
+    ensures { λ r. ⌜ r ≡ little 8 (now (file .entry)) at ⌝ }
+{
+    wide(file[at])
+        + 256 * wide(file[at + 1])
+        + 65536 * wide(file[at + 2])
+        + 16777216 * wide(file[at + 3])
+        + 4294967296 * wide(file[at + 4])
+        + 1099511627776 * wide(file[at + 5])
+        + 281474976710656 * wide(file[at + 6])
+        + 72057594037927936 * wide(file[at + 7])
+}
+
+// The floats from a place on, as many as `out` has places.
+pub fn fill(file: &[u8], at: usize, out: &mut [f64])
+    requires { ⌜ at + 8 * length (now out) ≤ length (now file) ⌝ }
+    ensures { λ _. ⌜ now (out .exit) ≡ table (length (now (out .entry))) (valueAt eight (now (file .entry)) at) ⌝ }
+{
+    let n = out.len();
+    let mut k = 0;
+    while k < n {
+        out[k] = float_of(little_8(file, at + 8 * k));
+        k += 1;
+    }
+}
+
+// Byte number k of a word, the lowest first.
+fn byte_of(word: u64, k: u64) -> u8
+    requires { ⌜ k < 8 ⌝ }
+    ensures { λ r. ⌜ r ≡ byteLow word k ⌝ }
+{
+    ((word >> (8 * k)) % 256) as u8
+}
+
+// The eight bytes of a word; answers the place behind them.
+fn put_eight(word: u64, at: usize, to: &mut [u8]) -> usize
+    requires { ⌜ at + 8 ≤ length (now to) ⌝ }
+    ensures { λ r. ⌜ Put at (lowBytes 8 word) (now (to .entry)) (now (to .exit)) r ⌝ }
+{
+    let mut k = 0;
+    while k < 8 {
+        to[at + k] = byte_of(word, k as u64);
+        k += 1;
+    }
+    at + k
+}
+
+// The bytes of floats; answers the place behind them.
+pub fn put_data(xs: &[f64], at: usize, to: &mut [u8]) -> usize
+    requires { ⌜ at + 8 * length (now xs) ≤ length (now to) ⌝ }
+    ensures { λ r. ⌜ Put at (dataOut (now (xs .entry))) (now (to .entry)) (now (to .exit)) r ⌝ }
+{
+    let mut next = at;
+    let mut k = 0;
+    while k < xs.len() {
+        next = put_eight(word_of(xs[k]), next, to);
+        k += 1;
+    }
+    next
+}

@@ -1,0 +1,4 @@
+pub mod Spelt
+pub mod Back
+pub mod Same
+pub mod Written

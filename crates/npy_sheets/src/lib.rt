@@ -1,0 +1,51 @@
+// What the program `from_npy` prints: the lines of a sheet for an array file (document 02, W2), or the line of its refusal.
+use gates::stored_of;
+use model::Answer;
+use model::Refusal;
+use shape_words::word::header_of;
+use sheet_text::print::put_byte;
+use sheet_text::print::put_bytes;
+use sheet_text::print::put_decimal;
+use sheet_text::print::put_floats;
+use sheet_text::print::put_line;
+ghost use mathlib.Core.Path.{_≡_};
+ghost use Prim.Native.Nat.{_+_, _*_, _≤_};
+ghost use lib.ListN.{length};
+ghost use Rattle.model_texts.specs.Printed.{refusedText};
+ghost use Rattle.npy_sheets.specs.Shown.{sheetText, Shown};
+ghost use Rattle.sheet_text.specs.Put.{Put};
+
+// One line of `refused`, number, place.
+fn put_refusal(r: Refusal, to: &mut [u8]) -> usize
+    requires { ⌜ 16 ≤ length (now to) ⌝ }
+    ensures { λ n. ⌜ Put 0 (refusedText r) (now (to .entry)) (now (to .exit)) n ⌝ }
+{
+    let a = put_bytes(b"refused ", 0, to);
+    let b = put_decimal(r.number as u64, a, to);
+    let c = put_byte(32, b, to);
+    let d = put_decimal(r.place as u64, c, to);
+    put_byte(10, d, to)
+}
+
+// A header word and coefficients, a line each.
+fn put_sheet(head: u64, xs: &[f64], to: &mut [u8]) -> usize
+    requires { ⌜ 17 + 17 * length (now xs) ≤ length (now to) ⌝ }
+    ensures { λ n. ⌜ Put 0 (sheetText head (now (xs .entry))) (now (to .entry)) (now (to .exit)) n ⌝ }
+{
+    let a = put_line(head, 0, to);
+    put_floats(xs, a, to)
+}
+
+// What is printed for a file, at the front of `output`; answers how long it is. `values` is memory for the coefficients.
+pub fn show(file: &[u8], values: &mut [f64], output: &mut [u8]) -> usize
+    requires { ⌜ (length (now values) ≡ 4096) × (69649 ≤ length (now output)) ⌝ }
+    ensures { λ n. ⌜ Shown (now (file .entry)) (now (values .entry)) (now (values .exit)) (now (output .entry)) (now (output .exit)) n ⌝ }
+{
+    match npy::read(file, values) {
+        Answer::Done(head) => {
+            let count = stored_of(header_of(head));
+            put_sheet(head, &values[..count], output)
+        }
+        Answer::Refused(e) => put_refusal(e, output),
+    }
+}

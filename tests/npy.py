@@ -1,0 +1,81 @@
+#!/usr/bin/env python3
+"""Compares the program `from_npy` with NumPy (any 1.x or 2.x) and with the grammar of document 02's W2 written as a regular expression.
+
+    tests/npy.py PROGRAM SEED COUNT
+
+PROGRAM is the built program (and, where it needs one, an emulator before it, in one word with spaces). A good file is first damaged at every place: each byte
+changed, cut and doubled. Then COUNT random files follow, some of them damaged. What is read has to be what NumPy reads; a file that is refused by 10 has to be
+outside the grammar. Needs NumPy; the gate does not run it."""
+import io, random, re, struct, subprocess, sys
+import numpy as np
+
+np.seterr(all="ignore")
+
+B = rb"[ \t\n\f\r]*"
+NUMBER = rb"(?:0|[1-9][0-9]*)"
+TUPLE = rb"\(" + B + rb"(?:" + NUMBER + B + rb"," + B + rb"|" + NUMBER + rb"(?:" + B + rb"," + B + NUMBER + rb")+(?:" + B + rb",)?" + B + rb")?\)"
+def item(key, value): return rb"(?:'" + key + rb"'|\"" + key + rb"\")" + B + rb":" + B + value
+ITEM = rb"(?:" + item(b"descr", rb"(?:'<f8'|\"<f8\")") + rb"|" + item(b"fortran_order", b"False") + rb"|" + item(b"shape", TUPLE) + rb")"
+HEADER = re.compile(rb"[ \t]*\{" + B + ITEM + B + rb"," + B + ITEM + B + rb"," + B + ITEM + B + rb"(?:," + B + rb")?\} *\n", re.S)
+
+def by_rules(f):
+    """refusal number, or the shape"""
+    if f[:8] != b"\x93NUMPY\x01\x00" or len(f) < 10: return 10
+    n = f[8] + 256 * f[9]
+    text, data = f[10:10 + n], f[10 + n:]
+    if len(text) < n or not HEADER.fullmatch(text): return 10
+    for key in (b"descr", b"fortran_order", b"shape"):
+        if len(re.findall(rb"['\"]" + key + rb"['\"]", text)) != 1: return 10
+    shape = tuple(int(x) for x in re.findall(rb"[0-9]+", re.search(TUPLE, text).group()))
+    count = 1
+    for x in shape: count *= x
+    if len(shape) > 4 or any(not 1 <= x <= 64 for x in shape) or count > 4096: return 5
+    return shape if len(data) == 8 * count else 10
+
+def expected(f):
+    r = by_rules(f)
+    if isinstance(r, int): return "refused %d 64\n" % r
+    table = np.load(io.BytesIO(f), allow_pickle=False)
+    assert table.shape == r and table.dtype == np.dtype("<f8"), (table.shape, r)
+    w = len(r)
+    for k in range(4):
+        n = r[k] if k < len(r) else 1
+        w = w << 12 | (n - 1) << 6 | (n - 1)
+    words = [w << 13] + [0x7ff8000000000000 if x != x else struct.unpack("<Q", struct.pack("<d", x))[0] for x in table.ravel()]
+    return "".join("%016x\n" % x for x in words)
+
+def saved(table):
+    b = io.BytesIO(); np.save(b, table); return b.getvalue()
+
+def damaged(r, f):
+    p = r.randrange(len(f)); k = r.randrange(3)
+    return [f[:p] + bytes([r.randrange(256)]) + f[p + 1:], f[:p] + f[p + 1:], f[:p] + f[p:p + 1] + f[p:]][k]
+
+def files(r, count):
+    good = saved(np.array([[0.25, 0.5, 0.25], [-0.0, np.nan, 1e-310]]))
+    yield good
+    for p in range(len(good)):
+        yield good[:p] + bytes([good[p] ^ (1 + p % 255)]) + good[p + 1:]
+        yield good[:p] + good[p + 1:]
+        yield good[:p] + good[p:p + 1] + good[p:]
+    for _ in range(count):
+        shape = tuple(r.choice([1, 2, 3, 4, 7, 64, 65, 0]) for _ in range(r.randrange(6)))
+        if np.prod(shape, dtype=float) > 5000: shape = shape[:1]
+        table = np.frombuffer(r.randbytes(8 * int(np.prod(shape))), dtype="<f8").reshape(shape)
+        f = saved(table.astype(r.choice(["<f8"] * 6 + ["<f4", ">f8", "<i8"])))
+        yield damaged(r, f) if r.random() < 0.5 else f
+
+def main():
+    program, seed, count = sys.argv[1].split(), int(sys.argv[2]), int(sys.argv[3])
+    r = random.Random(seed); seen = {}; wrong = 0
+    for f in files(r, count):
+        want = expected(f)
+        got = subprocess.run(program, input=f, capture_output=True).stdout.decode()
+        kind = want.strip() if want.startswith("refused") else "read"
+        seen[kind] = seen.get(kind, 0) + 1
+        if got != want:
+            wrong += 1
+            print("differs:", f[:160], "want", want[:60], "got", got[:60])
+    print(sum(seen.values()), "files,", wrong, "differ;", seen)
+
+main()
