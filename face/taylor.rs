@@ -365,6 +365,8 @@ pub fn settings_bring_back(words: &mut [u64], department: u64, from: u64, kept: 
     let mut version = 0;
     let word = unsafe { face::settings_bring_back(words.as_mut_ptr(), words.len(), department, from, kept, &mut version) };
     if word == 0 { Ok(version) } else { Err(refusal(word)) }
+}
+
 /// A NumPy array file's values at the front of `out`: its header word.
 pub fn npy_read(file: &[u8], out: &mut [f64]) -> Result<u64, Refusal> {
     answer(unsafe { face::taylor_npy_read(file.as_ptr(), file.len(), out.as_mut_ptr(), out.len()) })

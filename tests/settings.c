@@ -1,6 +1,7 @@
-/* The settings store of the archive behind a pipe, for tests/settings.py; freestanding, since the archive is for x86-64 and the machine may be another.
- * A call, in words of 64 bits: its number, how many words are lent, five numbers, the words. Told: the answer, version, chance, horizon and recipe
- * as they stand behind their pointers (77 before the call), the words after it. */
+/* The settings store of the archive behind a pipe, for tests/settings.py; freestanding, since the archive is for x86-64
+ * and the machine may be another. A call, in words of 64 bits: its number, how many words are lent, five numbers, the
+ * words. Told: the answer, version, chance, horizon and recipe as they stand behind their pointers (77 before the
+ * call), the words after it. */
 #include "../face/taylor.h"
 
 enum { HEAD = 7, TOLD = 5, MOST = 1024 };

@@ -1,6 +1,8 @@
-// The program `from_npy` (document 02, W2): an array file of NumPy on standard input, its sheet lines on standard output.
-// No contract can say what is read or printed. `npy_sheets::show` says what is printed for a file. A file that is taken has at most 98,313
-// bytes: ten, a header of 65,535, and 4,096 values; one byte more is read, so that a longer one is seen to be longer.
+// The program `from_npy` (document 02, W2): an array file of NumPy on standard input, its sheet lines on standard
+// output.
+// No contract can say what is read or printed. `npy_sheets::show` says what is printed for a file. A file that is taken
+// has at most 98,313 bytes: ten, a header of 65,535, and 4,096 values; one byte more is read, so that a longer one is
+// seen to be longer.
 use libc::STDIN_FILENO;
 use libc::STDOUT_FILENO;
 

@@ -1,7 +1,7 @@
 -- Where a full length passes a limit, terms may be lost: for each kind that can, a recipe that the check accepts, whole
 -- numbers for its inputs, and a coefficient other than 0 that lies outside the limits of the place. A constant never
--- passes a limit; a negation and the shifts do only where their operand does. And recipes that are whole, though a limit
--- falls, or though a place leaves terms out that the answer is not made of.
+-- passes a limit; a negation and the shifts do only where their operand does. And recipes that are whole, though a
+-- limit falls, or though a place leaves terms out that the answer is not made of.
 use Prim.Native.Nat.{ℕ, _+_, _-_}
 use mathlib.Core.Bool.{Bool, true, false}
 use mathlib.Core.List.{List, [], _∷_, map}
@@ -168,7 +168,8 @@ wholes =
     ∷ row (example (four ∷ []) (upward ∷ []) (0x7000000000008000 ∷ []) 1) (kept (pos 24))
     ∷ row (example (four ∷ []) (upward ∷ []) (0x8000000000008000 ∷ []) 1) (kept (pos 12))
     ∷ row (example (four ∷ []) (upward ∷ []) (0x9000000000008000 ∷ []) 0) (kept (pos 6))
-    -- the product of (1, 1, 1) and (1, 1, 1) under the limit 3, to the power of 0; and put for a variable that is not there
+    -- the product of (1, 1, 1) and (1, 1, 1) under the limit 3, to the power of 0; and put for a variable that is not
+    -- there
     ∷ row (afterProduct 0x6080000000000000 0) (kept (pos 1))
     ∷ row (afterProduct 0xa002400000000000 2) (kept (pos 1))
     ∷ []

@@ -1,6 +1,6 @@
 // The program `limits`: reads a sheet on standard input and prints, in plain text, every limit before any figure.
-// No contract can say what is read or printed. `report::answer` says what is printed for a text, as much of it as is read
-// here decides (told-front), and it is printed whole (told-whole).
+// No contract can say what is read or printed. `report::answer` says what is printed for a text, as much of it as is
+// read here decides (told-front), and it is printed whole (told-whole).
 use libc::STDIN_FILENO;
 use libc::STDOUT_FILENO;
 use sheet_text::line::sheet_memory;

@@ -1,4 +1,5 @@
--- Calls one after the other (document 02, W8: 'any sequence of calls'): what they answer and leave, of the lists and of the words.
+-- Calls one after the other (document 02, W8: 'any sequence of calls'): what they answer and leave, of the lists and of
+-- the words.
 use Prim.Native.Nat.{ℕ}
 use mathlib.Core.List.{List, [], _∷_}
 use Rattle.model_settings.specs.declared.Settled.{Settled}

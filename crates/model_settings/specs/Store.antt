@@ -1,4 +1,5 @@
--- Document 02, W8: the settings store as 32 lists of contents, a list a department, oldest first; each call as a function of the lists and its arguments.
+-- Document 02, W8: the settings store as 32 lists of contents, a list a department, oldest first; each call as a
+-- function of the lists and its arguments.
 use Prim.Native.Nat.{ℕ, _+_, _-_}
 use mathlib.Core.Bool.{Bool, true, false, _&&_, _||_, cond}
 use mathlib.Core.List.{List, [], _∷_, _++_}
@@ -42,7 +43,8 @@ unfoldable pub ask : Bool → ℕ → Settled → Settled
 ask true n next = next
 ask false n next = refuse n
 
--- The calls of department d, whose current version is v and whose versions hold `at`, refusals in the order in which they are tested.
+-- The calls of department d, whose current version is v and whose versions hold `at`, refusals in the order in which
+-- they are tested.
 unfoldable pub reading : ℕ → ℕ → (ℕ → Content) → Settled
 reading d v at = ask (ltb d 32) 3 (told v (at v))
 

@@ -1,4 +1,5 @@
--- The store as words: 17 a department, its version, then for slot 0 to 7 the chance's bits and horizon + 256 * recipe. Version u stands in slot u mod 8.
+-- The store as words: 17 a department, its version, then for slot 0 to 7 the chance's bits and horizon + 256 * recipe.
+-- Version u stands in slot u mod 8.
 use Prim.Native.Nat.{ℕ, zero, suc, _+_, _-_, _*_, _/_, _%_}
 use mathlib.Core.Bool.{Bool, _&&_, cond}
 use mathlib.Core.List.{List}
@@ -49,7 +50,8 @@ heldAt w d u = slotAt w d (u % 8)
 unfoldable pub sameContent : Content → Content → Bool
 sameContent a b = eqb (a .chance) (b .chance) && (eqb (a .horizon) (b .horizon) && eqb (a .recipe) (b .recipe))
 
--- The test of a store's words: a slot whose version was not made is blank; version 0, while it is kept, is the fresh content; the others are in range.
+-- The test of a store's words: a slot whose version was not made is blank; version 0, while it is kept, is the fresh
+-- content; the others are in range.
 unfoldable pub goodSlot : ℕ → Content → ℕ → Bool
 goodSlot v c k =
     cond (ltb v k) (sameContent c blank) (cond (eqb k 0 && ltb v 8) (sameContent c freshContent) (inRange c))

@@ -1,8 +1,8 @@
 -- REFERENCE 8.1. Document 01, 'Where the result is exact': the textbook objects, power series with whole coefficients
--- by the rules of Knuth, Seminumerical Algorithms, 4.7. Definitions only.
--- A series is its coefficients, one for each index; an index is four numbers, one to a variable.
--- No coefficient of a sum, difference, product or quotient depends on one further on in any variable, and a substitution
--- and a shift take every row that is stored: so a truncated result is the result, looked at below the limits only.
+-- by the rules of Knuth, Seminumerical Algorithms, 4.7. Definitions only. A series is its coefficients, one for each
+-- index; an index is four numbers, one to a variable. No coefficient of a sum, difference, product or quotient depends
+-- on one further on in any variable, and a substitution and a shift take every row that is stored: so a truncated
+-- result is the result, looked at below the limits only.
 use Prim.Native.Nat.{ℕ, zero, suc, _+_}
 use mathlib.Core.Bool.{cond}
 use mathlib.Core.List.{List}

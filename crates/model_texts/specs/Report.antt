@@ -1,6 +1,6 @@
 -- The report of a sheet: every limit before any figure. A line for each place; a line for each input that fills its
--- limit, each limit that falls and each full length that passes its limit; what decided each limit of the answer; and one
--- line that says whether the answer is whole: from the headers that the places announce and the step words alone.
+-- limit, each limit that falls and each full length that passes its limit; what decided each limit of the answer; and
+-- one line that says whether the answer is whole: from the headers that the places announce and the step words alone.
 use Prim.Native.Nat.{ℕ, zero, suc, _+_, _-_}
 use Prim.Native.String.{String}
 use mathlib.Core.Bool.{Bool, _&&_, _||_, cond}
@@ -29,7 +29,8 @@ unfoldable pub joined : (ℕ → List ℕ) → ℕ → List ℕ
 joined f zero = []
 joined f (suc n) = joined f n ++ f n
 
--- ---- a line for each place: its number, what it is, its number of variables, and of each the limit and the stored length
+-- ---- a line for each place: its number, what it is, its number of variables, and of each the limit and the stored
+-- length
 
 unfoldable pub pairText : Header → ℕ → List ℕ
 pairText h v = when (ltb v (h .vars)) (tell " " (limit h v) ++ tell "/" (len h v))

@@ -1,6 +1,6 @@
 -- Which place decides a limit, and where a limit falls ('every limit, shown before any figure'). `known` are the
--- headers that all places announce, ss the step words; the first `inputs` places are inputs. An operand counts where the
--- step's kind uses it, whether or not its value is needed, and where it has the variable.
+-- headers that all places announce, ss the step words; the first `inputs` places are inputs. An operand counts where
+-- the step's kind uses it, whether or not its value is needed, and where it has the variable.
 use Prim.Native.Nat.{ℕ, _-_}
 use mathlib.Core.Bool.{Bool, _&&_, _||_, not, cond}
 use mathlib.Core.List.{List, []}
@@ -80,7 +80,8 @@ module _ (known : List Header) (v : ℕ) where
     unfoldable pub lowerer : ℕ → ℕ
     lowerer p = walk (λ k. seek) 64 0 p
 
-    -- of all that the next place is made from, itself included, the place that goes furthest, as far back as it can be traced; fs: those of the places before it
+    -- of all that the next place is made from, itself included, the place that goes furthest, as far back as it can be
+    -- traced; fs: those of the places before it
     unfoldable pub furthestNext : List ℕ → ℕ
     furthestNext fs =
         let p = length fs in

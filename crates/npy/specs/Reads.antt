@@ -59,7 +59,8 @@ module _ {t : List ℕ} {v : Values} (s : Says t v) where
   says-bytes = rw says-width
 
 -- a refusal as the code makes it
-pub refused : {t : List ℕ} {old : List Float} (n : ℕ) {r : Refusal} → r ≡ refusedBy n → Reading t old (Refused (refusedBy n)) old → Reading t old (Refused r) old
+pub refused : {t : List ℕ} {old : List Float} (n : ℕ) {r : Refusal} → r ≡ refusedBy n
+    → Reading t old (Refused (refusedBy n)) old → Reading t old (Refused r) old
 refused {t} {old} n e h = subst (λ (r : Refusal). Reading t old (Refused r) old) (sym e) h
 
 module _ (t : List ℕ) (old : List Float) {o : Opened} (opens : Opens t o) where
@@ -129,5 +130,6 @@ module _ (t : List ℕ) (old : List Float) {o : Opened} (opens : Opens t o) wher
             pub read-done : {w : ℕ} {new : List Float} → w ≡ wordOf h → new ≡ table c (valueAt eight t (o .start)) ++ drop c old → Reading t old (Done w) new
             read-done {w} {new} ew en =
                 let a : Done w ≡ Done (wordOf (headOf (v .shape))) = ap Done (ew ∙ ap wordOf head-here) in
-                let b : new ≡ table (product (v .shape)) (fileValue t v) ++ drop (product (v .shape)) old = en ∙ ap₂ (λ (x : List Float) (n : ℕ). x ++ drop n old) filled count-here in
+                let b : new ≡ table (product (v .shape)) (fileValue t v) ++ drop (product (v .shape)) old =
+                en ∙ ap₂ (λ (x : List Float) (n : ℕ). x ++ drop n old) filled count-here in
                 rw (a, b) (Reading.done v (found .says) room fits)

@@ -27,7 +27,8 @@ use Rattle.npy_bytes.specs.Words.{length-data}
 use Rattle.npy_writing.specs.Front.{Shaped, PutFront}
 use Rattle.sheet_text.specs.Put.{Put, put-then, put-front}
 
-by-gate : (w : ℕ) (a : List Float) (old : List ℕ) (n : ℕ) → writeGate w (length a) (length old) ≡ refusedBy (suc n) → (Refused (refusedBy (suc n)) ≡ writeAnswer w a old) × (old ≡ writeFile w a old)
+by-gate : (w : ℕ) (a : List Float) (old : List ℕ) (n : ℕ) → writeGate w (length a) (length old) ≡ refusedBy (suc n)
+    → (Refused (refusedBy (suc n)) ≡ writeAnswer w a old) × (old ≡ writeFile w a old)
 unfolding writeAnswer writeFile
 by-gate w a old n e = let z : eqb (suc n) 0 ≡ false = ne-eqb (suc n) 0 (λ k. omega arith) in (rw (e, z), rw (e, z))
 
@@ -60,7 +61,9 @@ module _ (w : ℕ) (a : List Float) (old : List ℕ) {g : Bool} (eg : g ≡ good
         record {
           few = facts .regular .rules .few;
           long = ap length (facts .regular .ns);
-          small = λ k. small-at (h .lengths) (ap length (facts .regular .ns)) (λ i l. let v = ruled-at (facts .regular .rules) i l in omega (arith, v .fit, v .most)) k;
+          small =
+              λ k. small-at (h .lengths) (ap length (facts .regular .ns))
+              (λ i l. let v = ruled-at (facts .regular .rules) i l in omega (arith, v .fit, v .most)) k;
         }
 
     module _ {c : ℕ} (ec : c ≡ count (h .lengths)) where
@@ -72,7 +75,13 @@ module _ (w : ℕ) (a : List Float) (old : List ℕ) {g : Bool} (eg : g ≡ good
         pub write-short : {r : Written} → length old < 128 + 8 * c → r ≡ Refused (refusedBy 5) → Refusing r
         unfolding writeGate
         write-short m e =
-            let z = by-gate w a old 4 (rw (is-good, le-leb (stored h) (length a) (omega (arith, l, ec)), lt-leb (fileLength w) (length old) (omega (arith, m, ec)))) in
+            let z =
+            by-gate w a old 4
+            (rw (
+              is-good,
+              le-leb (stored h) (length a) (omega (arith, l, ec)),
+              lt-leb (fileLength w) (length old) (omega (arith, m, ec)),
+            )) in
             (e ∙ z .0, z .1)
 
         module _ (m : 128 + 8 * c ≤ length old) where

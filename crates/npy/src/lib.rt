@@ -16,7 +16,8 @@ ghost use mathlib.Core.Path.{_≡_};
 ghost use Rattle.npy_files.specs.Reads.{Reading};
 ghost use Rattle.npy_files.specs.Writes.{writeAnswer, writeFile};
 
-// The values of a file, in row order, at the front of `out`; answers the header word, whose limits and lengths are the shape. Refusals 10, 5, 10.
+// The values of a file, in row order, at the front of `out`; answers the header word, whose limits and lengths are the
+// shape. Refusals 10, 5, 10.
 pub fn read(file: &[u8], out: &mut [f64]) -> Answer
     ensures { λ r. ⌜ Reading (now (file .entry)) (now (out .entry)) r (now (out .exit)) ⌝ }
 {
@@ -42,7 +43,8 @@ pub fn read(file: &[u8], out: &mut [f64]) -> Answer
     Answer::Done(pack(head))
 }
 
-// The file of a polynomial, whose shape is the stored lengths, at the front of `file`; answers how many bytes it has. Refusals 1, 2, 5.
+// The file of a polynomial, whose shape is the stored lengths, at the front of `file`; answers how many bytes it has.
+// Refusals 1, 2, 5.
 pub fn write(head: u64, a: &[f64], file: &mut [u8]) -> Written
     ensures answer { λ r. ⌜ r ≡ writeAnswer head (now (a .entry)) (now (file .entry)) ⌝ }
     ensures written { λ r. ⌜ now (file .exit) ≡ writeFile head (now (a .entry)) (now (file .entry)) ⌝ }

@@ -61,7 +61,18 @@ module _ (t : List ℕ) (p : ℕ) {a b c d e f g h : ℕ} (ea : a ≡ byteAt t p
       let k5 : p + 5 ≡ suc (suc (suc (suc (suc p)))) = omega arith in
       let k6 : p + 6 ≡ suc (suc (suc (suc (suc (suc p))))) = omega arith in
       let k7 : p + 7 ≡ suc (suc (suc (suc (suc (suc (suc p)))))) = omega arith in
-      omega (arith, ea, eb ∙ ap (byteAt t) k1, ec ∙ ap (byteAt t) k2, ed ∙ ap (byteAt t) k3, ee ∙ ap (byteAt t) k4, ef ∙ ap (byteAt t) k5, eg ∙ ap (byteAt t) k6, eh ∙ ap (byteAt t) k7)
+      omega (
+        arith,
+        ea,
+        eb ∙ ap (byteAt t) k1,
+        ec ∙ ap (byteAt t) k2,
+        ed ∙ ap (byteAt t) k3,
+        ee ∙ ap (byteAt t) k4,
+        ef
+            ∙ ap (byteAt t) k5,
+        eg ∙ ap (byteAt t) k6,
+        eh ∙ ap (byteAt t) k7,
+      )
 
 -- ---- eight bytes, one after the other
 
@@ -100,7 +111,8 @@ data-snoc : (xs : List Float) (x : Float) → dataOut (xs ++ (x ∷ [])) ≡ dat
 unfolding dataOut
 data-snoc [] x = append-nil (lowBytes 8 (toBits binary64 x))
 data-snoc (y ∷ xs) x =
-    ap (λ (l : List ℕ). lowBytes 8 (toBits binary64 y) ++ l) (data-snoc xs x) ∙ sym (append-assoc (lowBytes 8 (toBits binary64 y)) (dataOut xs) (lowBytes 8 (toBits binary64 x)))
+    ap (λ (l : List ℕ). lowBytes 8 (toBits binary64 y) ++ l) (data-snoc xs x)
+    ∙ sym (append-assoc (lowBytes 8 (toBits binary64 y)) (dataOut xs) (lowBytes 8 (toBits binary64 x)))
 
 -- after k floats
 pub record PutData (xs : List Float) (at : ℕ) (old new : List ℕ) (next k : ℕ) : Type 0 where
@@ -115,7 +127,8 @@ module _ {xs : List Float} {at : ℕ} {old new : List ℕ} {next k : ℕ} (p : P
   pub data-next : next ≡ at + 8 * k
   data-next = omega (arith, p .put .behind, length-data (take k xs), length-take-le k xs (p .most))
 
-  pub data-more : {w end : ℕ} {new' : List ℕ} → k < length xs → w ≡ toBits binary64 (getD xs k nan) → Put next (lowBytes 8 w) new new' end → PutData xs at old new' end (k + 1)
+  pub data-more : {w end : ℕ} {new' : List ℕ} → k < length xs → w ≡ toBits binary64 (getD xs k nan)
+      → Put next (lowBytes 8 w) new new' end → PutData xs at old new' end (k + 1)
   data-more {w} l e q =
       record { most = omega arith; put = rw (add-one k, take-suc xs k nan l, data-snoc (take k xs) (getD xs k nan), ← e) (put-then (p .put) q) }
 

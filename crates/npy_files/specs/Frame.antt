@@ -1,4 +1,5 @@
--- Document 02, W2 and W12: the frame of an array file. 93 4E 55 4D 50 59, the version 1 0 or 2 0, the header's length in two or four bytes, the header, the data.
+-- Document 02, W2 and W12: the frame of an array file. 93 4E 55 4D 50 59, the version 1 0 or 2 0, the header's length
+-- in two or four bytes, the header, the data.
 use Prim.Native.Nat.{ℕ, zero, suc, _+_, _-_, _*_}
 use mathlib.Core.List.{List, [], _∷_, _++_}
 use mathlib.Core.Bool.{Bool, true, false, _&&_, _||_, cond}

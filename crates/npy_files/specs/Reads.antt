@@ -1,5 +1,6 @@
--- Document 02, W2: what reading an array file answers and leaves. Refusals in order: 10 for another format, kind or order of values, to the header's very last byte; 5 for
--- dimensions, count or a short buffer; 10 for data unlike the shape.
+-- Document 02, W2: what reading an array file answers and leaves. Refusals in order: 10 for another format, kind or
+-- order of values, to the header's very last byte; 5 for dimensions, count or a short buffer; 10 for data unlike the
+-- shape.
 use Prim.Native.Nat.{ℕ}
 use mathlib.Core.List.{List, _++_}
 use mathlib.Core.Bool.{Bool, true, false, _&&_}

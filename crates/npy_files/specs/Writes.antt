@@ -1,4 +1,5 @@
--- Document 02, W2: writing. One layout, 128 bytes before the data, the bytes that `np.save` writes; refusals 1, 2, then 5 for a short byte buffer.
+-- Document 02, W2: writing. One layout, 128 bytes before the data, the bytes that `np.save` writes; refusals 1, 2, then
+-- 5 for a short byte buffer.
 use Prim.Native.Nat.{ℕ, zero, suc, _+_, _-_, _*_, _/_, _%_}
 use mathlib.Core.List.{List, [], _∷_, _++_}
 use mathlib.Core.Bool.{Bool, cond}

@@ -1,4 +1,5 @@
--- A header is read exactly: what is taken is a right text with these values, and every right text is taken, with its values.
+-- A header is read exactly: what is taken is a right text with these values, and every right text is taken, with its
+-- values.
 use Prim.Native.Nat.{ℕ, zero, suc, _+_, _-_, _*_, _≤_, _<_, min}
 use mathlib.Core.List.{List, [], _∷_, _++_, append-assoc, append-nil, map}
 use mathlib.Core.Bool.{Bool, true, false, _&&_, _||_, cond, false≢true}
@@ -8,9 +9,17 @@ use lib.Dec.{leb, eqb}
 use lib.ListN.{length, getD, length-append}
 use borrow.Author.Tests.{eqb-true, eqb-false}
 use Rattle.lists.specs.Test.{decide, and-left, and-right}
-use Rattle.npy_grammar.specs.Text.{all, Run, isBlank, isLead, isSpace, Number, numberText, Next, nextText, nextsText, Close, bare, comma, closeText, Tuple, none, one, several, tupleText, tupleValue, Quote, single, double, quoteByte, quoted, Width, eight, four, Order, rows, columns, widthWord, orderWord, Key, descr, fortran-order, shape, keyWord, Written, a-width, an-order, a-shape, valueText, keyOf, Values, Agrees, Item, itemText, Apart, Header, headerText, Right}
-use Rattle.npy_grammar.specs.Reading.{strip, eat, eats, peek, cap, Got, got, pastComma, Seen, withRest, withWidth, withOrder, withShape, failed, blanked, readItem, started, commaPast, items, pastClose, isLast, taken}
-use Rattle.npy_grammar.specs.Pieces.{Some, no-some, front, frontRun, strip-sound, strip-complete, strip-stop, strip-run, eat-sound, eat-some, eat-complete}
+use Rattle.npy_grammar.specs.Text.{all, Run, isBlank, isLead, isSpace, Number, numberText, Next, nextText}
+use Rattle.npy_grammar.specs.Text.{nextsText, Close, bare, comma, closeText, Tuple, none, one, several}
+use Rattle.npy_grammar.specs.Text.{tupleText, tupleValue, Quote, single, double, quoteByte, quoted, Width, eight}
+use Rattle.npy_grammar.specs.Text.{four, Order, rows, columns, widthWord, orderWord, Key, descr, fortran-order}
+use Rattle.npy_grammar.specs.Text.{shape, keyWord, Written, a-width, an-order, a-shape, valueText, keyOf, Values}
+use Rattle.npy_grammar.specs.Text.{Agrees, Item, itemText, Apart, Header, headerText, Right}
+use Rattle.npy_grammar.specs.Reading.{strip, eat, eats, peek, cap, Got, got, pastComma, Seen, withRest}
+use Rattle.npy_grammar.specs.Reading.{withWidth, withOrder, withShape, failed, blanked, readItem, started}
+use Rattle.npy_grammar.specs.Reading.{commaPast, items, pastClose, isLast, taken}
+use Rattle.npy_grammar.specs.Pieces.{Some, no-some, front, frontRun, strip-sound, strip-complete, strip-stop}
+use Rattle.npy_grammar.specs.Pieces.{strip-run, eat-sound, eat-some, eat-complete}
 use Rattle.npy_grammar.specs.Tuples.{some-strip, behind-blanks, past-comma, number-length, comma-peek, comma-past}
 use Rattle.npy_grammar.specs.Items.{widthNumber, orderNumber, Fresh, noted, ItemRead, item-sound, item-complete, value-length}
 
@@ -134,22 +143,58 @@ unfolding Apart keyOf Agrees
 agreed (a-width q1 w1) (a-width q2 w2) z p q r = absurd (p refl)
 agreed (a-width q1 w1) (an-order o2) (a-width q3 w3) p q r = absurd (q refl)
 agreed (a-width q1 w1) (an-order o2) (an-order o3) p q r = absurd (r refl)
-agreed (a-width q1 w1) (an-order o2) (a-shape t3) p q r = record { values = record { width = w1; order = o2; shape = tupleValue t3 }; says₁ = refl; says₂ = refl; says₃ = refl }
+agreed (a-width q1 w1) (an-order o2) (a-shape t3) p q r =
+    record {
+      values = record { width = w1; order = o2; shape = tupleValue t3 };
+      says₁ = refl;
+      says₂ = refl;
+      says₃ = refl;
+    }
 agreed (a-width q1 w1) (a-shape t2) (a-width q3 w3) p q r = absurd (q refl)
-agreed (a-width q1 w1) (a-shape t2) (an-order o3) p q r = record { values = record { width = w1; order = o3; shape = tupleValue t2 }; says₁ = refl; says₂ = refl; says₃ = refl }
+agreed (a-width q1 w1) (a-shape t2) (an-order o3) p q r =
+    record {
+      values = record { width = w1; order = o3; shape = tupleValue t2 };
+      says₁ = refl;
+      says₂ = refl;
+      says₃ = refl;
+    }
 agreed (a-width q1 w1) (a-shape t2) (a-shape t3) p q r = absurd (r refl)
 agreed (an-order o1) (an-order o2) z p q r = absurd (p refl)
 agreed (an-order o1) (a-width q2 w2) (a-width q3 w3) p q r = absurd (r refl)
 agreed (an-order o1) (a-width q2 w2) (an-order o3) p q r = absurd (q refl)
-agreed (an-order o1) (a-width q2 w2) (a-shape t3) p q r = record { values = record { width = w2; order = o1; shape = tupleValue t3 }; says₁ = refl; says₂ = refl; says₃ = refl }
-agreed (an-order o1) (a-shape t2) (a-width q3 w3) p q r = record { values = record { width = w3; order = o1; shape = tupleValue t2 }; says₁ = refl; says₂ = refl; says₃ = refl }
+agreed (an-order o1) (a-width q2 w2) (a-shape t3) p q r =
+    record {
+      values = record { width = w2; order = o1; shape = tupleValue t3 };
+      says₁ = refl;
+      says₂ = refl;
+      says₃ = refl;
+    }
+agreed (an-order o1) (a-shape t2) (a-width q3 w3) p q r =
+    record {
+      values = record { width = w3; order = o1; shape = tupleValue t2 };
+      says₁ = refl;
+      says₂ = refl;
+      says₃ = refl;
+    }
 agreed (an-order o1) (a-shape t2) (an-order o3) p q r = absurd (q refl)
 agreed (an-order o1) (a-shape t2) (a-shape t3) p q r = absurd (r refl)
 agreed (a-shape t1) (a-shape t2) z p q r = absurd (p refl)
 agreed (a-shape t1) (a-width q2 w2) (a-width q3 w3) p q r = absurd (r refl)
-agreed (a-shape t1) (a-width q2 w2) (an-order o3) p q r = record { values = record { width = w2; order = o3; shape = tupleValue t1 }; says₁ = refl; says₂ = refl; says₃ = refl }
+agreed (a-shape t1) (a-width q2 w2) (an-order o3) p q r =
+    record {
+      values = record { width = w2; order = o3; shape = tupleValue t1 };
+      says₁ = refl;
+      says₂ = refl;
+      says₃ = refl;
+    }
 agreed (a-shape t1) (a-width q2 w2) (a-shape t3) p q r = absurd (q refl)
-agreed (a-shape t1) (an-order o2) (a-width q3 w3) p q r = record { values = record { width = w3; order = o2; shape = tupleValue t1 }; says₁ = refl; says₂ = refl; says₃ = refl }
+agreed (a-shape t1) (an-order o2) (a-width q3 w3) p q r =
+    record {
+      values = record { width = w3; order = o2; shape = tupleValue t1 };
+      says₁ = refl;
+      says₂ = refl;
+      says₃ = refl;
+    }
 agreed (a-shape t1) (an-order o2) (an-order o3) p q r = absurd (r refl)
 agreed (a-shape t1) (an-order o2) (a-shape t3) p q r = absurd (q refl)
 
@@ -159,27 +204,34 @@ unfolding Apart keyOf Agrees Holds
 means (a-width q1 w1) (a-width q2 w2) z s v p q r h1 h2 h3 g1 g2 g3 = absurd (p refl)
 means (a-width q1 w1) (an-order o2) (a-width q3 w3) s v p q r h1 h2 h3 g1 g2 g3 = absurd (q refl)
 means (a-width q1 w1) (an-order o2) (an-order o3) s v p q r h1 h2 h3 g1 g2 g3 = absurd (r refl)
-means (a-width q1 w1) (an-order o2) (a-shape t3) s v p q r h1 h2 h3 g1 g2 g3 = record { width = h1 ∙ ap widthNumber g1; order = h2 ∙ ap orderNumber g2; shape = h3 ∙ ap (map cap) g3 }
+means (a-width q1 w1) (an-order o2) (a-shape t3) s v p q r h1 h2 h3 g1 g2 g3 =
+    record { width = h1 ∙ ap widthNumber g1; order = h2 ∙ ap orderNumber g2; shape = h3 ∙ ap (map cap) g3 }
 means (a-width q1 w1) (a-shape t2) (a-width q3 w3) s v p q r h1 h2 h3 g1 g2 g3 = absurd (q refl)
-means (a-width q1 w1) (a-shape t2) (an-order o3) s v p q r h1 h2 h3 g1 g2 g3 = record { width = h1 ∙ ap widthNumber g1; order = h3 ∙ ap orderNumber g3; shape = h2 ∙ ap (map cap) g2 }
+means (a-width q1 w1) (a-shape t2) (an-order o3) s v p q r h1 h2 h3 g1 g2 g3 =
+    record { width = h1 ∙ ap widthNumber g1; order = h3 ∙ ap orderNumber g3; shape = h2 ∙ ap (map cap) g2 }
 means (a-width q1 w1) (a-shape t2) (a-shape t3) s v p q r h1 h2 h3 g1 g2 g3 = absurd (r refl)
 means (an-order o1) (an-order o2) z s v p q r h1 h2 h3 g1 g2 g3 = absurd (p refl)
 means (an-order o1) (a-width q2 w2) (a-width q3 w3) s v p q r h1 h2 h3 g1 g2 g3 = absurd (r refl)
 means (an-order o1) (a-width q2 w2) (an-order o3) s v p q r h1 h2 h3 g1 g2 g3 = absurd (q refl)
-means (an-order o1) (a-width q2 w2) (a-shape t3) s v p q r h1 h2 h3 g1 g2 g3 = record { width = h2 ∙ ap widthNumber g2; order = h1 ∙ ap orderNumber g1; shape = h3 ∙ ap (map cap) g3 }
-means (an-order o1) (a-shape t2) (a-width q3 w3) s v p q r h1 h2 h3 g1 g2 g3 = record { width = h3 ∙ ap widthNumber g3; order = h1 ∙ ap orderNumber g1; shape = h2 ∙ ap (map cap) g2 }
+means (an-order o1) (a-width q2 w2) (a-shape t3) s v p q r h1 h2 h3 g1 g2 g3 =
+    record { width = h2 ∙ ap widthNumber g2; order = h1 ∙ ap orderNumber g1; shape = h3 ∙ ap (map cap) g3 }
+means (an-order o1) (a-shape t2) (a-width q3 w3) s v p q r h1 h2 h3 g1 g2 g3 =
+    record { width = h3 ∙ ap widthNumber g3; order = h1 ∙ ap orderNumber g1; shape = h2 ∙ ap (map cap) g2 }
 means (an-order o1) (a-shape t2) (an-order o3) s v p q r h1 h2 h3 g1 g2 g3 = absurd (q refl)
 means (an-order o1) (a-shape t2) (a-shape t3) s v p q r h1 h2 h3 g1 g2 g3 = absurd (r refl)
 means (a-shape t1) (a-shape t2) z s v p q r h1 h2 h3 g1 g2 g3 = absurd (p refl)
 means (a-shape t1) (a-width q2 w2) (a-width q3 w3) s v p q r h1 h2 h3 g1 g2 g3 = absurd (r refl)
-means (a-shape t1) (a-width q2 w2) (an-order o3) s v p q r h1 h2 h3 g1 g2 g3 = record { width = h2 ∙ ap widthNumber g2; order = h3 ∙ ap orderNumber g3; shape = h1 ∙ ap (map cap) g1 }
+means (a-shape t1) (a-width q2 w2) (an-order o3) s v p q r h1 h2 h3 g1 g2 g3 =
+    record { width = h2 ∙ ap widthNumber g2; order = h3 ∙ ap orderNumber g3; shape = h1 ∙ ap (map cap) g1 }
 means (a-shape t1) (a-width q2 w2) (a-shape t3) s v p q r h1 h2 h3 g1 g2 g3 = absurd (q refl)
-means (a-shape t1) (an-order o2) (a-width q3 w3) s v p q r h1 h2 h3 g1 g2 g3 = record { width = h3 ∙ ap widthNumber g3; order = h2 ∙ ap orderNumber g2; shape = h1 ∙ ap (map cap) g1 }
+means (a-shape t1) (an-order o2) (a-width q3 w3) s v p q r h1 h2 h3 g1 g2 g3 =
+    record { width = h3 ∙ ap widthNumber g3; order = h2 ∙ ap orderNumber g2; shape = h1 ∙ ap (map cap) g1 }
 means (a-shape t1) (an-order o2) (an-order o3) s v p q r h1 h2 h3 g1 g2 g3 = absurd (r refl)
 means (a-shape t1) (an-order o2) (a-shape t3) s v p q r h1 h2 h3 g1 g2 g3 = absurd (q refl)
 
 -- three values, one after the other
-module _ (x y z : Written) (a b c : Seen) (s : Seen) (u₁ u₂ u₃ v₁ v₂ : List ℕ) (e₁ : a ≡ noted x s u₁) (e₂ : b ≡ noted y (withRest a v₁) u₂) (e₃ : c ≡ noted z (withRest b v₂) u₃) where
+module _ (x y z : Written) (a b c : Seen) (s : Seen) (u₁ u₂ u₃ v₁ v₂ : List ℕ) (e₁ : a ≡ noted x s u₁)
+    (e₂ : b ≡ noted y (withRest a v₁) u₂) (e₃ : c ≡ noted z (withRest b v₂) u₃) where
   first-holds : Apart (keyOf x) (keyOf y) → Apart (keyOf x) (keyOf z) → Holds x c
   first-holds p q =
       let h₁ : Holds x a = rw e₁ (holds-noted x s u₁) in
@@ -211,7 +263,10 @@ unfolding closeText
 close-comma r k =
     record {
       close = comma (frontRun isBlank r) (frontRun isBlank (eat 44 (strip isBlank r)));
-      text = past-comma r (eat-some 125 (pastComma r) k) ∙ ap (λ (l : List ℕ). front isBlank r ++ (44 ∷ (front isBlank (eat 44 (strip isBlank r)) ++ l))) (eat-sound 125 (pastComma r) k);
+      text =
+          past-comma r (eat-some 125 (pastComma r) k)
+          ∙ ap (λ (l : List ℕ). front isBlank r ++ (44 ∷ (front isBlank (eat 44 (strip isBlank r)) ++ l)))
+          (eat-sound 125 (pastComma r) k);
     }
 
 close-bare : (r : List ℕ) → Some (eat 125 (strip isBlank r)) → CloseRead r (eat 125 (strip isBlank r))
@@ -262,7 +317,8 @@ pub record Taken (t : List ℕ) (s : Seen) : Type 0 where
   pub right : Right t values
   pub means : Means s values
 
-header-made : (t u p : List ℕ) (a b c : Seen) → isLast (strip isSpace p) ≡ true → CloseRead (c .rest) p → ItemRead (commaPast b) c → ItemRead (commaPast a) b → ItemRead (started t) a → Taken t c
+header-made : (t u p : List ℕ) (a b c : Seen) → isLast (strip isSpace p) ≡ true → CloseRead (c .rest) p
+    → ItemRead (commaPast b) c → ItemRead (commaPast a) b → ItemRead (started t) a → Taken t c
 unfolding headerText
 header-made t u p a b c last close i₃ i₂ i₁ =
     let x = i₁ .item .written in
@@ -311,7 +367,9 @@ header-made t u p a b c last close i₃ i₂ i₁ =
                 ∙ ap (λ (l : List ℕ). front isBlank (b .rest) ++ (44 ∷ l))
                 (i₃ .text
                 ∙ ap (itemText (i₃ .item))
-                (close .text ∙ ap (closeText 125 (close .close)) (strip-sound isSpace p ∙ ap (λ (l : List ℕ). front isSpace p ++ l) (last-is (strip isSpace p) last)))))))));
+                (close .text ∙ ap (closeText 125 (close .close))
+                (strip-sound isSpace p ∙ ap (λ (l : List ℕ). front isSpace p ++ l)
+                (last-is (strip isSpace p) last)))))))));
             says₁ = v .says₁;
             says₂ = v .says₂;
             says₃ = v .says₃;

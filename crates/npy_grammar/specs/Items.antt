@@ -8,9 +8,18 @@ use lib.Dec.{leb, eqb}
 use lib.ListN.{length, getD, length-append}
 use borrow.Author.Tests.{eqb-true, eqb-false, eq-eqb, ne-eqb, leb-true, le-leb}
 use Rattle.lists.specs.Test.{decide, and-left, and-right, or-right}
-use Rattle.npy_grammar.specs.Text.{all, Run, isBlank, Close, bare, comma, closeText, Tuple, none, one, several, tupleText, tupleValue, Quote, single, double, quoteByte, quoted, Width, eight, four, Order, rows, columns, widthWord, orderWord, Key, descr, fortran-order, shape, keyWord, Written, a-width, an-order, a-shape, valueText, keyOf, Item, itemText}
-use Rattle.npy_grammar.specs.Reading.{strip, eat, eats, peek, cap, Got, got, readTuple, isQuote, pastKind, pastWidth, widthAt, pastOrder, orderAt, Seen, withRest, withWidth, withOrder, withShape, failed, pastKey, readDescr, readOrder, readShape, readKey, blanked, readItem}
-use Rattle.npy_grammar.specs.Pieces.{Some, no-some, front, frontRun, strip-sound, strip-complete, strip-stop, strip-run, eat-sound, eat-some, eat-complete, eats-some, eats-sound, eats-complete}
+use Rattle.npy_grammar.specs.Text.{all, Run, isBlank, Close, bare, comma, closeText, Tuple, none, one, several}
+use Rattle.npy_grammar.specs.Text.{tupleText, tupleValue, Quote, single, double, quoteByte, quoted, Width, eight}
+use Rattle.npy_grammar.specs.Text.{four, Order, rows, columns, widthWord, orderWord, Key, descr, fortran-order}
+use Rattle.npy_grammar.specs.Text.{shape, keyWord, Written, a-width, an-order, a-shape, valueText, keyOf, Item}
+use Rattle.npy_grammar.specs.Text.{itemText}
+use Rattle.npy_grammar.specs.Reading.{strip, eat, eats, peek, cap, Got, got, readTuple, isQuote, pastKind}
+use Rattle.npy_grammar.specs.Reading.{pastWidth, widthAt, pastOrder, orderAt, Seen, withRest, withWidth}
+use Rattle.npy_grammar.specs.Reading.{withOrder, withShape, failed, pastKey, readDescr, readOrder, readShape}
+use Rattle.npy_grammar.specs.Reading.{readKey, blanked, readItem}
+use Rattle.npy_grammar.specs.Pieces.{Some, no-some, front, frontRun, strip-sound, strip-complete, strip-stop}
+use Rattle.npy_grammar.specs.Pieces.{strip-run, eat-sound, eat-some, eat-complete, eats-some, eats-sound}
+use Rattle.npy_grammar.specs.Pieces.{eats-complete}
 use Rattle.npy_grammar.specs.Tuples.{some-strip, behind-blanks, TupleRead, tuple-sound, tuple-complete, tuple-some-rest}
 
 -- ---- quotes and words
@@ -128,7 +137,12 @@ blank-58 = refl
 key-past : (q : ℕ) (w : List ℕ) (a b : Run isBlank) (u : List ℕ) → pastKey q w (w ++ (q ∷ (a .bytes ++ (58 ∷ (b .bytes ++ u))))) ≡ strip isBlank u
 unfolding pastKey
 key-past q w a b u =
-    rw (eats-complete w (q ∷ (a .bytes ++ (58 ∷ (b .bytes ++ u)))), eat-complete q (a .bytes ++ (58 ∷ (b .bytes ++ u))), strip-run isBlank a 58 (b .bytes ++ u) blank-58, eat-complete 58 (b .bytes ++ u))
+    rw (
+      eats-complete w (q ∷ (a .bytes ++ (58 ∷ (b .bytes ++ u)))),
+      eat-complete q (a .bytes ++ (58 ∷ (b .bytes ++ u))),
+      strip-run isBlank a 58 (b .bytes ++ u) blank-58,
+      eat-complete 58 (b .bytes ++ u),
+    )
     (strip-complete isBlank (b .bytes) u (b .only))
 
 -- ---- values
@@ -160,7 +174,13 @@ descr-sound s r h =
     (λ e.
     let k = rw e at h in
     let w = width-sound r k in
-    rw e (record { written = a-width (w .quote) (w .width); key = refl; text = w .text; fresh = eqb-true (s .width) 0 e; is = ap (λ (x : ℕ). withWidth s x (pastWidth r)) (w .value) }))
+    rw e (record {
+      written = a-width (w .quote) (w .width);
+      key = refl;
+      text = w .text;
+      fresh = eqb-true (s .width) 0 e;
+      is = ap (λ (x : ℕ). withWidth s x (pastWidth r)) (w .value);
+    }))
     (λ e. no-some (rw e at h))
 
 order-read : (s : Seen) (r : List ℕ) → Some (readOrder s r .rest) → ValueRead fortran-order s r (readOrder s r)
@@ -170,7 +190,13 @@ order-read s r h =
     (λ e.
     let k = rw e at h in
     let w = order-sound r k in
-    rw e (record { written = an-order (w .order); key = refl; text = w .text; fresh = eqb-true (s .order) 0 e; is = ap (λ (x : ℕ). withOrder s x (pastOrder r)) (w .value) }))
+    rw e (record {
+      written = an-order (w .order);
+      key = refl;
+      text = w .text;
+      fresh = eqb-true (s .order) 0 e;
+      is = ap (λ (x : ℕ). withOrder s x (pastOrder r)) (w .value);
+    }))
     (λ e. no-some (rw e at h))
 
 shape-read : (f : ℕ) (s : Seen) (r : List ℕ) → Some (readShape f s r .rest) → ValueRead shape s r (readShape f s r)
@@ -180,7 +206,13 @@ shape-read f s r h =
     (λ e.
     let k = rw e at h in
     let w = tuple-sound f r k in
-    rw e (record { written = a-shape (w .tuple); key = refl; text = w .text; fresh = eqb-true (s .given) 0 e; is = ap (λ (x : List ℕ). withShape s (got (readTuple f r .rest) x)) (w .value) }))
+    rw e (record {
+      written = a-shape (w .tuple);
+      key = refl;
+      text = w .text;
+      fresh = eqb-true (s .given) 0 e;
+      is = ap (λ (x : List ℕ). withShape s (got (readTuple f r .rest) x)) (w .value);
+    }))
     (λ e. no-some (rw e at h))
 
 -- an item stands at the front of what was left, and z is what is known behind it
@@ -241,7 +273,8 @@ key-made s q k r z h v =
           ∙ (ap (λ (l : List ℕ). w ++ (q ∷ (front isBlank (colonOf q w r) ++ (58 ∷ (front isBlank (eat 58 (strip isBlank (colonOf q w r))) ++ l))))) (v .text)
           ∙ ap
           (λ (y : Key).
-          keyWord y ++ (q ∷ (front isBlank (colonOf q w r) ++ (58 ∷ (front isBlank (eat 58 (strip isBlank (colonOf q w r))) ++ valueText (v .written) (z .rest))))))
+          keyWord y ++ (q ∷ (front isBlank (colonOf q w r)
+          ++ (58 ∷ (front isBlank (eat 58 (strip isBlank (colonOf q w r))) ++ valueText (v .written) (z .rest))))))
           (v .key));
       fresh = v .fresh;
       is = v .is;
@@ -337,10 +370,14 @@ unfolding isBlank quoteByte
 quote-blank single = refl
 quote-blank double = refl
 
-item-blanked : (i : Item) (u : List ℕ) → strip isBlank (itemText i u) ≡ quoted (i .quote) (keyWord (keyOf (i .written))) (i .colon .bytes ++ (58 ∷ (i .behind .bytes ++ valueText (i .written) u)))
+item-blanked : (i : Item) (u : List ℕ) → strip isBlank (itemText i u)
+    ≡ quoted (i .quote) (keyWord (keyOf (i .written)))
+    (i .colon .bytes ++ (58 ∷ (i .behind .bytes ++ valueText (i .written) u)))
 unfolding itemText quoted
 item-blanked i u =
-    strip-run isBlank (i .before) (quoteByte (i .quote)) (keyWord (keyOf (i .written)) ++ (quoteByte (i .quote) ∷ (i .colon .bytes ++ (58 ∷ (i .behind .bytes ++ valueText (i .written) u))))) (quote-blank (i .quote))
+    strip-run isBlank (i .before) (quoteByte (i .quote))
+    (keyWord (keyOf (i .written)) ++ (quoteByte (i .quote)
+    ∷ (i .colon .bytes ++ (58 ∷ (i .behind .bytes ++ valueText (i .written) u))))) (quote-blank (i .quote))
 
 pub value-length : (i : Item) (u : List ℕ) → length (valueText (i .written) u) ≤ length (itemText i u)
 unfolding itemText quoted
@@ -350,7 +387,13 @@ value-length i u =
     let c = i .colon .bytes ++ (58 ∷ b) in
     let w = keyWord (keyOf (i .written)) in
     let q = quoteByte (i .quote) in
-    omega (arith, length-append (i .behind .bytes) v, length-append (i .colon .bytes) (58 ∷ b), length-append w (q ∷ c), length-append (i .before .bytes) (q ∷ (w ++ (q ∷ c))))
+    omega (
+      arith,
+      length-append (i .behind .bytes) v,
+      length-append (i .colon .bytes) (58 ∷ b),
+      length-append w (q ∷ c),
+      length-append (i .before .bytes) (q ∷ (w ++ (q ∷ c))),
+    )
 
 pub item-complete : (f : ℕ) (s : Seen) (i : Item) (u : List ℕ) → s .rest ≡ itemText i u → length (itemText i u) ≤ f → Fresh (i .written) s
     → readItem f s ≡ noted (i .written) s u
@@ -362,5 +405,12 @@ item-complete f s i u e l h =
     let v = valueText w u in
     let c = i .colon .bytes ++ (58 ∷ (i .behind .bytes ++ v)) in
     let b : blanked s ≡ q ∷ (keyWord k ++ (q ∷ c)) = ap (strip isBlank) e ∙ item-blanked i u in
-    rw (b, quote-is (i .quote), eat-complete q (keyWord k ++ (q ∷ c)), key-peek k f s q (q ∷ c), key-past q (keyWord k) (i .colon) (i .behind) v, value-strip w u)
+    rw (
+      b,
+      quote-is (i .quote),
+      eat-complete q (keyWord k ++ (q ∷ c)),
+      key-peek k f s q (q ∷ c),
+      key-past q (keyWord k) (i .colon) (i .behind) v,
+      value-strip w u,
+    )
     (value-complete f s w u (omega (arith, l, value-length i u)) h)

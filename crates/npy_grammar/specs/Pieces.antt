@@ -128,7 +128,11 @@ number-sound (b ∷ t) h =
     (λ e. record { number = nought; text = rw (e, eqb-true b 48 e); value = rw e })
     (λ e.
     decide (isDigit b)
-    (λ d. record { number = counted b d e (frontRun isDigit t); text = rw (e, d) (ap (λ (l : List ℕ). b ∷ l) (strip-sound isDigit t)); value = rw e (ap (λ (n : ℕ). digitsAt n t) (sym (digit-cap b d)) ∙ capped (b - 48) t) })
+    (λ d. record {
+      number = counted b d e (frontRun isDigit t);
+      text = rw (e, d) (ap (λ (l : List ℕ). b ∷ l) (strip-sound isDigit t));
+      value = rw e (ap (λ (n : ℕ). digitsAt n t) (sym (digit-cap b d)) ∙ capped (b - 48) t);
+    })
     (λ d. no-some (rw (e, d) at h)))
 
 pub number-past : (n : Number) (u : List ℕ) → Ended u → pastNumber (numberText n u) ≡ u

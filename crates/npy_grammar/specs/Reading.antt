@@ -1,5 +1,6 @@
--- Reading a header text from the left, as functions of what is left of it. Where a piece does not stand, nothing is left: no piece can be read off nothing,
--- and a right header ends with its newline, so a text that failed once is never taken.
+-- Reading a header text from the left, as functions of what is left of it. Where a piece does not stand, nothing is
+-- left: no piece can be read off nothing, and a right header ends with its newline, so a text that failed once is never
+-- taken.
 use Prim.Native.Nat.{ℕ, zero, suc, _+_, _-_, _*_, min}
 use mathlib.Core.List.{List, [], _∷_, _++_}
 use mathlib.Core.Bool.{Bool, true, false, _&&_, _||_, cond}
@@ -56,7 +57,8 @@ got r s = record { rest = r; shape = s }
 abbrev pub pastComma : List ℕ → List ℕ
 pastComma r = strip isBlank (eat 44 (strip isBlank r))
 
--- behind a number, s being the numbers so far: at most f numbers more and the closing bracket, which wants a comma before it where s has one number
+-- behind a number, s being the numbers so far: at most f numbers more and the closing bracket, which wants a comma
+-- before it where s has one number
 unfoldable pub moreNumbers : ℕ → List ℕ → List ℕ → Got
 moreNumbers zero s r = got [] s
 moreNumbers (suc f) s r =

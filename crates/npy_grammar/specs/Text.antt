@@ -1,5 +1,7 @@
--- Document 02, W2 and W12: what a right header text of an array file is, once for both versions, both widths and both orders.
--- A text is printed from its values with every freedom named: the order of the keys, blanks, quotes, closing commas, padding. `u` is always the text behind.
+-- Document 02, W2 and W12: what a right header text of an array file is, once for both versions, both widths and both
+-- orders.
+-- A text is printed from its values with every freedom named: the order of the keys, blanks, quotes, closing commas,
+-- padding. `u` is always the text behind.
 use Prim.Native.Nat.{ℕ, _+_, _-_, _*_}
 use mathlib.Core.List.{List, [], _∷_, _++_, map}
 use mathlib.Core.Bool.{Bool, true, _&&_, _||_}

@@ -9,9 +9,13 @@ use lib.ListN.{length, getD, length-append}
 use borrow.Author.Tests.{eqb-true, eqb-false, ne-eqb, leb-true, le-leb}
 use Rattle.lists.specs.Test.{decide, and-left, and-right}
 use Rattle.lists.specs.Grow.{length-snoc}
-use Rattle.npy_grammar.specs.Text.{all, Run, isDigit, isBlank, Number, nought, counted, numberText, numberValue, Close, bare, comma, closeText, Next, nextText, nextsText, nextsValue, Tuple, none, one, several, tupleText, tupleValue}
+use Rattle.npy_grammar.specs.Text.{all, Run, isDigit, isBlank, Number, nought, counted, numberText, numberValue}
+use Rattle.npy_grammar.specs.Text.{Close, bare, comma, closeText, Next, nextText, nextsText, nextsValue, Tuple}
+use Rattle.npy_grammar.specs.Text.{none, one, several, tupleText, tupleValue}
 use Rattle.npy_grammar.specs.Reading.{strip, eat, peek, pastNumber, cap, numberAt, Got, got, pastComma, moreNumbers, insideTuple, readTuple}
-use Rattle.npy_grammar.specs.Pieces.{Some, no-some, front, frontRun, strip-sound, strip-complete, strip-stop, strip-run, eat-sound, eat-some, eat-complete, Ended, number-sound, number-past, number-value}
+use Rattle.npy_grammar.specs.Pieces.{Some, no-some, front, frontRun, strip-sound, strip-complete, strip-stop}
+use Rattle.npy_grammar.specs.Pieces.{strip-run, eat-sound, eat-some, eat-complete, Ended, number-sound}
+use Rattle.npy_grammar.specs.Pieces.{number-past, number-value}
 
 -- a list that does not close without a comma while it has one number
 unfoldable Enough : ℕ → List Next → Close → Type 0
@@ -56,7 +60,8 @@ more-some (suc f) s r h =
     (λ d.
     some-strip r
     (eat-some 44 (strip isBlank r)
-    (some-strip (eat 44 (strip isBlank r)) (some-number (pastComma r) (more-some f (s ++ (numberAt (pastComma r) ∷ [])) (pastNumber (pastComma r)) (rw (e, d) at h)))))))
+    (some-strip (eat 44 (strip isBlank r)) (some-number (pastComma r)
+    (more-some f (s ++ (numberAt (pastComma r) ∷ [])) (pastNumber (pastComma r)) (rw (e, d) at h)))))))
     (λ e. decide (leb 2 (length s)) (λ d. some-strip r (eat-some 41 (strip isBlank r) (rw (e, d) at h))) (λ d. no-some (rw (e, d) at h)))
 
 module _ (s r : List ℕ) where
@@ -110,7 +115,8 @@ more-sound (suc f) s r h =
     (λ d.
     let k = rw (e, d) at h in
     rw (e, d)
-    (more-next s r (more-some f (s ++ (numberAt (pastComma r) ∷ [])) (pastNumber (pastComma r)) k) (more-sound f (s ++ (numberAt (pastComma r) ∷ [])) (pastNumber (pastComma r)) k))))
+    (more-next s r (more-some f (s ++ (numberAt (pastComma r) ∷ [])) (pastNumber (pastComma r)) k)
+    (more-sound f (s ++ (numberAt (pastComma r) ∷ [])) (pastNumber (pastComma r)) k))))
     (λ e. decide (leb 2 (length s)) (λ d. let k = rw (e, d) at h in rw (e, d) (more-bare s r (leb-true 2 (length s) d) k)) (λ d. no-some (rw (e, d) at h)))
 
 -- the tuple t stands before u, and z are its numbers, 65 for all above
@@ -120,7 +126,8 @@ pub record TupleRead (r u z : List ℕ) : Type 0 where
   pub value : z ≡ map cap (tupleValue tuple)
 
 -- the tuple of a first number and what follows it
-tuple-made : (b : Run isBlank) (n : Number) (ns : List Next) (c : Close) {r u z : List ℕ} → Enough 1 ns c → r ≡ 40 ∷ (b .bytes ++ numberText n (nextsText ns (closeText 41 c u)))
+tuple-made : (b : Run isBlank) (n : Number) (ns : List Next) (c : Close) {r u z : List ℕ} → Enough 1 ns c
+    → r ≡ 40 ∷ (b .bytes ++ numberText n (nextsText ns (closeText 41 c u)))
     → z ≡ cap (numberValue n) ∷ map cap (nextsValue ns) → TupleRead r u z
 unfolding Enough nextsText tupleText tupleValue nextsValue
 tuple-made b n [] (bare a) e t v = absurd (omega (arith, e))
@@ -175,7 +182,13 @@ no-blank : (b : ℕ) → 48 ≤ b → isBlank b ≡ true → ⊥
 unfolding isBlank
 no-blank b l h =
     false≢true
-    (rw (ne-eqb b 32 (λ e. omega arith), ne-eqb b 9 (λ e. omega arith), ne-eqb b 10 (λ e. omega arith), ne-eqb b 12 (λ e. omega arith), ne-eqb b 13 (λ e. omega arith)) at h)
+    (rw (
+      ne-eqb b 32 (λ e. omega arith),
+      ne-eqb b 9 (λ e. omega arith),
+      ne-eqb b 10 (λ e. omega arith),
+      ne-eqb b 12 (λ e. omega arith),
+      ne-eqb b 13 (λ e. omega arith),
+    ) at h)
 
 -- no byte is a blank and a digit
 blank-digit : (b : ℕ) → isBlank b ≡ true → isDigit b ≡ false
@@ -280,7 +293,12 @@ nexts-length [] u = omega arith
 nexts-length (n ∷ ns) u =
     let a = nexts-length ns u in
     let v = numberText (n .number) (nextsText ns u) in
-    omega (arith, number-length (n .number) (nextsText ns u), length-append (n .before .bytes) (44 ∷ (n .behind .bytes ++ v)), length-append (n .behind .bytes) v)
+    omega (
+      arith,
+      number-length (n .number) (nextsText ns u),
+      length-append (n .before .bytes) (44 ∷ (n .behind .bytes ++ v)),
+      length-append (n .behind .bytes) v,
+    )
 
 -- a first number and what follows it
 abbrev tupleOf : Run isBlank → Number → List Next → Close → List ℕ → List ℕ

@@ -8,7 +8,10 @@ use lib.Dec.{leb, eqb}
 use lib.ListN.{length, getD, drop, length-drop}
 use borrow.Author.Tests.{eqb-true, eqb-false, eq-eqb, ne-eqb}
 use Rattle.npy_grammar.specs.Text.{isBlank, isLead, isSpace, Values, Right, orderWord, rows, columns, keyWord, descr, fortran-order, shape}
-use Rattle.npy_grammar.specs.Reading.{strip, eat, eats, peek, cap, Got, pastComma, readTuple, isQuote, pastKind, pastWidth, widthAt, pastOrder, orderAt, Seen, failed, pastKey, readDescr, readOrder, readShape, readKey, blanked, readItem, started, commaPast, items, pastClose, isLast, taken}
+use Rattle.npy_grammar.specs.Reading.{strip, eat, eats, peek, cap, Got, pastComma, readTuple, isQuote, pastKind}
+use Rattle.npy_grammar.specs.Reading.{pastWidth, widthAt, pastOrder, orderAt, Seen, failed, pastKey, readDescr}
+use Rattle.npy_grammar.specs.Reading.{readOrder, readShape, readKey, blanked, readItem, started, commaPast, items}
+use Rattle.npy_grammar.specs.Reading.{pastClose, isLast, taken}
 use Rattle.npy_grammar.specs.Items.{widthNumber, orderNumber}
 use Rattle.npy_grammar.specs.Headers.{Taken, Means, header-sound, header-complete}
 use Rattle.npy_header.specs.declared.Shape.{Shape}
@@ -69,7 +72,12 @@ module _ (t : List ℕ) (p : ℕ) {q k : ℕ} (eq : q ≡ peek (drop p t)) (ak :
 
       both : (x : ℕ) {d r : ℕ} → At t d (eat x (drop k t)) → At t r (eat q (drop d t)) → At t r (eat (peek (drop p t)) (eat x (pastKind (drop p t))))
       both x {d} {r} a b =
-          record { most = b .most; left = b .left ∙ (ap (eat q) (a .left ∙ ap (eat x) (kind-at .left)) ∙ ap (λ (z : ℕ). eat z (eat x (pastKind (drop p t)))) eq) }
+          record {
+            most = b .most;
+            left = b .left
+                ∙ (ap (eat q) (a .left ∙ ap (eat x) (kind-at .left))
+                ∙ ap (λ (z : ℕ). eat z (eat x (pastKind (drop p t)))) eq);
+          }
 
       pub past-8 : {d r : ℕ} → y ≡ 56 → At t d (eat 56 (drop k t)) → At t r (eat q (drop d t)) → At t r (pastWidth (drop p t))
       unfolding pastWidth

@@ -115,7 +115,9 @@ module _ (t : List ℕ) {at : ℕ} {first held : Shape} {turn p : ℕ} (c : List
       }
 
   module _ (turned : turn < length t) where
-    one-turn : (l : List ℕ) (k : Kept l first) → moreNumbers (length t) l (drop at t) ≡ moreNumbers (suc (length t - (turn + 1))) (c .reads l k .so-far) (drop p t)
+    one-turn : (l : List ℕ) (k : Kept l first)
+        → moreNumbers (length t) l (drop at t) ≡ moreNumbers (suc (length t - (turn + 1)))
+        (c .reads l k .so-far) (drop p t)
     one-turn l k =
         let e : length t - turn ≡ suc (length t - (turn + 1)) = omega arith in
         c .reads l k .left ∙ ap (λ (m : ℕ). moreNumbers m (c .reads l k .so-far) (drop p t)) e
@@ -148,7 +150,8 @@ module _ (t : List ℕ) {at : ℕ} {first held : Shape} {turn p : ℕ} (c : List
               listed = λ l k.
                   let f = c .reads l k in
                   let m : 2 ≤ length (f .so-far) = omega (arith, h, f .kept .vars) in
-                  let g : moreNumbers (length t) l (drop at t) ≡ got (eat 41 (strip isBlank (drop p t))) (f .so-far) = one-turn l k ∙ rw (no-comma, le-leb 2 (length (f .so-far)) m) in
+                  let g : moreNumbers (length t) l (drop at t) ≡ got (eat 41 (strip isBlank (drop p t))) (f .so-far) =
+                  one-turn l k ∙ rw (no-comma, le-leb 2 (length (f .so-far)) m) in
                   rw g (record { place = record { most = b .most; left = b .left ∙ ap (eat 41) (a .left) }; kept = f .kept });
             }
 
@@ -171,7 +174,8 @@ module _ (t : List ℕ) {at : ℕ} {first held : Shape} {turn p : ℕ} (c : List
                   rw g (record { place = record { most = w .most; left = w .left ∙ ap (eat 41) (d .left) }; kept = f .kept });
             }
 
-        pub listing-more : {v z : ℕ} {s : Shape} → (x ≡ 41 → ⊥) → v ≡ numberAt (drop b t) → ((l : List ℕ) → Kept l held → Kept (l ++ (v ∷ [])) s) → At t z (pastNumber (drop b t))
+        pub listing-more : {v z : ℕ} {s : Shape} → (x ≡ 41 → ⊥) → v ≡ numberAt (drop b t)
+            → ((l : List ℕ) → Kept l held → Kept (l ++ (v ∷ [])) s) → At t z (pastNumber (drop b t))
             → Listing t at first (turn + 1) z s
         unfolding moreNumbers
         listing-more {v} {z} {s} o ev push w =
@@ -203,12 +207,16 @@ module _ (t : List ℕ) (at : ℕ) {b y : ℕ} (a : At t b (strip isBlank (eat 4
       let j : eqb (peek (strip isBlank (eat 40 (drop at t)))) 41 ≡ true = ap (λ (x : ℕ). eqb x 41) seen ∙ eq-eqb y 41 i in
       rw j (record { place = record { most = w .most; left = w .left ∙ ap (eat 41) (a .left) }; kept = k })
 
-  pub tuple-some : {v q : ℕ} {s : Shape} {r : Listed} → (y ≡ 41 → ⊥) → v ≡ numberAt (drop b t) → Kept (v ∷ []) s → At t q (pastNumber (drop b t)) → MoreListed t q s r
+  pub tuple-some : {v q : ℕ} {s : Shape} {r : Listed} → (y ≡ 41 → ⊥) → v ≡ numberAt (drop b t) → Kept (v ∷ []) s
+      → At t q (pastNumber (drop b t)) → MoreListed t q s r
       → ListedAt t r (readTuple (length t) (drop at t))
   unfolding insideTuple
   tuple-some {v} {q} {s} {r} n ev k w m =
       let j : eqb (peek (strip isBlank (eat 40 (drop at t)))) 41 ≡ false = ap (λ (x : ℕ). eqb x 41) seen ∙ ne-eqb y 41 n in
-      let e : moreNumbers (length t) (v ∷ []) (drop q t) ≡ moreNumbers (length t) (numberAt (strip isBlank (eat 40 (drop at t))) ∷ []) (pastNumber (strip isBlank (eat 40 (drop at t)))) =
+      let e : moreNumbers (length t) (v ∷ []) (drop q t)
+      ≡ moreNumbers (length t) (numberAt (strip isBlank (eat 40 (drop at t))) ∷ [])
+      (pastNumber (strip isBlank (eat 40 (drop at t)))) =
       ap (moreNumbers (length t) (v ∷ [])) (w .left)
-      ∙ (ap (λ (x : ℕ). moreNumbers (length t) (x ∷ []) (pastNumber (drop b t))) ev ∙ ap (λ (l : List ℕ). moreNumbers (length t) (numberAt l ∷ []) (pastNumber l)) (a .left)) in
+      ∙ (ap (λ (x : ℕ). moreNumbers (length t) (x ∷ []) (pastNumber (drop b t))) ev
+      ∙ ap (λ (l : List ℕ). moreNumbers (length t) (numberAt l ∷ []) (pastNumber l)) (a .left)) in
       rw (j, ← e) (m .listed (v ∷ []) k)

@@ -1,4 +1,5 @@
-// Reading the header text of an array file (document 02, W2 and W12) by a place that moves on; the end of the text where a piece does not stand.
+// Reading the header text of an array file (document 02, W2 and W12) by a place that moves on; the end of the text
+// where a piece does not stand.
 use npy_grammar::is_quote;
 use npy_pieces::byte_at;
 use npy_pieces::eat_byte;
@@ -10,7 +11,9 @@ ghost use mathlib.Core.Path.{_≡_};
 ghost use mathlib.Core.List.{List, [], _∷_, _++_};
 ghost use Prim.Native.Nat.{ℕ, _≤_};
 ghost use lib.ListN.{length, drop};
-ghost use Rattle.npy_grammar.specs.Reading.{Seen, pastComma, moreNumbers, readTuple, pastKey, pastWidth, widthAt, pastOrder, orderAt, readDescr, readOrder, readShape, readItem, items, pastClose, taken};
+ghost use Rattle.npy_grammar.specs.Reading.{Seen, pastComma, moreNumbers, readTuple, pastKey, pastWidth, widthAt};
+ghost use Rattle.npy_grammar.specs.Reading.{pastOrder, orderAt, readDescr, readOrder, readShape, readItem, items};
+ghost use Rattle.npy_grammar.specs.Reading.{pastClose, taken};
 ghost use Rattle.npy_pieces.specs.Places.{At};
 ghost use Rattle.npy_header.specs.Shapes.{Kept, ListedAt, Listing, MoreListed};
 ghost use Rattle.npy_header.specs.Cursors.{CursorRead, ItemRead, CommaRead, HeaderRead};
@@ -114,7 +117,8 @@ fn tuple(text: &[u8], at: usize) -> Listed
     more_numbers(text, past_number(text, b), s)
 }
 
-// What was seen of a header, up to the place `at`: the bytes of a value, 1 for rows and 2 for columns, 1 where the shape was given; 0 for what was not.
+// What was seen of a header, up to the place `at`: the bytes of a value, 1 for rows and 2 for columns, 1 where the
+// shape was given; 0 for what was not.
 pub struct Cursor {
     pub at: usize,
     pub width: usize,

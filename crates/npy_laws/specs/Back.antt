@@ -1,4 +1,5 @@
--- What was written is read back: the same lengths and the same floats. A NaN comes back as a NaN: in the logic all NaNs are one value.
+-- What was written is read back: the same lengths and the same floats. A NaN comes back as a NaN: in the logic all NaNs
+-- are one value.
 use Prim.Native.Nat.{ℕ, zero, suc, _+_, _-_, _*_, _/_, _%_, _^_, _≤_, _<_}
 use mathlib.Core.List.{List, [], _∷_, _++_, append-assoc, append-nil}
 use mathlib.Core.Bool.{Bool, true, false, _&&_, _||_}
@@ -74,13 +75,23 @@ followed-most : (s : List ℕ) → allInRange s ≡ true → length (followed s)
 unfolding allInRange followed
 followed-most [] h = omega arith
 followed-most (x ∷ s) h =
-    omega (arith, length-append (decimal x) (followed s), two-digits x (and-left (leb 1 x && leb x 64) (allInRange s) h), followed-most s (and-right (leb 1 x && leb x 64) (allInRange s) h))
+    omega (
+      arith,
+      length-append (decimal x) (followed s),
+      two-digits x (and-left (leb 1 x && leb x 64) (allInRange s) h),
+      followed-most s (and-right (leb 1 x && leb x 64) (allInRange s) h),
+    )
 
 listed-most : (s : List ℕ) → allInRange s ≡ true → length (listed s) ≤ 4 * length s
 unfolding allInRange listed
 listed-most [] h = omega arith
 listed-most (x ∷ s) h =
-    omega (arith, length-append (decimal x) (followed s), two-digits x (and-left (leb 1 x && leb x 64) (allInRange s) h), followed-most s (and-right (leb 1 x && leb x 64) (allInRange s) h))
+    omega (
+      arith,
+      length-append (decimal x) (followed s),
+      two-digits x (and-left (leb 1 x && leb x 64) (allInRange s) h),
+      followed-most s (and-right (leb 1 x && leb x 64) (allInRange s) h),
+    )
 
 closing-most : (s : List ℕ) → length (closing s) ≤ 1
 unfolding closing
@@ -148,7 +159,12 @@ module _ (s : List ℕ) (good : goodShape s ≡ true) where
 
     framed : isFramed t ≡ true
     unfolding isFramed
-    framed = rw (version, le-leb (headStart t) (length t) (omega (arith, begins, file-long)), le-leb (dataStart t) (length t) (omega (arith, begins, says-long, file-long)))
+    framed =
+        rw (
+          version,
+          le-leb (headStart t) (length t) (omega (arith, begins, file-long)),
+          le-leb (dataStart t) (length t) (omega (arith, begins, says-long, file-long)),
+        )
 
     head-is : headText t ≡ headOut 118 s
     unfolding headText fileOut frontOut lowBytes

@@ -1,5 +1,5 @@
--- Two files whose headers say the same, whatever their blanks, order of keys, quotes and closing commas, and whose data are the same, read the same; limits are the
--- shape; and every byte of a file that is read is accounted for.
+-- Two files whose headers say the same, whatever their blanks, order of keys, quotes and closing commas, and whose data
+-- are the same, read the same; limits are the shape; and every byte of a file that is read is accounted for.
 use Prim.Native.Nat.{ℕ, zero, suc, _+_, _-_, _*_, _≤_, _<_}
 use mathlib.Core.List.{List, [], _∷_, _++_}
 use mathlib.Core.Bool.{Bool, true, false, _&&_, _||_}
@@ -42,12 +42,16 @@ value-same four t r e k =
 
 framed-long : (t : List ℕ) → isFramed t ≡ true → dataStart t ≤ length t
 unfolding isFramed
-framed-long t f = leb-true (dataStart t) (length t) (and-right ((isVersion 1 t || isVersion 2 t) && leb (headStart t) (length t)) (leb (dataStart t) (length t)) f)
+framed-long t f =
+    leb-true (dataStart t) (length t) (and-right ((isVersion 1 t || isVersion 2 t) && leb (headStart t) (length t))
+    (leb (dataStart t) (length t)) f)
 
 -- so is whether they fit
 fits-data : (t : List ℕ) (v : Values) → isFramed t ≡ true → dataFits t v ≡ eqb (length (dataOf t)) (bytesOf (v .width) * product (v .shape))
 unfolding dataFits
-fits-data t v f = add-test (dataStart t) (length t) (length (dataOf t)) (bytesOf (v .width) * product (v .shape)) (let l = framed-long t f in omega (arith, l, length-drop (dataStart t) t))
+fits-data t v f =
+    add-test (dataStart t) (length t) (length (dataOf t)) (bytesOf (v .width) * product (v .shape))
+    (let l = framed-long t f in omega (arith, l, length-drop (dataStart t) t))
   where
     add-test : (d n m c : ℕ) → n ≡ d + m → eqb n (d + c) ≡ eqb m c
     add-test d n m c e =
@@ -56,13 +60,16 @@ fits-data t v f = add-test (dataStart t) (length t) (length (dataOf t)) (bytesOf
         (λ t. let k = eqb-false m c t in rw (t, ne-eqb n (d + c) (λ h. k (omega arith))))
 
 module _ {t r : List ℕ} {v : Values} (a : Says t v) (b : Says r v) (e : dataOf t ≡ dataOf r) where
-  out-same : (old : List Float) → table (product (v .shape)) (fileValue t v) ++ drop (product (v .shape)) old ≡ table (product (v .shape)) (fileValue r v) ++ drop (product (v .shape)) old
+  out-same : (old : List Float) → table (product (v .shape)) (fileValue t v) ++ drop (product (v .shape)) old
+      ≡ table (product (v .shape)) (fileValue r v) ++ drop (product (v .shape)) old
   out-same old =
       ap (λ (l : List Float). l ++ drop (product (v .shape)) old)
       (table-same (fileValue t v) (fileValue r v) (product (v .shape)) (λ i l. value-same (v .width) t r e (filePlace (v .order) _ i)))
 
   fits-same : dataFits r v ≡ dataFits t v
-  fits-same = fits-data r v (b .framed) ∙ (ap (λ (l : List ℕ). eqb (length l) (bytesOf (v .width) * product (v .shape))) (sym e) ∙ sym (fits-data t v (a .framed)))
+  fits-same =
+      fits-data r v (b .framed) ∙ (ap (λ (l : List ℕ). eqb (length l) (bytesOf (v .width) * product (v .shape))) (sym e)
+      ∙ sym (fits-data t v (a .framed)))
 
   -- every outcome of the one is an outcome of the other
   carried : {old new : List Float} {x : Answer} → Reading t old x new → Reading r old x new
@@ -73,7 +80,8 @@ module _ {t r : List ℕ} {v : Values} (a : Says t v) (b : Says r v) (e : dataOf
       Reading.unlike v b (sym (says-room s a (length old)) ∙ f) (fits-same ∙ (ap (dataFits t) (sym k) ∙ g))
   carried {old} (Reading.done w s f g) =
       let k : w ≡ v = says-one s a (room-good w (length old) f) in
-      let m : Reading r old (readAnswer v) (readOut r old v) = Reading.done v b (sym (says-room s a (length old)) ∙ f) (fits-same ∙ (ap (dataFits t) (sym k) ∙ g)) in
+      let m : Reading r old (readAnswer v) (readOut r old v) =
+      Reading.done v b (sym (says-room s a (length old)) ∙ f) (fits-same ∙ (ap (dataFits t) (sym k) ∙ g)) in
       let n : Reading r old (readAnswer v) (readOut t old v) = subst (λ (l : List Float). Reading r old (readAnswer v) l) (sym (out-same old)) m in
       subst (λ (z : Values). Reading r old (readAnswer z) (readOut t old z)) (sym k) n
 
@@ -92,7 +100,8 @@ unfolding headText
 cut-three t =
     let h : ℕ = headStart t in
     let n : ℕ = headLength t in
-    sym (ap (λ (l : List ℕ). take h t ++ (take n (drop h t) ++ l)) (sym (drop-drop n h t)) ∙ (ap (λ (l : List ℕ). take h t ++ l) (take-append-drop n (drop h t)) ∙ take-append-drop h t))
+    sym (ap (λ (l : List ℕ). take h t ++ (take n (drop h t) ++ l)) (sym (drop-drop n h t))
+    ∙ (ap (λ (l : List ℕ). take h t ++ l) (take-append-drop n (drop h t)) ∙ take-append-drop h t))
 
 pub record Accounted (t : List ℕ) (w : ℕ) : Type 0 where
   pub values : Values
@@ -102,7 +111,8 @@ pub record Accounted (t : List ℕ) (w : ℕ) : Type 0 where
   pub bytes : length (dataOf t) ≡ bytesOf (values .width) * product (values .shape)
   pub word : w ≡ wordOf (headOf (values .shape))
 
--- the opening bytes and the length, the header's text, the data of the shape, and nothing behind them; the header word's limits and lengths are the shape
+-- the opening bytes and the length, the header's text, the data of the shape, and nothing behind them; the header
+-- word's limits and lengths are the shape
 pub accounted : {t : List ℕ} {old new : List Float} {w : ℕ} → Reading t old (Done w) new → Accounted t w
 accounted {t} (Reading.done v s f g) =
     record {

@@ -13,7 +13,12 @@ use Rattle.lists.specs.Test.{decide, and-left, and-right}
 use Rattle.model_texts.specs.Printed.{lastDigit, decimal}
 use Rattle.sheet_text.specs.Decimal.{decimal-digit, decimal-more}
 use Rattle.npy_grammar.specs.Text as text
-use Rattle.npy_grammar.specs.Text.{isSpace, isLead, isBlank, isDigit, all, Run, Blanks, Number, nought, counted, numberText, digitsValue, numberValue, Close, bare, comma, closeText, Next, nextText, nextsText, Tuple, none, one, several, tupleText, nextsValue, tupleValue, Quote, single, double, quoteByte, quoted, widthWord, orderWord, keyWord, Written, a-width, an-order, a-shape, valueText, keyOf, Agrees, Item, itemText, Apart, Header, headerText, Right, Values}
+use Rattle.npy_grammar.specs.Text.{isSpace, isLead, isBlank, isDigit, all, Run, Blanks, Number, nought, counted}
+use Rattle.npy_grammar.specs.Text.{numberText, digitsValue, numberValue, Close, bare, comma, closeText, Next, nextText}
+use Rattle.npy_grammar.specs.Text.{nextsText, Tuple, none, one, several, tupleText, nextsValue, tupleValue, Quote}
+use Rattle.npy_grammar.specs.Text.{single, double, quoteByte, quoted, widthWord, orderWord, keyWord, Written, a-width}
+use Rattle.npy_grammar.specs.Text.{an-order, a-shape, valueText, keyOf, Agrees, Item, itemText, Apart, Header}
+use Rattle.npy_grammar.specs.Text.{headerText, Right, Values}
 use Rattle.npy_files.specs.Shapes.{allInRange}
 use Rattle.npy_files.specs.Writes.{followed, listed, closing, tupleOut, dictOut, headOut}
 
@@ -53,7 +58,8 @@ unfolding numberText numberValue digitsValue all
 spelt-two x h l =
     let t : x / 10 < 10 = omega arith in
     let o : 1 ≤ x / 10 = omega arith in
-    let d : decimal x ≡ lastDigit (x / 10) ∷ lastDigit x ∷ [] = decimal-more x h (omega arith) ∙ ap (λ (k : List ℕ). k ++ (lastDigit x ∷ [])) (decimal-digit (x / 10) t) in
+    let d : decimal x ≡ lastDigit (x / 10) ∷ lastDigit x ∷ [] =
+    decimal-more x h (omega arith) ∙ ap (λ (k : List ℕ). k ++ (lastDigit x ∷ [])) (decimal-digit (x / 10) t) in
     record {
       number = counted (lastDigit (x / 10)) (digit-is (x / 10)) (no-nought (x / 10) o t) (record { bytes = lastDigit x ∷ []; only = rw (digit-is x) });
       text = λ u. sym (ap (λ (k : List ℕ). k ++ u) d);
@@ -79,7 +85,9 @@ spelt-nexts (x ∷ s) h =
     let r = spelt-nexts s (and-right (leb 1 x && leb x 64) (allInRange s) h) in
     record {
       nexts = record { before = no-blanks; behind = one-space; number = n .number } ∷ r .nexts;
-      text = λ u. ap (λ (k : List ℕ). 44 ∷ 32 ∷ k) (n .text (nextsText (r .nexts) u) ∙ (ap (λ (k : List ℕ). decimal x ++ k) (r .text u) ∙ sym (append-assoc (decimal x) (followed s) u)));
+      text =
+          λ u. ap (λ (k : List ℕ). 44 ∷ 32 ∷ k) (n .text (nextsText (r .nexts) u)
+          ∙ (ap (λ (k : List ℕ). decimal x ++ k) (r .text u) ∙ sym (append-assoc (decimal x) (followed s) u)));
       value = ap₂ _∷_ (n .value) (r .value);
     }
 
@@ -133,7 +141,9 @@ spelt-tuple-more x y s h =
           ap (λ (k : List ℕ). 40 ∷ k)
           (n .text (44 ∷ 32 ∷ numberText (m .number) (nextsText (r .nexts) (41 ∷ u)))
           ∙ (ap (λ (k : List ℕ). decimal x ++ (44 ∷ 32 ∷ k))
-          (m .text (nextsText (r .nexts) (41 ∷ u)) ∙ (ap (λ (k : List ℕ). decimal y ++ k) (r .text (41 ∷ u)) ∙ sym (append-assoc (decimal y) (followed s) (41 ∷ u))))
+          (m .text (nextsText (r .nexts) (41 ∷ u))
+          ∙ (ap (λ (k : List ℕ). decimal y ++ k) (r .text (41 ∷ u))
+          ∙ sym (append-assoc (decimal y) (followed s) (41 ∷ u))))
           ∙ several-text x (y ∷ s) u));
       value = ap₂ (λ (a : ℕ) (b : List ℕ). a ∷ b) (n .value) (ap₂ (λ (a : ℕ) (b : List ℕ). a ∷ b) (m .value) (r .value));
     }

@@ -48,7 +48,9 @@ module _ (h : Header) (g : Good h) where
       let m = ltb-false k (h .vars) t in
       let r = ruled-at (g .regular .rules) k l in
       let z = r .gone m in
-      List·getD-eq-default (shapeOf h) 1 (omega (arith, m, length-take-le (h .vars) n (omega (arith, long, g .regular .rules .few)))) ∙ omega (arith, z, r .pos, r .fit))
+      List·getD-eq-default (shapeOf h) 1 (omega
+      (arith, m, length-take-le (h .vars) n (omega (arith, long, g .regular .rules .few))))
+      ∙ omega (arith, z, r .pos, r .fit))
 
   -- the lengths come back
   pub lengths-back : lengthsOf (shapeOf h) ≡ h .lengths

@@ -122,7 +122,12 @@ module _ (t : List ℕ) where
 pub eating-more : {t w l : List ℕ} {k p q : ℕ} → Eating t w l k p → k < length w → At t q (eat (getD w k 0) (drop p t)) → Eating t w l (k + 1) q
 unfolding eats
 eating-more {t} {w} {l} {k} {p} c h a =
-    record { most = omega arith; inside = a .most; left = c .left ∙ (ap (λ (y : List ℕ). eats y (drop p t)) (here w k h) ∙ ap (eats (drop (k + 1) w)) (sym (a .left))) }
+    record {
+      most = omega arith;
+      inside = a .most;
+      left = c .left
+          ∙ (ap (λ (y : List ℕ). eats y (drop p t)) (here w k h) ∙ ap (eats (drop (k + 1) w)) (sym (a .left)));
+    }
 
 pub eating-end : {t w l : List ℕ} {k p : ℕ} → Eating t w l k p → length w ≤ k → At t p (eats w l)
 unfolding eats

@@ -87,7 +87,8 @@ good-from m h =
     let e : product m ≡ stored (keptHead m) = product-count m few in
     rw (le-leb (length m) 4 few, range, le-leb (product m) 4096 (omega (arith, e, header-most (keptHead m) h)))
   where
-    in-four : (m : List ℕ) → ((k : ℕ) → k < 4 → GoodVar (min (length m) 5) k (at (lengthsOf m) k) (at (lengthsOf m) k)) → (k : ℕ) → k < 4 → (1 ≤ getD m k 1) × (getD m k 1 ≤ 64)
+    in-four : (m : List ℕ) → ((k : ℕ) → k < 4 → GoodVar (min (length m) 5) k (at (lengthsOf m) k) (at (lengthsOf m) k))
+        → (k : ℕ) → k < 4 → (1 ≤ getD m k 1) × (getD m k 1 ≤ 64)
     in-four m f zero l = (f 0 (lit< tt) .pos, f 0 (lit< tt) .most)
     in-four m f (suc zero) l = (f 1 (lit< tt) .pos, f 1 (lit< tt) .most)
     in-four m f (suc (suc zero)) l = (f 2 (lit< tt) .pos, f 2 (lit< tt) .most)

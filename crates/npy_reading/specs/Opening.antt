@@ -82,7 +82,9 @@ module _ (t : List ℕ) where
 
   framed-long : isFramed t ≡ true → dataStart t ≤ length t
   unfolding isFramed
-  framed-long f = leb-true (dataStart t) (length t) (and-right ((isVersion 1 t || isVersion 2 t) && leb (headStart t) (length t)) (leb (dataStart t) (length t)) f)
+  framed-long f =
+      leb-true (dataStart t) (length t) (and-right ((isVersion 1 t || isVersion 2 t) && leb (headStart t) (length t))
+      (leb (dataStart t) (length t)) f)
 
   begun-at : {p : ℕ} → isVersion 1 t ≡ true → isFramed t ≡ true → p ≡ dataStart t → Begun t p
   unfolding headText

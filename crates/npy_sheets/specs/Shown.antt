@@ -1,4 +1,5 @@
--- Document 02, W2, the program `from_npy`: a file's sheet lines, header word, then coefficients; a refusal prints the refusal line.
+-- Document 02, W2, the program `from_npy`: a file's sheet lines, header word, then coefficients; a refusal prints the
+-- refusal line.
 use Prim.Native.Nat.{ℕ, _+_, _*_, _≤_}
 use mathlib.Core.List.{List, _++_, map}
 use mathlib.Core.Path.{_≡_, refl, sym, ap, _∙_, subst}
@@ -52,7 +53,8 @@ module _ {t : List ℕ} {old new : List Float} (w : ℕ) {a : Answer} (r : Readi
   done-small k l = subst (λ (n : ℕ). n ≤ 4096) (sym (l ∙ ap stored k)) (done-good .most)
 
 module _ {t : List ℕ} {values values' : List Float} {old new : List ℕ} {n : ℕ} where
-  pub shown-done : (w : ℕ) {a : Answer} {c : ℕ} → Reading t values a values' → a ≡ answer.Done w → c ≡ stored (headerOf w) → Put 0 (sheetText w (take c values')) old new n → Shown t values values' old new n
+  pub shown-done : (w : ℕ) {a : Answer} {c : ℕ} → Reading t values a values' → a ≡ answer.Done w
+      → c ≡ stored (headerOf w) → Put 0 (sheetText w (take c values')) old new n → Shown t values values' old new n
   unfolding shownText
   shown-done w {a} {c} r e k p =
       record {
@@ -61,7 +63,8 @@ module _ {t : List ℕ} {values values' : List Float} {old new : List ℕ} {n : 
         put = subst (λ (m : ℕ). Put 0 (sheetText w (take m values')) old new n) k p;
       }
 
-  pub shown-refused : (e : Refusal) {a : Answer} → Reading t values a values' → a ≡ answer.Refused e → Put 0 (refusedText e) old new n → Shown t values values' old new n
+  pub shown-refused : (e : Refusal) {a : Answer} → Reading t values a values' → a ≡ answer.Refused e
+      → Put 0 (refusedText e) old new n → Shown t values values' old new n
   unfolding shownText
   shown-refused e {a} r k p =
       record {

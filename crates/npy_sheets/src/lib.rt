@@ -1,4 +1,5 @@
-// What the program `from_npy` prints: the lines of a sheet for an array file (document 02, W2), or the line of its refusal.
+// What the program `from_npy` prints: the lines of a sheet for an array file (document 02, W2), or the line of its
+// refusal.
 use gates::stored_of;
 use model::Answer;
 use model::Refusal;
@@ -36,7 +37,8 @@ fn put_sheet(head: u64, xs: &[f64], to: &mut [u8]) -> usize
     put_floats(xs, a, to)
 }
 
-// What is printed for a file, at the front of `output`; answers how long it is. `values` is memory for the coefficients.
+// What is printed for a file, at the front of `output`; answers how long it is. `values` is memory for the
+// coefficients.
 pub fn show(file: &[u8], values: &mut [f64], output: &mut [u8]) -> usize
     requires { ⌜ (length (now values) ≡ 4096) × (69649 ≤ length (now output)) ⌝ }
     ensures { λ n. ⌜ Shown (now (file .entry)) (now (values .entry)) (now (values .exit)) (now (output .entry)) (now (output .exit)) n ⌝ }

@@ -39,7 +39,8 @@ followed-snoc : (s : List ℕ) (y : ℕ) → followed (s ++ (y ∷ [])) ≡ foll
 unfolding followed
 followed-snoc [] y = ap (λ (l : List ℕ). 44 ∷ 32 ∷ l) (append-nil (decimal y))
 followed-snoc (x ∷ s) y =
-    ap (λ (l : List ℕ). 44 ∷ 32 ∷ l) (ap (λ (l : List ℕ). decimal x ++ l) (followed-snoc s y) ∙ sym (append-assoc (decimal x) (followed s) (44 ∷ 32 ∷ decimal y)))
+    ap (λ (l : List ℕ). 44 ∷ 32 ∷ l) (ap (λ (l : List ℕ). decimal x ++ l) (followed-snoc s y)
+    ∙ sym (append-assoc (decimal x) (followed s) (44 ∷ 32 ∷ decimal y)))
 
 -- the first number, and those behind it
 listed-parts : (v : ℕ) (n : List ℕ) → 1 ≤ v → 1 ≤ length n → listed (take v n) ≡ decimal (at n 0) ++ followed (drop 1 (take v n))
@@ -72,7 +73,8 @@ module _ {v : ℕ} {n : List ℕ} (h : Shaped v n) (place : ℕ) (old : List ℕ
         rw (add-one k, take-suc n k 0 inside, drop-append-le 1 (take k n) (at n k ∷ []) (omega (arith, p .some, length-take-le k n (omega (arith, inside)))))
         (followed-snoc (drop 1 (take k n)) (at n k))
 
-    pub rest-more : {mid new' : List ℕ} {m e : ℕ} → Put next (44 ∷ 32 ∷ []) new mid m → Put m (decimal (at n k)) mid new' e → PutRest v n place old new' e (k + 1)
+    pub rest-more : {mid new' : List ℕ} {m e : ℕ} → Put next (44 ∷ 32 ∷ []) new mid m
+        → Put m (decimal (at n k)) mid new' e → PutRest v n place old new' e (k + 1)
     rest-more {mid} {new'} {m} {e} a b =
         record {
           some = omega arith;
@@ -90,7 +92,8 @@ module _ {v : ℕ} {n : List ℕ} (h : Shaped v n) (place : ℕ) (old : List ℕ
   unfolding listed
   numbers-none e l = rw e (record { put = put-none place old (omega arith); most = omega arith })
 
-  pub numbers-put : {mid new : List ℕ} {m e : ℕ} → 1 ≤ v → Put place (decimal (at n 0)) old mid m → PutShort 12 m (followed (drop 1 (take v n))) mid new e → PutShort 14 place (listed (take v n)) old new e
+  pub numbers-put : {mid new : List ℕ} {m e : ℕ} → 1 ≤ v → Put place (decimal (at n 0)) old mid m
+      → PutShort 12 m (followed (drop 1 (take v n))) mid new e → PutShort 14 place (listed (take v n)) old new e
   numbers-put {mid} {new} {m} {e} l a b =
       record {
         put = rw (listed-parts v n l (omega (arith, h .long))) (put-then a (b .put));
@@ -108,7 +111,8 @@ no-comma (suc (suc v)) (x ∷ []) e h = absurd (omega arith)
 no-comma (suc (suc v)) (x ∷ (y ∷ n)) e h = refl
 
 module _ {v place : ℕ} {old : List ℕ} where
-  pub closing-one : {new : List ℕ} {next : ℕ} → v ≡ 1 → Put place (44 ∷ []) old new next → (n : List ℕ) → length n ≡ 4 → v ≤ 4 → PutShort 1 place (closing (take v n)) old new next
+  pub closing-one : {new : List ℕ} {next : ℕ} → v ≡ 1 → Put place (44 ∷ []) old new next → (n : List ℕ) → length n ≡ 4
+      → v ≤ 4 → PutShort 1 place (closing (take v n)) old new next
   unfolding closing
   closing-one e p [] h l = absurd (omega arith)
   closing-one e p (x ∷ n) h l = rw e (record { put = p; most = omega (arith, p .behind) })
@@ -128,7 +132,9 @@ module _ (s : List ℕ) {place : ℕ} {old : List ℕ} where
         most = omega (arith, w .behind, x .most, y .most, z .behind);
       }
 
-  pub dict-put : {a b c : List ℕ} {p q e : ℕ} → Put place (bytes "{'descr': '<f8', 'fortran_order': False, 'shape': ") old a p → PutShort 17 p (tupleOut s) a b q
+  pub dict-put : {a b c : List ℕ} {p q e : ℕ}
+      → Put place (bytes "{'descr': '<f8', 'fortran_order': False, 'shape': ") old a p
+      → PutShort 17 p (tupleOut s) a b q
       → Put q (bytes ", }") b c e → PutShort 70 place (dictOut s) old c e
   unfolding dictOut bytes
   dict-put x y z =
@@ -137,7 +143,8 @@ module _ (s : List ℕ) {place : ℕ} {old : List ℕ} where
         most = omega (arith, x .behind, y .most, z .behind);
       }
 
-pub front-put : (s : List ℕ) {old a b c d : List ℕ} {p q r e : ℕ} → Put 0 (opening 1 ++ (118 ∷ 0 ∷ [])) old a p → PutShort 70 p (dictOut s) a b q → Put q (table (127 - q) (λ k. 32)) b c r
+pub front-put : (s : List ℕ) {old a b c d : List ℕ} {p q r e : ℕ} → Put 0 (opening 1 ++ (118 ∷ 0 ∷ [])) old a p
+    → PutShort 70 p (dictOut s) a b q → Put q (table (127 - q) (λ k. 32)) b c r
     → Put r (10 ∷ []) c d e → PutFront s old d e
 unfolding frontOut headOut lowBytes
 front-put s {old} {a} {b} {c} {d} {p} {q} {r} {e} w x y z =

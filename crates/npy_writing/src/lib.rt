@@ -1,4 +1,5 @@
-// The 128 bytes before the data of an array file that is written (document 02, W2). Each function answers the place behind its text.
+// The 128 bytes before the data of an array file that is written (document 02, W2). Each function answers the place
+// behind its text.
 use sheet_text::print::put_byte;
 use sheet_text::print::put_bytes;
 use sheet_text::print::put_decimal;

@@ -1,5 +1,5 @@
--- The first 1,115,218 bytes of a sheet decide what `limits` prints, as they decide what `recipe` prints. A text that is longer is refused while it is read, and
--- the refusal can be read off the line that `recipe` prints for it.
+-- The first 1,115,218 bytes of a sheet decide what `limits` prints, as they decide what `recipe` prints. A text that is
+-- longer is refused while it is read, and the refusal can be read off the line that `recipe` prints for it.
 use Prim.Native.Nat.{ℕ, zero, suc, _+_, _*_, _≤_, _<_}
 use mathlib.Core.Bool.{Bool, true, false}
 use mathlib.Core.List.{List, _∷_, _++_}

@@ -24,7 +24,8 @@ use Rattle.model_recipes.specs.Run.{noValue, valueAt, values, stepValues}
 use Rattle.model_texts.specs.Printed.{refusedWord, space, refusedText}
 use Rattle.model_texts.specs.Report.{tell, when}
 use Rattle.model_texts.specs.Sentence.{placeMeanings, sheetMeanings, meaning, refusalReport}
-use Rattle.model_texts.specs.Sheet.{inputCount, stepCount, sheetHeaders, sheetCoefficients, sheetSteps, wordOn, coefficientCount, ownRefusal, recipeRefusal, readRefusal, sheetRefusal, lastValue}
+use Rattle.model_texts.specs.Sheet.{inputCount, stepCount, sheetHeaders, sheetCoefficients, sheetSteps, wordOn}
+use Rattle.model_texts.specs.Sheet.{coefficientCount, ownRefusal, recipeRefusal, readRefusal, sheetRefusal, lastValue}
 use Rattle.model_texts.specs.Told.{limitsFirst, toldText}
 use Rattle.shape_words.specs.Words.{unpack-pack}
 use Rattle.shape.specs.Under.{count-under}
@@ -36,7 +37,9 @@ use Rattle.recipes_laws.specs.Values.{follows-all}
 use Rattle.sheet.specs.Opened.{steps-many}
 use Rattle.sheet.specs.Running.{passed, steps-largest}
 use Rattle.report_lines.specs.Puts.{Printed}
-use Rattle.report_lines.specs.Columns.{inColumns, columnAfter, columns-append, columns-earlier, Piece, piece, piece-then, piece-columns, number-piece, tell-two, newline-rest, rest-then, Lines, lines}
+use Rattle.report_lines.specs.Columns.{inColumns, columnAfter, columns-append, columns-earlier, Piece, piece}
+use Rattle.report_lines.specs.Columns.{piece-then, piece-columns, number-piece, tell-two, newline-rest, rest-then}
+use Rattle.report_lines.specs.Columns.{Lines, lines}
 use Rattle.report_lines.specs.Long.{limits-lines}
 use Rattle.report_figures.specs.Lines.{word-lengths}
 use Rattle.report_figures.specs.Long.{figures-lines}
@@ -49,7 +52,11 @@ record Kept (n : ℕ) (t : List ℕ) : Type 0 where
   keeps : inColumns 0 t ≡ true
 
 kept-behind : {a b : ℕ} {s t : List ℕ} → Lines a s → Kept b t → Kept (a + b) (s ++ t)
-kept-behind {s = s} {t = t} p q = record { most = omega (arith, length-append s t, p .most, q .most); keeps = columns-append 0 s t (p .keeps) (rw (p .ends) (q .keeps)) }
+kept-behind {s = s} {t = t} p q =
+    record {
+      most = omega (arith, length-append s t, p .most, q .most);
+      keeps = columns-append 0 s t (p .keeps) (rw (p .ends) (q .keeps));
+    }
 
 -- ---- a refusal
 
@@ -57,7 +64,8 @@ refused-lines : (r : Refusal) → Lines 50 (refusedText r)
 unfolding refusedText
 refused-lines r =
     lines (omega arith)
-    (rest-then (piece 8 refusedWord refl) (rest-then (number-piece (r .number)) (rest-then (piece 1 space refl) (rest-then (number-piece (r .place)) newline-rest))))
+    (rest-then (piece 8 refusedWord refl) (rest-then (number-piece (r .number))
+    (rest-then (piece 1 space refl) (rest-then (number-piece (r .place)) newline-rest))))
 
 -- texts that keep to the columns from the column c on
 abbrev allFrom : ℕ → List String → Bool

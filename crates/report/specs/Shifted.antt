@@ -1,5 +1,6 @@
--- Of a sheet that is not refused: the limit of a shift is its operand's, less n. So what is said of a limit that shifts have
--- lowered is so: the limit of the place named is the limit and all that they took off it, and the step named is one of them.
+-- Of a sheet that is not refused: the limit of a shift is its operand's, less n. So what is said of a limit that shifts
+-- have lowered is so: the limit of the place named is the limit and all that they took off it, and the step named is
+-- one of them.
 use Prim.Native.Nat.{ℕ, zero, suc, _+_, _-_, _≤_, _<_, max}
 use mathlib.Core.Bool.{true}
 use mathlib.Core.List.{List}

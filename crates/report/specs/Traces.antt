@@ -44,7 +44,9 @@ module _ (hs ss : List ℕ) (z : checkRefusal hs ss .number ≡ 0) where
   pub check-ordered : Ordered ss (length hs) (length hs + length ss)
   check-ordered =
       record {
-        before = λ p x a l o. decide (ltb x p) (λ t. ltb-true _ _ t) (λ t. absurd (not-late (p - length hs) x (omega arith) o (omega (arith, ltb-false x p t))));
+        before =
+            λ p x a l o. decide (ltb x p) (λ t. ltb-true _ _ t)
+            (λ t. absurd (not-late (p - length hs) x (omega arith) o (omega (arith, ltb-false x p t))));
       }
 
   -- n of a shift is below a limit
@@ -71,7 +73,8 @@ module _ (t : List ℕ) (z : sheetRefusal t .number ≡ 0) where
   pub sheet-ordered : Ordered (sheetSteps t) (inputCount t) (inputCount t + stepCount t)
   sheet-ordered = rw (headers-many t, steps-many t) at (check-ordered (sheetHeaders t) (sheetSteps t) check-none)
 
-  pub sheet-short : (p : ℕ) → inputCount t ≤ p → p < inputCount t + stepCount t → Shifts (stepWord (sheetSteps t) (inputCount t) p) → stepOf (stepWord (sheetSteps t) (inputCount t) p) .n < 64
+  pub sheet-short : (p : ℕ) → inputCount t ≤ p → p < inputCount t + stepCount t
+      → Shifts (stepWord (sheetSteps t) (inputCount t) p) → stepOf (stepWord (sheetSteps t) (inputCount t) p) .n < 64
   sheet-short p a l s = shift-short (sheetHeaders t) (sheetSteps t) check-none (p - inputCount t) (omega (arith, steps-many t)) s
 
   pub few : inputCount t + stepCount t ≤ 64
@@ -89,5 +92,6 @@ module _ (t : List ℕ) (z : sheetRefusal t .number ≡ 0) where
     pub sheet-furthest : Made known v (sheetSteps t) (inputCount t) p (furthest known v (sheetSteps t) (inputCount t) p)
     sheet-furthest = furthest-made known v (sheetSteps t) (inputCount t) sheet-ordered p l
 
-    pub sheet-most : (q : ℕ) → Made known v (sheetSteps t) (inputCount t) p q → limitAt known v q ≤ limitAt known v (furthest known v (sheetSteps t) (inputCount t) p)
+    pub sheet-most : (q : ℕ) → Made known v (sheetSteps t) (inputCount t) p q
+        → limitAt known v q ≤ limitAt known v (furthest known v (sheetSteps t) (inputCount t) p)
     sheet-most q m = furthest-most known v (sheetSteps t) (inputCount t) sheet-ordered l m

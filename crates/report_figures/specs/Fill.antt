@@ -1,4 +1,5 @@
--- Filling up columns: spaces behind a text of which only the two ends are known. Where the memory ended before the text did, any number of spaces is right.
+-- Filling up columns: spaces behind a text of which only the two ends are known. Where the memory ended before the text
+-- did, any number of spaces is right.
 use Prim.Native.Nat.{ℕ, _+_, _-_, _≤_, _<_, min}
 use mathlib.Core.List.{List, [], _∷_, _++_, append-assoc}
 use mathlib.Core.Path.{_≡_, sym, ap, _∙_}
@@ -17,7 +18,9 @@ use Rattle.model_texts.specs.Figures.{blanks, filled}
 
 -- a text that begins at `from` and ends at `next` is filled with spaces up to n columns
 abbrev pub Fills : ℕ → ℕ → ℕ → List ℕ → List ℕ → ℕ → Type 0
-Fills n from next mid new end = (t xs old : List ℕ) → from ≡ min (length t) (length old) → Printed (t ++ xs) old mid next → Printed (t ++ filled n xs) old new end
+Fills n from next mid new end =
+    (t xs old : List ℕ) → from ≡ min (length t) (length old) → Printed (t ++ xs) old mid next
+    → Printed (t ++ filled n xs) old new end
 
 -- past the end of the memory one text is as good as another
 past : (s a b old new : List ℕ) (n : ℕ) → length old ≤ length s → Printed (s ++ a) old new n → Printed (s ++ b) old new n
@@ -27,7 +30,8 @@ past s a b old new n h p =
       is = p .is ∙ ap (λ (l : List ℕ). over l old) (take-append-le (length old) s a h ∙ sym (take-append-le (length old) s b h));
     }
 
-pub fills-blanks : (n from next : ℕ) (mid new : List ℕ) (end : ℕ) → from ≤ next → Puts (blanks (n - (next - from))) next mid new end → Fills n from next mid new end
+pub fills-blanks : (n from next : ℕ) (mid new : List ℕ) (end : ℕ) → from ≤ next
+    → Puts (blanks (n - (next - from))) next mid new end → Fills n from next mid new end
 unfolding filled
 fills-blanks n from next mid new end l q t xs old e s =
     let r : Printed ((t ++ xs) ++ blanks (n - (next - from))) old new end = q (t ++ xs) old s in
@@ -49,11 +53,13 @@ fills-none n from next mid l h =
 pub fills-never : (n from next : ℕ) (mid : List ℕ) → next < from → Fills n from next mid mid next
 fills-never n from next mid h t xs old e s = absurd (omega (arith, s .behind, length-append t xs))
 
-pub puts-filled : (n : ℕ) {xs old mid new : List ℕ} {at next end : ℕ} → Puts xs at old mid next → Fills n at next mid new end → Puts (filled n xs) at old new end
+pub puts-filled : (n : ℕ) {xs old mid new : List ℕ} {at next end : ℕ} → Puts xs at old mid next
+    → Fills n at next mid new end → Puts (filled n xs) at old new end
 puts-filled n {xs} p f t old s = f t xs old (s .behind) (p t old s)
 
 -- one space more
-pub puts-blank : (k : ℕ) {old mid new : List ℕ} {at next end : ℕ} → Puts (blanks k) at old mid next → Puts (32 ∷ []) next mid new end → Puts (blanks (k + 1)) at old new end
+pub puts-blank : (k : ℕ) {old mid new : List ℕ} {at next end : ℕ} → Puts (blanks k) at old mid next
+    → Puts (32 ∷ []) next mid new end → Puts (blanks (k + 1)) at old new end
 unfolding table
 puts-blank k p q = rw (add-one k) (puts-then p q)
 

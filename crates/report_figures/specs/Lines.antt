@@ -109,7 +109,17 @@ number-examples = refl
 -- the lengths that a header word says, good or not
 pub word-lengths : (w : ℕ) → Lengths (headerOf w .lengths)
 unfolding headerOf
-word-lengths w = record { p0 = omega arith; p1 = omega arith; p2 = omega arith; p3 = omega arith; m0 = omega arith; m1 = omega arith; m2 = omega arith; m3 = omega arith }
+word-lengths w =
+    record {
+      p0 = omega arith;
+      p1 = omega arith;
+      p2 = omega arith;
+      p3 = omega arith;
+      m0 = omega arith;
+      m1 = omega arith;
+      m2 = omega arith;
+      m3 = omega arith;
+    }
 
 -- a loop that prints: after k of n turns
 pub record Putting (text : List ℕ) (n k at : ℕ) (old new : List ℕ) (next : ℕ) : Type 0 where

@@ -20,7 +20,10 @@ use Rattle.model_texts.specs.Number.{isWholeWord, sizeOf, signedText, hexText, 
 use Rattle.model_texts.specs.Figures.{filled, partText, indexText, headingText, sumLine, plainLine, figureText, figuresText}
 use Rattle.shape_words.specs.Lengths.{Lengths, Inside}
 use Rattle.shape_words.specs.Places.{index-inside}
-use Rattle.report_lines.specs.Columns.{inColumns, columnAfter, Piece, piece, piece-up, piece-then, piece-either, piece-if, piece-joined, piece-table, small-piece, two-digits, newline-rest, rest-up, rest-then, rest-either, Rest, Lines, lines, written, lines-up, lines-then, lines-either, lines-joined}
+use Rattle.report_lines.specs.Columns.{inColumns, columnAfter, Piece, piece, piece-up, piece-then, piece-either}
+use Rattle.report_lines.specs.Columns.{piece-if, piece-joined, piece-table, small-piece, two-digits, newline-rest}
+use Rattle.report_lines.specs.Columns.{rest-up, rest-then, rest-either, Rest, Lines, lines, written, lines-up}
+use Rattle.report_lines.specs.Columns.{lines-then, lines-either, lines-joined}
 use Rattle.report_figures.specs.Value.{size-most}
 
 -- a float
@@ -51,15 +54,20 @@ module _ (h : Header) (xs : List Float) (g : Lengths (h .lengths)) where
     part-small : (v : ℕ) → v < 4 → at (index (h .lengths) p) v < 100
     part-small =
         let i : Inside (h .lengths) (index (h .lengths) p) = index-inside (h .lengths) p g l in
-        each (λ v. at (index (h .lengths) p) v < 100) (omega (arith, i .i0, g .m0)) (omega (arith, i .i1, g .m1)) (omega (arith, i .i2, g .m2)) (omega (arith, i .i3, g .m3))
+        each (λ v. at (index (h .lengths) p) v < 100) (omega (arith, i .i0, g .m0)) (omega (arith, i .i1, g .m1))
+        (omega (arith, i .i2, g .m2)) (omega (arith, i .i3, g .m3))
 
     part-piece : (v : ℕ) → v < 4 → Piece 3 (partText (h .vars) (index (h .lengths) p) v)
     unfolding partText bytes
-    part-piece v k = piece-if (ltb v (h .vars)) (piece-then (piece-if (ltb 0 v) (piece 1 (bytes " ") refl)) (two-digits (at (index (h .lengths) p) v) (part-small v k)))
+    part-piece v k =
+        piece-if (ltb v (h .vars)) (piece-then (piece-if (ltb 0 v) (piece 1 (bytes " ") refl))
+        (two-digits (at (index (h .lengths) p) v) (part-small v k)))
 
     index-piece : Piece 14 (indexText h p)
     unfolding indexText bytes
-    index-piece = piece-then (piece 1 (bytes "[") refl) (piece-then (piece-joined (partText (h .vars) (index (h .lengths) p)) 3 4 part-piece) (piece 1 (bytes "]") refl))
+    index-piece =
+        piece-then (piece 1 (bytes "[") refl) (piece-then
+        (piece-joined (partText (h .vars) (index (h .lengths) p)) 3 4 part-piece) (piece 1 (bytes "]") refl))
 
     sum-rest : Rest 72 73 (sumLine h xs p)
     unfolding sumLine bytes

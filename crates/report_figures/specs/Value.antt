@@ -1,4 +1,5 @@
--- The size printed for a whole number is its value: a float that is printed in decimal is, as a number, the sign and the size that are printed.
+-- The size printed for a whole number is its value: a float that is printed in decimal is, as a number, the sign and
+-- the size that are printed.
 use Prim.Native.Nat.{ℕ, zero, suc, _+_, _-_, _*_, _/_, _%_, _^_, _≤_, _<_}
 use mathlib.Core.Bool.{Bool, true, _&&_, _||_}
 use mathlib.Core.List.{_++_}
@@ -66,9 +67,13 @@ module _ (w : ℕ) where
       let in-range = and-left (leb 1023 (exponentOf w) && leb (exponentOf w) 1075) (eqb (digitsOf w % 2 ^ behindPoint w) 0) z in
       let a : 1023 ≤ exponentOf w = leb-true _ _ (and-left (leb 1023 (exponentOf w)) (leb (exponentOf w) 1075) in-range) in
       let b : exponentOf w ≤ 1075 = leb-true _ _ (and-right (leb 1023 (exponentOf w)) (leb (exponentOf w) 1075) in-range) in
-      let r : digitsOf w % 2 ^ behindPoint w ≡ 0 = eqb-true _ _ (and-right (leb 1023 (exponentOf w) && leb (exponentOf w) 1075) (eqb (digitsOf w % 2 ^ behindPoint w) 0) z) in
+      let r : digitsOf w % 2 ^ behindPoint w ≡ 0 =
+      eqb-true _ _ (and-right (leb 1023 (exponentOf w) && leb (exponentOf w) 1075)
+      (eqb (digitsOf w % 2 ^ behindPoint w) 0) z) in
       let n : ℕ = digitsOf w / 2 ^ behindPoint w in
-      let d : digitsOf w ≡ n * 2 ^ behindPoint w = sym (div-add-mod' (digitsOf w) (2 ^ behindPoint w)) ∙ (ap (λ (y : ℕ). n * 2 ^ behindPoint w + y) r ∙ add-zero _) in
+      let d : digitsOf w ≡ n * 2 ^ behindPoint w =
+      sym (div-add-mod' (digitsOf w) (2 ^ behindPoint w))
+      ∙ (ap (λ (y : ℕ). n * 2 ^ behindPoint w + y) r ∙ add-zero _) in
       let k : behindPoint w + (exponentOf w - 1) ≡ 1074 = omega arith in
       let m : digitsOf w * 2 ^ (exponentOf w - 1) ≡ n * 2 ^ 1074 =
       ap (λ (y : ℕ). y * 2 ^ (exponentOf w - 1)) d

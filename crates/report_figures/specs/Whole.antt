@@ -1,4 +1,5 @@
--- Every whole number of size 2 ^ 53 at most is printed in decimal: it is the float of one word, and that word is printed so.
+-- Every whole number of size 2 ^ 53 at most is printed in decimal: it is the float of one word, and that word is
+-- printed so.
 use Prim.Native.Nat.{ℕ, _+_, _-_, _*_, _/_, _%_, _^_, _≤_, _<_}
 use mathlib.Core.Bool.{Bool, true, false, not, cond}
 use mathlib.Core.List.{_++_}
@@ -74,7 +75,9 @@ module _ (n : ℕ) (some : 1 ≤ n) (less : n < 2 ^ 53) where
 
   module _ (s : Bool) where
     exponent : exponentOf (scaledWord s) ≡ 1023 + e
-    exponent = of-both (λ (x : ℕ). exponentOf (x + fields) ≡ 1023 + e) s (omega (arith, e-most, digits-least, digits-less)) (omega (arith, e-most, digits-least, digits-less))
+    exponent =
+        of-both (λ (x : ℕ). exponentOf (x + fields) ≡ 1023 + e) s (omega (arith, e-most, digits-least, digits-less))
+        (omega (arith, e-most, digits-least, digits-less))
 
     digits-are : digitsOf (scaledWord s) ≡ digits
     digits-are = of-both (λ (x : ℕ). digitsOf (x + fields) ≡ digits) s (omega (arith, digits-least, digits-less)) (omega (arith, digits-least, digits-less))
@@ -99,7 +102,11 @@ module _ (n : ℕ) (some : 1 ≤ n) (less : n < 2 ^ 53) where
     is-scaled =
         let r : digitsOf (scaledWord s) % 2 ^ behindPoint (scaledWord s) ≡ 0 =
         ap (λ (y : ℕ). y % 2 ^ behindPoint (scaledWord s)) digits-are ∙ (ap (λ (y : ℕ). digits % 2 ^ y) behind ∙ mul-mod-left n (2 ^ (52 - e))) in
-        rw (le-leb 1023 (exponentOf (scaledWord s)) (omega (arith, exponent)), le-leb (exponentOf (scaledWord s)) 1075 (omega (arith, exponent, e-most)), eq-eqb _ _ r)
+        rw (
+          le-leb 1023 (exponentOf (scaledWord s)) (omega (arith, exponent)),
+          le-leb (exponentOf (scaledWord s)) 1075 (omega (arith, exponent, e-most)),
+          eq-eqb _ _ r,
+        )
 
     scaled-says : sizeOf (scaledWord s) ≡ n
     unfolding sizeOf

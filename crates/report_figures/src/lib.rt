@@ -1,3 +1,4 @@
-// The figures of a report: index and coefficient of each stored place, and for one variable the running sum and the tail.
+// The figures of a report: index and coefficient of each stored place, and for one variable the running sum and the
+// tail.
 pub mod line;
 pub mod number;

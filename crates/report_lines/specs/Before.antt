@@ -1,5 +1,5 @@
--- Every limit is printed, and before any figure: the line of each place, what limits cut off it, what decides the limits of
--- the answer and the verdict all stand in what is said of limits, which knows no coefficient.
+-- Every limit is printed, and before any figure: the line of each place, what limits cut off it, what decides the
+-- limits of the answer and the verdict all stand in what is said of limits, which knows no coefficient.
 use Prim.Native.Nat.{ℕ, zero, suc, _-_, _<_}
 use mathlib.Core.List.{List, [], _∷_, _++_, append-assoc, append-nil}
 use mathlib.Core.Path.{_≡_, refl, sym, ap, _∙_}
@@ -20,14 +20,21 @@ pub record Within (part whole : List ℕ) : Type 0 where
 
 pub within-behind : {part whole : List ℕ} (front : List ℕ) → Within part whole → Within part (front ++ whole)
 within-behind {part} front w =
-    record { before = front ++ w .before; after = w .after; is = ap (λ (l : List ℕ). front ++ l) (w .is) ∙ sym (append-assoc front (w .before) (part ++ w .after)) }
+    record {
+      before = front ++ w .before;
+      after = w .after;
+      is = ap (λ (l : List ℕ). front ++ l) (w .is)
+          ∙ sym (append-assoc front (w .before) (part ++ w .after));
+    }
 
 pub within-before : {part whole : List ℕ} (back : List ℕ) → Within part whole → Within part (whole ++ back)
 within-before {part} back w =
     record {
       before = w .before;
       after = w .after ++ back;
-      is = ap (λ (l : List ℕ). l ++ back) (w .is) ∙ (append-assoc (w .before) (part ++ w .after) back ∙ ap (λ (l : List ℕ). w .before ++ l) (append-assoc part (w .after) back));
+      is =
+          ap (λ (l : List ℕ). l ++ back) (w .is) ∙ (append-assoc (w .before) (part ++ w .after) back
+          ∙ ap (λ (l : List ℕ). w .before ++ l) (append-assoc part (w .after) back));
     }
 
 -- each of the texts that are joined

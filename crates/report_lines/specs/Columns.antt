@@ -45,7 +45,8 @@ pub columns-append : (c : ℕ) (s t : List ℕ) → inColumns c s ≡ true → i
 unfolding inColumns columnAfter
 columns-append c [] t p q = q
 columns-append c (b ∷ s) t p q =
-    rw (and-left (leb (onward c b) 80) (inColumns (onward c b) s) p) (columns-append (onward c b) s t (and-right (leb (onward c b) 80) (inColumns (onward c b) s) p) q)
+    rw (and-left (leb (onward c b) 80) (inColumns (onward c b) s) p)
+    (columns-append (onward c b) s t (and-right (leb (onward c b) 80) (inColumns (onward c b) s) p) q)
 
 -- a text that keeps to them from a later column on does from an earlier one
 pub columns-earlier : (t : List ℕ) (c d : ℕ) → c ≤ d → inColumns d t ≡ true → inColumns c t ≡ true
@@ -121,7 +122,9 @@ last-piece n = record { most = omega arith; plain = rw (ne-eqb (lastDigit n) 10 
 digits-piece : (k n : ℕ) → Piece k (digits k n)
 unfolding digits
 digits-piece zero n = piece 0 [] refl
-digits-piece (suc k) n = piece-either (ltb n 10) (piece-up (last-piece n) (omega arith)) (piece-up (piece-then (digits-piece k (n / 10)) (last-piece n)) (omega arith))
+digits-piece (suc k) n =
+    piece-either (ltb n 10) (piece-up (last-piece n) (omega arith))
+    (piece-up (piece-then (digits-piece k (n / 10)) (last-piece n)) (omega arith))
 
 pub number-piece : (n : ℕ) → Piece 20 (decimal n)
 unfolding decimal
@@ -209,7 +212,12 @@ lines l r = record { most = r .most; keeps = r .keeps 0 (omega arith); ends = r 
 
 -- as one can count
 pub written : (n : ℕ) (t : List ℕ) → (leb (length t) n && inColumns 0 t) ≡ true → columnAfter 0 t ≡ 0 → Lines n t
-written n t e z = record { most = leb-true _ _ (and-left (leb (length t) n) (inColumns 0 t) e); keeps = and-right (leb (length t) n) (inColumns 0 t) e; ends = z }
+written n t e z =
+    record {
+      most = leb-true _ _ (and-left (leb (length t) n) (inColumns 0 t) e);
+      keeps = and-right (leb (length t) n) (inColumns 0 t) e;
+      ends = z;
+    }
 
 pub lines-up : {a b : ℕ} {t : List ℕ} → Lines a t → a ≤ b → Lines b t
 lines-up p l = record { most = omega (arith, p .most); keeps = p .keeps; ends = p .ends }

@@ -1,6 +1,7 @@
--- What is said of limits keeps to 80 columns and is under 57,000 bytes long, for 64 places whose headers keep the rules.
--- The widest line of a place is that of a `taylor_expansion_of_coeff` in four variables, whose n has two digits since it is
--- below a limit.
+-- What is said of limits keeps to 80 columns and is under 57,000 bytes long, for 64 places whose headers keep the
+-- rules.
+-- The widest line of a place is that of a `taylor_expansion_of_coeff` in four variables, whose n has two digits since
+-- it is below a limit.
 use Prim.Native.Nat.{ℕ, zero, suc, _+_, _-_, _≤_, _<_}
 use mathlib.Core.Bool.{Bool, true, false, _&&_, _||_, cond}
 use mathlib.Core.List.{List, _++_}
@@ -23,7 +24,8 @@ use Rattle.model_texts.specs.Full.{many, endless, fullAt, fulls}
 use Rattle.model_texts.specs.Whole.{passes, firstOut, isWhole}
 use Rattle.model_texts.specs.Report.{pairText, shapeText, kindNames, kindText, fieldsText, stepText, whatText, placeKindText, variableText}
 use Rattle.model_texts.specs.Report.{fallsText, fillsText, needText, loweredText, breakText, needsFront, fillsLine, fallsLine, needsLine, cutText, cutsText}
-use Rattle.model_texts.specs.Report.{placeText, source, isLowered, limitText, deciderText, limitHas, furtherText, endFront, endLine, endText, verdictText, limitsWith, limitsText}
+use Rattle.model_texts.specs.Report.{placeText, source, isLowered, limitText, deciderText, limitHas, furtherText}
+use Rattle.model_texts.specs.Report.{endFront, endLine, endText, verdictText, limitsWith, limitsText}
 use Rattle.shape_words.specs.Rules.{Regular, ruled-at}
 use Rattle.recipes_kinds.specs.Known.{Known, small-kind, small-variable}
 use Rattle.report_trace.specs.Ends.{Ordered}
@@ -31,7 +33,11 @@ use Rattle.report_trace.specs.Furthest.{furthest-before}
 use Rattle.report_trace.specs.Counted.{or-false}
 use Rattle.report_trace.specs.Small.{a-small, b-small, cut-small, follow-small, decider-small, lowerer-small}
 use Rattle.report_lines.specs.Before.{lineOne, lineTwo}
-use Rattle.report_lines.specs.Columns.{inColumns, columnAfter, Piece, piece, piece-up, piece-then, piece-either, piece-when, piece-if, piece-joined, piece-named, small-piece, one-digit, two-digits, tell-two, Rest, newline-rest, rest-up, rest-then, rest-broken, rest-shift, Lines, lines, written, lines-up, lines-then, lines-either, lines-if, lines-joined}
+use Rattle.report_lines.specs.Columns.{inColumns, columnAfter, Piece, piece, piece-up, piece-then, piece-either}
+use Rattle.report_lines.specs.Columns.{piece-when, piece-if, piece-joined, piece-named, small-piece, one-digit}
+use Rattle.report_lines.specs.Columns.{two-digits, tell-two, Rest, newline-rest, rest-up, rest-then, rest-broken}
+use Rattle.report_lines.specs.Columns.{rest-shift, Lines, lines, written, lines-up, lines-then, lines-either}
+use Rattle.report_lines.specs.Columns.{lines-if, lines-joined}
 
 -- ---- what a step is: 35 columns at most
 
@@ -93,7 +99,9 @@ step-piece w s =
     let f : stepColumns k 2 ≡ stepColumns 8 2 = ap (λ (j : ℕ). stepColumns j 2) e in
     piece-up (piece-then (name-piece k) (fields-piece w 2 (two-digits (stepOf w .n) (s e)))) (omega (arith, f, widest)))
     (λ t.
-    let f = leb-true (stepColumns k 10) 35 (or-right (eqb k 8) (leb (stepColumns k 10) 35) (every-at roomy 16 0 k kinds-roomy (omega arith) (omega (arith, small-kind w))) t) in
+    let f =
+    leb-true (stepColumns k 10) 35 (or-right (eqb k 8) (leb (stepColumns k 10) 35)
+    (every-at roomy 16 0 k kinds-roomy (omega arith) (omega (arith, small-kind w))) t) in
     piece-up (piece-then (name-piece k) (fields-piece w 10 (n-ten w))) f)
 
 what-piece : (ss : List ℕ) (inputs p : ℕ) → (inputs ≤ p → Short (stepWord ss inputs p)) → Piece 35 (whatText ss inputs p)
@@ -111,7 +119,8 @@ module _ {h : Header} (r : Regular h) where
   pair-piece v l =
       let g = ruled-at (r .rules) v l in
       piece-if (ltb v (h .vars))
-      (piece-then (tell-two " " (limit h v) (piece 1 (bytes " ") refl) (omega (arith, g .most))) (tell-two "/" (len h v) (piece 1 (bytes "/") refl) (omega (arith, g .most, g .fit))))
+      (piece-then (tell-two " " (limit h v) (piece 1 (bytes " ") refl) (omega (arith, g .most)))
+      (tell-two "/" (len h v) (piece 1 (bytes "/") refl) (omega (arith, g .most, g .fit))))
 
   shape-rest : Rest 33 34 (shapeText h)
   unfolding shapeText bytes
@@ -291,7 +300,9 @@ module _ (known : List Header) (ss : List ℕ) (inputs : ℕ) (g : Known known) 
       does-rest = rest-then decider-piece (rest-then (piece 5 (bytes " does") refl) further-rest)
 
       end-rest : (b : Bool) → b ≡ lowered
-          → Rest 73 124 (endFront known ss inputs p v ++ (breakText b ++ (deciderText known ss inputs p v ++ (bytes " does" ++ (furtherText known ss inputs p v ++ bytes "\n")))))
+          → Rest 73 124 (endFront known ss inputs p v
+          ++ (breakText b ++ (deciderText known ss inputs p v
+          ++ (bytes " does" ++ (furtherText known ss inputs p v ++ bytes "\n")))))
       unfolding bytes
       end-rest true e =
           let f : Piece 72 (endFront known ss inputs p v) = rw (sym e) at front-piece in
@@ -320,7 +331,8 @@ module _ (known : List Header) (ss : List ℕ) (inputs : ℕ) (g : Known known) 
       (lines-up
       (lines (omega arith)
       (rest-then
-      (tell-two "*** CUT: what lies past the limits of place " q (piece 44 (bytes "*** CUT: what lies past the limits of place ") refl) (omega (arith, leb-false 64 q t)))
+      (tell-two "*** CUT: what lies past the limits of place " q
+      (piece 44 (bytes "*** CUT: what lies past the limits of place ") refl) (omega (arith, leb-false 64 q t)))
       (rest-then (piece 17 (bytes " is left out. ***") refl) newline-rest)))
       (omega arith)))
 
@@ -329,7 +341,8 @@ module _ (known : List Header) (ss : List ℕ) (inputs : ℕ) (g : Known known) 
   heads = (written 80 lineOne refl refl, written 80 lineTwo refl refl)
 
   -- all of it
-  pub limits-lines : (n : ℕ) → 1 ≤ n → n ≤ 64 → Ordered ss inputs n → ((p : ℕ) → inputs ≤ p → p < n → Short (stepWord ss inputs p)) → Lines 57000 (limitsText known ss inputs n)
+  pub limits-lines : (n : ℕ) → 1 ≤ n → n ≤ 64 → Ordered ss inputs n
+      → ((p : ℕ) → inputs ≤ p → p < n → Short (stepWord ss inputs p)) → Lines 57000 (limitsText known ss inputs n)
   unfolding limitsText limitsWith
   limits-lines n s f o short =
       let fs = fulls known ss inputs n in
@@ -338,5 +351,6 @@ module _ (known : List Header) (ss : List ℕ) (inputs : ℕ) (g : Known known) 
       (lines-then (heads .1)
       (lines-then (lines-joined (placeText known ss inputs) 79 n (λ p l. place-lines p (omega arith) (λ i. short p i l)))
       (lines-then (lines-joined (cutsText known ss inputs fs) 796 n (λ p l. cuts-lines fs p (omega arith)))
-      (lines-then (lines-joined (endText known ss inputs (n - 1)) 124 4 (λ v k. end-lines (n - 1) v (omega arith) k o (omega arith))) (verdict-lines fs (n - 1)))))))
+      (lines-then (lines-joined (endText known ss inputs (n - 1)) 124 4
+      (λ v k. end-lines (n - 1) v (omega arith) k o (omega arith))) (verdict-lines fs (n - 1)))))))
       (omega arith)

@@ -1,4 +1,5 @@
--- Printing one text after the other into lent memory, as far as it reaches. What was printed so far is a text of its own; each function appends to it.
+-- Printing one text after the other into lent memory, as far as it reaches. What was printed so far is a text of its
+-- own; each function appends to it.
 use Prim.Native.Nat.{ℕ, zero, suc, _+_, _-_, _≤_, _<_, min}
 use mathlib.Core.Bool.{Bool, true, false, cond}
 use mathlib.Core.List.{List, [], _∷_, _++_, append-assoc, append-nil}
@@ -52,7 +53,8 @@ taken t xs n m e =
     let f : take m xs ≡ take (n - length t) xs =
     decide (leb (n - length t) (length xs))
     (λ b. let h : n - length t ≤ length xs = leb-true _ _ b in let g : m ≡ n - length t = omega arith in ap (λ (k : ℕ). take k xs) g)
-    (λ b. let h : length xs < n - length t = leb-false _ _ b in let g : m ≡ length xs = omega arith in take-all m xs (omega arith) ∙ sym (take-all (n - length t) xs (omega arith))) in
+    (λ b. let h : length xs < n - length t = leb-false _ _ b in let g : m ≡ length xs = omega arith in
+    take-all m xs (omega arith) ∙ sym (take-all (n - length t) xs (omega arith))) in
     ap (λ (l : List ℕ). take n t ++ l) f ∙ sym (take-both t xs n)
 
 -- as much of xs as there is room for, put at its place
@@ -64,10 +66,15 @@ module _ (xs : List ℕ) {mid new : List ℕ} {at next : ℕ} where
       let front : take at mid ≡ take (length old) t =
       ap (take at) (s .is) ∙ take-over (take (length old) t) old at (length-take (length old) t ∙ omega (arith, s .behind)) in
       let both : take at mid ++ take (min (length xs) (length mid - at)) xs ≡ take (length old) (t ++ xs) =
-      ap (λ (z : List ℕ). z ++ take (min (length xs) (length mid - at)) xs) front ∙ taken t xs (length old) (min (length xs) (length mid - at)) (omega (arith, s .behind)) in
+      ap (λ (z : List ℕ). z ++ take (min (length xs) (length mid - at)) xs) front
+      ∙ taken t xs (length old) (min (length xs) (length mid - at)) (omega (arith, s .behind)) in
       record {
         behind = omega (arith, s .behind, p .behind, n, l, length-append t xs);
-        is = p .is ∙ (ap (λ (z : List ℕ). over z mid) both ∙ (ap (over (take (length old) (t ++ xs))) (s .is) ∙ over-over (take (length old) (t ++ xs)) (take (length old) t) old (simp (length-take, length-append) (omega arith))));
+        is =
+            p .is ∙ (ap (λ (z : List ℕ). over z mid) both
+            ∙ (ap (over (take (length old) (t ++ xs))) (s .is)
+            ∙ over-over (take (length old) (t ++ xs)) (take (length old) t) old
+            (simp (length-take, length-append) (omega arith))));
       }
 
   pub puts-clipped : at ≤ length mid → Put at (take (min (length xs) (length mid - at)) xs) mid new next → Puts xs at mid new next
@@ -82,7 +89,8 @@ pub put-taken : {xs old new : List ℕ} {n : ℕ} → Put 0 xs old new n → tak
 put-taken {xs} {old} {new} {n} p = let e = put-front p in ap (take n) (e .1) ∙ take-over xs old n (sym (e .0))
 
 -- one more of f 0, f 1, ..
-pub puts-joined : (f : ℕ → List ℕ) (k : ℕ) {old mid new : List ℕ} {at next end : ℕ} → Puts (joined f k) at old mid next → Puts (f k) next mid new end → Puts (joined f (k + 1)) at old new end
+pub puts-joined : (f : ℕ → List ℕ) (k : ℕ) {old mid new : List ℕ} {at next end : ℕ} → Puts (joined f k) at old mid next
+    → Puts (f k) next mid new end → Puts (joined f (k + 1)) at old new end
 unfolding joined
 puts-joined f k p q = rw (add-one k) (puts-then p q)
 

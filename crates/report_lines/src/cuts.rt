@@ -1,4 +1,5 @@
-// A line for each input that fills its limit, each limit that is below an operand's, and each full length that passes its limit.
+// A line for each input that fills its limit, each limit that is below an operand's, and each full length that passes
+// its limit.
 use crate::put::put;
 use crate::put::tell;
 use crate::why::put_break;
@@ -125,7 +126,9 @@ fn put_needs(
     to: &mut [u8],
 ) -> usize
     requires { ⌜ (p < 64) × (v < 4) ⌝ }
-    ensures { λ r. ⌜ Puts (needsLine (map headerOf (now (known .entry))) (now (steps .entry)) inputs (now (full .entry)) p v) at (now (to .entry)) (now (to .exit)) r ⌝ }
+    ensures { λ r.
+        ⌜ Puts (needsLine (map headerOf (now (known .entry))) (now (steps .entry)) inputs (now (full .entry)) p v) at
+        (now (to .entry)) (now (to .exit)) r ⌝ }
 {
     if passes(known, full, p, v) {
         let lowered = limit_at(known, v, p) < source_of(known, steps, inputs, p, v);
@@ -147,7 +150,9 @@ fn put_cut(
     to: &mut [u8],
 ) -> usize
     requires { ⌜ (p < 64) × (v < 4) ⌝ }
-    ensures { λ r. ⌜ Puts (cutText (map headerOf (now (known .entry))) (now (steps .entry)) inputs (now (full .entry)) p v) at (now (to .entry)) (now (to .exit)) r ⌝ }
+    ensures { λ r.
+        ⌜ Puts (cutText (map headerOf (now (known .entry))) (now (steps .entry)) inputs (now (full .entry)) p v) at
+        (now (to .entry)) (now (to .exit)) r ⌝ }
 {
     if p < inputs {
         return put_fills(known, p, v, at, to);
@@ -167,7 +172,9 @@ fn put_cuts_at(
     to: &mut [u8],
 ) -> usize
     requires { ⌜ p < 64 ⌝ }
-    ensures { λ r. ⌜ Puts (cutsText (map headerOf (now (known .entry))) (now (steps .entry)) inputs (now (full .entry)) p) at (now (to .entry)) (now (to .exit)) r ⌝ }
+    ensures { λ r.
+        ⌜ Puts (cutsText (map headerOf (now (known .entry))) (now (steps .entry)) inputs (now (full .entry)) p) at
+        (now (to .entry)) (now (to .exit)) r ⌝ }
 {
     let mut next = at;
     let mut v = 0usize;
@@ -189,7 +196,9 @@ pub fn put_cuts(
     to: &mut [u8],
 ) -> usize
     requires { ⌜ n ≤ 64 ⌝ }
-    ensures { λ r. ⌜ Puts (joined (cutsText (map headerOf (now (known .entry))) (now (steps .entry)) inputs (now (full .entry))) n) at (now (to .entry)) (now (to .exit)) r ⌝ }
+    ensures { λ r.
+        ⌜ Puts (joined (cutsText (map headerOf (now (known .entry))) (now (steps .entry)) inputs (now (full .entry))) n)
+        at (now (to .entry)) (now (to .exit)) r ⌝ }
 {
     let mut next = at;
     let mut p = 0usize;

@@ -126,7 +126,9 @@ pub fn put_verdict(
     to: &mut [u8],
 ) -> usize
     requires { ⌜ p < 64 ⌝ }
-    ensures { λ r. ⌜ Puts (verdictText (map headerOf (now (known .entry))) (now (steps .entry)) inputs (now (full .entry)) p) at (now (to .entry)) (now (to .exit)) r ⌝ }
+    ensures { λ r.
+        ⌜ Puts (verdictText (map headerOf (now (known .entry))) (now (steps .entry)) inputs (now (full .entry)) p) at
+        (now (to .entry)) (now (to .exit)) r ⌝ }
 {
     let first = first_out(known, steps, inputs, full, p);
     if 64 <= first {

@@ -28,7 +28,9 @@ fn put_limits_with(
     to: &mut [u8],
 ) -> usize
     requires { ⌜ (1 ≤ n) × (n ≤ 64) ⌝ }
-    ensures { λ r. ⌜ Puts (limitsWith (map headerOf (now (known .entry))) (now (steps .entry)) inputs (now (full .entry)) n) at (now (to .entry)) (now (to .exit)) r ⌝ }
+    ensures { λ r.
+        ⌜ Puts (limitsWith (map headerOf (now (known .entry))) (now (steps .entry)) inputs (now (full .entry)) n) at
+        (now (to .entry)) (now (to .exit)) r ⌝ }
 {
     let a = put(
         b"Each place: what it is, its number of variables, and of each variable the\n",

@@ -1,4 +1,5 @@
-// Printing one text after the other into lent memory, as far as it reaches. Each function appends at a place and answers the place behind.
+// Printing one text after the other into lent memory, as far as it reaches. Each function appends at a place and
+// answers the place behind.
 use shape::limits::least;
 use sheet_text::print::put_bytes;
 use sheet_text::print::put_decimal;

@@ -1,5 +1,5 @@
--- Tracing a limit back ends: the place named for a limit is an input, or a step that is no shift and none of whose operands
--- has that limit.
+-- Tracing a limit back ends: the place named for a limit is an input, or a step that is no shift and none of whose
+-- operands has that limit.
 use Prim.Native.Nat.{ℕ, zero, suc, _+_, _≤_, _<_}
 use mathlib.Core.Bool.{Bool, true, false, _&&_}
 use mathlib.Core.List.{List}
@@ -45,7 +45,9 @@ module _ (known : List Header) (v : ℕ) (ss : List ℕ) (inputs : ℕ) where
   -- an input, or a step that is no shift in the variable and none of whose operands has the variable and the limit
   pub data Ends (p : ℕ) : Type 0 where
     input : p < inputs → Ends p
-    step : shiftsIn v (stepWord ss inputs p) ≡ false → ((x : ℕ) → Operand (stepWord ss inputs p) x → has known v x ≡ true → limitAt known v x ≡ limitAt known v p → ⊥) → Ends p
+    step : shiftsIn v (stepWord ss inputs p) ≡ false
+        → ((x : ℕ) → Operand (stepWord ss inputs p) x → has known v x ≡ true
+        → limitAt known v x ≡ limitAt known v p → ⊥) → Ends p
 
   -- one step back goes to an operand, or nowhere
   data Followed (p : ℕ) : Type 0 where

@@ -1,4 +1,5 @@
--- The place that is named as going furthest is one that the answer is made from, and none that it is made from goes further.
+-- The place that is named as going furthest is one that the answer is made from, and none that it is made from goes
+-- further.
 use Prim.Native.Nat.{ℕ, zero, suc, _+_, _≤_, _<_}
 use mathlib.Core.Bool.{Bool, true, false, _&&_}
 use mathlib.Core.List.{List, []}
@@ -25,7 +26,8 @@ module _ (known : List Header) (v : ℕ) where
 
   farther-first : (counts : Bool) (x y : ℕ) → counts ≡ true → limitAt known v x ≤ limitAt known v (farther known v counts x y)
   farther-first counts x y e =
-      rw e (decide (leb (limitAt known v y) (limitAt known v x)) (λ t. rw t (omega arith)) (λ t. let l = leb-false (limitAt known v y) (limitAt known v x) t in rw t (omega arith)))
+      rw e (decide (leb (limitAt known v y) (limitAt known v x)) (λ t. rw t (omega arith))
+      (λ t. let l = leb-false (limitAt known v y) (limitAt known v x) t in rw t (omega arith)))
 
   -- it is one of the two
   farther-either : (P : ℕ → Type 0) (counts : Bool) (x y : ℕ) → (counts ≡ true → P x) → P y → P (farther known v counts x y)
@@ -74,7 +76,8 @@ module _ (known : List Header) (v : ℕ) where
     module _ {m : ℕ} (o : Ordered ss inputs m) where
       -- ---- it is made from it
 
-      made-through : (p x : ℕ) (used : Bool) → inputs ≤ p → p < m → Operand (stepWord ss inputs p) x → counts p used x ≡ true → Made x (furthest known v ss inputs x) → Made p (found p x)
+      made-through : (p x : ℕ) (used : Bool) → inputs ≤ p → p < m → Operand (stepWord ss inputs p) x
+          → counts p used x ≡ true → Made x (furthest known v ss inputs x) → Made p (found p x)
       made-through p x used i l w c h =
           let k = counts-is p used x c in
           rw (found-is p x (o .before p x i l w)) (through i (k .0) w (k .1 .1) h)
@@ -92,8 +95,10 @@ module _ (known : List Header) (v : ℕ) where
           let one : (x : ℕ) (used : Bool) → Operand w x → counts p used x ≡ true → Made p (found p x) =
           λ x used q c. let d = o .before p x i l q in made-through p x used i l q c (made n x (omega arith) (omega arith)) in
           rw (furthest-step p i)
-          (farther-either (Made p) (counts p (usesIn w .a) a) (found p a) (fromSecond p) (λ c. one a (usesIn w .a) (first (counts-is p (usesIn w .a) a c .1 .0) refl) c)
-          (farther-either (Made p) (counts p (usesIn w .b) b) (found p b) p (λ c. one b (usesIn w .b) (second (counts-is p (usesIn w .b) b c .1 .0) refl) c) itself)))
+          (farther-either (Made p) (counts p (usesIn w .a) a) (found p a) (fromSecond p)
+          (λ c. one a (usesIn w .a) (first (counts-is p (usesIn w .a) a c .1 .0) refl) c)
+          (farther-either (Made p) (counts p (usesIn w .b) b) (found p b) p
+          (λ c. one b (usesIn w .b) (second (counts-is p (usesIn w .b) b c .1 .0) refl) c) itself)))
 
       pub furthest-made : (p : ℕ) → p < m → Made p (furthest known v ss inputs p)
       furthest-made p l = made (suc p) p (omega arith) l
@@ -114,7 +119,11 @@ module _ (known : List Header) (v : ℕ) where
           (λ t. rw (furthest-input p (ltb-true _ _ t)) (omega arith))
           (λ t. let w = stepWord ss inputs p in
           rw (furthest-step p (ltb-false _ _ t))
-          (omega (arith, farther-second (counts p (usesIn w .b) (stepOf w .b)) (found p (stepOf w .b)) p, farther-second (counts p (usesIn w .a) (stepOf w .a)) (found p (stepOf w .a)) (fromSecond p))))
+          (omega (
+            arith,
+            farther-second (counts p (usesIn w .b) (stepOf w .b)) (found p (stepOf w .b)) p,
+            farther-second (counts p (usesIn w .a) (stepOf w .a)) (found p (stepOf w .a)) (fromSecond p),
+          )))
 
       operand-most : (p x : ℕ) → inputs ≤ p → p < m → has known v p ≡ true → Operand (stepWord ss inputs p) x → has known v x ≡ true
           → limitAt known v (furthest known v ss inputs x) ≤ limitAt known v (furthest known v ss inputs p)
@@ -130,7 +139,11 @@ module _ (known : List Header) (v : ℕ) where
           let c : counts p (usesIn w .b) (stepOf w .b) ≡ true = rw (h, u, rw e at k) in
           let f : found p (stepOf w .b) ≡ furthest known v ss inputs x = ap (found p) (sym e) ∙ found-is p x d in
           rw (furthest-step p i, ← f)
-          (omega (arith, farther-first (counts p (usesIn w .b) (stepOf w .b)) (found p (stepOf w .b)) p c, farther-second (counts p (usesIn w .a) (stepOf w .a)) (found p (stepOf w .a)) (fromSecond p)))
+          (omega (
+            arith,
+            farther-first (counts p (usesIn w .b) (stepOf w .b)) (found p (stepOf w .b)) p c,
+            farther-second (counts p (usesIn w .a) (stepOf w .a)) (found p (stepOf w .a)) (fromSecond p),
+          ))
 
       pub furthest-most : {p q : ℕ} → p < m → Made p q → limitAt known v q ≤ limitAt known v (furthest known v ss inputs p)
       furthest-most {p} l itself = own-most p

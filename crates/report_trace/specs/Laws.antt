@@ -1,4 +1,5 @@
--- What the report says of a limit that falls is so: it is told exactly where a limit is below an operand's, and not by a shift.
+-- What the report says of a limit that falls is so: it is told exactly where a limit is below an operand's, and not by
+-- a shift.
 use Prim.Native.Nat.{ℕ, _<_}
 use mathlib.Core.Bool.{Bool, true, false, _&&_, _||_, not, cond}
 use mathlib.Core.List.{List}

@@ -1,5 +1,6 @@
--- What shifts take off a limit, on the way back to the place that decides it: the limit of that place is the limit and all
--- that they took off; and the shift that is named for it is one that lowers the limit, by no more than was taken off.
+-- What shifts take off a limit, on the way back to the place that decides it: the limit of that place is the limit and
+-- all that they took off; and the shift that is named for it is one that lowers the limit, by no more than was taken
+-- off.
 use Prim.Native.Nat.{ℕ, zero, suc, _+_, _≤_, _<_}
 use mathlib.Core.Bool.{Bool, true, false, _&&_, not, cond}
 use mathlib.Core.List.{List}
@@ -66,12 +67,16 @@ module _ (known : List Header) (v : ℕ) (ss : List ℕ) (inputs : ℕ) where
       decide a
       (λ t.
       rw (i, z, t)
-      (stay p (less-none p z) (eqb-true _ _ (and-right (usesIn w .a && has known v (stepOf w .a)) (eqb (limitAt known v (stepOf w .a)) (limitAt known v p)) t))))
+      (stay p (less-none p z)
+      (eqb-true _ _ (and-right (usesIn w .a && has known v (stepOf w .a))
+      (eqb (limitAt known v (stepOf w .a)) (limitAt known v p)) t))))
       (λ t.
       decide b
       (λ r.
       rw (i, z, t, r)
-      (stay p (less-none p z) (eqb-true _ _ (and-right (usesIn w .b && has known v (stepOf w .b)) (eqb (limitAt known v (stepOf w .b)) (limitAt known v p)) r))))
+      (stay p (less-none p z)
+      (eqb-true _ _ (and-right (usesIn w .b && has known v (stepOf w .b))
+      (eqb (limitAt known v (stepOf w .b)) (limitAt known v p)) r))))
       (λ r. rw (i, z, t, r) (stay p (less-none p z) refl)))))
 
   module _ {m : ℕ} (o : Ordered ss inputs m) (s : Lowers m) where
@@ -111,6 +116,7 @@ module _ (known : List Header) (v : ℕ) (ss : List ℕ) (inputs : ℕ) where
       let r = sought n (suc k) q i in
       rw e (r .0, omega (arith, r .1)))
 
-  pub lowerer-lowers : (p : ℕ) → 0 < lessOn 64 p → (lowering v ss inputs (lowerer known v ss inputs p) ≡ true) × (shift (lowerer known v ss inputs p) ≤ lessOn 64 p)
+  pub lowerer-lowers : (p : ℕ) → 0 < lessOn 64 p → (lowering v ss inputs (lowerer known v ss inputs p) ≡ true)
+      × (shift (lowerer known v ss inputs p) ≤ lessOn 64 p)
   unfolding lowerer
   lowerer-lowers p h = sought 64 0 p h

@@ -32,7 +32,8 @@ module _ (known : List Header) (v : ℕ) where
     follow-small p l =
         let w = stepWord ss inputs p in
         of-both In64 (ltb p inputs) l
-        (of-both In64 (shiftsIn v w || equals known v p (usesIn w .a) (stepOf w .a)) (a-small w) (of-both In64 (equals known v p (usesIn w .b) (stepOf w .b)) (b-small w) l))
+        (of-both In64 (shiftsIn v w || equals known v p (usesIn w .a) (stepOf w .a)) (a-small w)
+        (of-both In64 (equals known v p (usesIn w .b) (stepOf w .b)) (b-small w) l))
 
     -- n steps back, each of which stays among them
     walk-small : (f : ℕ → ℕ) → ((p : ℕ) → p < 64 → f p < 64) → (n k p : ℕ) → p < 64 → walk (λ j. f) n k p < 64

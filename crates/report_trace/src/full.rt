@@ -12,7 +12,8 @@ ghost use mathlib.Core.List.{map};
 ghost use Prim.Native.Nat.{_*_, _<_, _≤_};
 ghost use lib.ListN.{take};
 ghost use Rattle.model.specs.Word.{headerOf};
-ghost use Rattle.model_texts.specs.Full.{many, counted, sumFull, productFull, quotientFull, seriesFull, powerFull, shiftFull, substitutionFull, fullAfter, fullAt, stepFull, fullNext, fulls};
+ghost use Rattle.model_texts.specs.Full.{many, counted, sumFull, productFull, quotientFull, seriesFull, powerFull};
+ghost use Rattle.model_texts.specs.Full.{shiftFull, substitutionFull, fullAfter, fullAt, stepFull, fullNext, fulls};
 
 // Stands for itself and all that is longer: 2^32.
 pub const MANY: usize = 4294967296;

@@ -72,7 +72,8 @@ fn leaves_out(known: &[u64], full: &[usize], p: usize) -> bool
     a | (passes(known, full, p, 2) | passes(known, full, p, 3))
 }
 
-// The first place that leaves terms out, of the next place and all that it is made of; `found`: those of the places before it.
+// The first place that leaves terms out, of the next place and all that it is made of; `found`: those of the places
+// before it.
 fn first_next(known: &[u64], steps: &[u64], inputs: usize, full: &[usize], found: &[usize]) -> usize
     requires { ⌜ length (now found) < 64 ⌝ }
     ensures { λ r. ⌜ r ≡ firstNext (map headerOf (now (known .entry))) (now (steps .entry)) inputs (now (full .entry)) (now (found .entry)) ⌝ }

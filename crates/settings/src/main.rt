@@ -1,6 +1,7 @@
 // The program `settings` (document 02, W8): a settings store in one file.
-// No contract can say what is read, written or printed. What a file, an argument and a line mean is said in `settings_text`, what a call does in
-// `settings_store`; here are only the steps between them. A change is made under a lock file, written beside the store and renamed into its place.
+// No contract can say what is read, written or printed. What a file, an argument and a line mean is said in
+// `settings_text`, what a call does in `settings_store`; here are only the steps between them. A change is made under a
+// lock file, written beside the store and renamed into its place.
 use libc::STDOUT_FILENO;
 use model_settings::Content;
 use model_settings::Settled;

@@ -1,4 +1,5 @@
--- The chance at the face: bits that are kept are a float's own, a float that is handed over comes back, and a NaN is out of range.
+-- The chance at the face: bits that are kept are a float's own, a float that is handed over comes back, and a NaN is
+-- out of range.
 use Prim.Native.Nat.{ℕ, _/_, _%_, _≤_, _<_}
 use mathlib.Core.Bool.{Bool, true, false, not, _&&_}
 use mathlib.Core.Path.{_≡_, refl, sym, ap, subst, _∙_}

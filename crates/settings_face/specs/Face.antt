@@ -1,4 +1,5 @@
--- The face of the settings store: 0, or a refusal's number + 256 * 64; what is answered is written through pointers, and nothing on a refusal.
+-- The face of the settings store: 0, or a refusal's number + 256 * 64; what is answered is written through pointers,
+-- and nothing on a refusal.
 use Prim.Native.Nat.{ℕ, _+_}
 use mathlib.Core.List.{List}
 use mathlib.Core.Bool.{cond}

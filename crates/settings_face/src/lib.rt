@@ -1,5 +1,5 @@
-// Answers of the settings store for C, Rust and Python: a word, and what is written through pointers. The names themselves are in crate `taylor`: the archive
-// has the functions of one crate only.
+// Answers of the settings store for C, Rust and Python: a word, and what is written through pointers. The names
+// themselves are in crate `taylor`: the archive has the functions of one crate only.
 use model_settings::Settled;
 ghost use mathlib.Core.Path.{_≡_};
 ghost use Rattle.settings_face.specs.Face.{wordOf, versionAfter, horizonAfter, recipeAfter, chanceAfter};

@@ -65,7 +65,8 @@ stands-encoded {rest} {s} {w} t =
     sym (take-append-drop 544 w) ∙
     (ap (λ l. l ++ drop 544 w) (holds-encoded (t .sound) (t .holds)) ∙ ap (λ l. encode s ++ l) (t .behind))
 
--- after a fresh store and any calls the words are the encoding of the lists, and the words behind the store are as they were
+-- after a fresh store and any calls the words are the encoding of the lists, and the words behind the store are as they
+-- were
 pub sequence-encoded :
     (w : List ℕ) → 544 ≤ length w → (cs : List Call) → wordsAfterAll cs (freshWords w) ≡ encode
     (afterAll cs freshState) ++ drop 544 w

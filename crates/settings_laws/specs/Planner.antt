@@ -1,10 +1,9 @@
--- What a planner leans on (document 02, W8), said of the words that the entries are handed.
---   saved-back      an accepted save is read back, bit for bit, under the next version
---   stale-for-ever  of the saves that start from one version one is accepted at most: after it, and any calls but a fresh store, the others are 13
---   first-accepted  and one is: a save from the current version, in range, with a number left
---   others-stay     nothing but a save, a bringing back or a fresh store of that department changes what is read of it
---   last-eight, dropped, unmade   the versions that are read are the last eight
---   version-stays   what a version holds never changes
+-- What a planner leans on (document 02, W8), said of the words that the entries are handed. saved-back      an accepted
+-- save is read back, bit for bit, under the next version stale-for-ever  of the saves that start from one version one
+-- is accepted at most: after it, and any calls but a fresh store, the others are 13 first-accepted  and one is: a save
+-- from the current version, in range, with a number left others-stay     nothing but a save, a bringing back or a fresh
+-- store of that department changes what is read of it last-eight, dropped, unmade   the versions that are read are the
+-- last eight version-stays   what a version holds never changes
 use Prim.Native.Nat.{ℕ, _+_, _-_, _%_, _≤_, _<_}
 use mathlib.Core.Bool.{Bool, true, false, not, _&&_, true≢false}
 use mathlib.Core.List.{List, [], _∷_, _++_}

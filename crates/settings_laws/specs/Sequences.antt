@@ -1,4 +1,5 @@
--- The theorem: of any calls after a fresh one, the answers on words are the lists' answers, and the words hold the lists.
+-- The theorem: of any calls after a fresh one, the answers on words are the lists' answers, and the words hold the
+-- lists.
 use Prim.Native.Nat.{ℕ, _+_, _-_, _*_, _/_, _%_, _≤_, _<_}
 use mathlib.Core.Bool.{cond}
 use mathlib.Core.List.{List, [], _∷_}

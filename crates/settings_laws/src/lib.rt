@@ -1,4 +1,5 @@
-// Laws of the settings store: its words are the encoding of its lists, and its test is exact. A crate needs a function: this one.
+// Laws of the settings store: its words are the encoding of its lists, and its test is exact. A crate needs a function:
+// this one.
 ghost use mathlib.Core.Path.{_≡_};
 
 pub fn same(x: u64) -> u64

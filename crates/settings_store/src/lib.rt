@@ -1,4 +1,5 @@
-// The settings store (document 02, W8) on lent words: 544 of them, 17 a department. It takes any words, any number of them, and any numbers.
+// The settings store (document 02, W8) on lent words: 544 of them, 17 a department. It takes any words, any number of
+// them, and any numbers.
 // A refused call changes no word; words behind the store are never read or changed.
 pub mod answer;
 pub mod change;

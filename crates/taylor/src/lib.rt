@@ -475,7 +475,8 @@ pub extern "C" fn taylor_npy_read(file: &[u8], out: &mut [f64]) -> u64
     word_of(npy::read(file, out))
 }
 
-// The NumPy array file of a polynomial, its shape the stored lengths, at the front of `file`, and through `written` how many bytes it has: refusals 1, 2, 5; 0 when done.
+// The NumPy array file of a polynomial, its shape the stored lengths, at the front of `file`, and through `written` how
+// many bytes it has: refusals 1, 2, 5; 0 when done.
 #[no_mangle]
 pub extern "C" fn taylor_npy_write(head: u64, a: &[f64], file: &mut [u8], written: &mut u64) -> u64
     ensures answer { λ r. ⌜ r ≡ wordOfWritten (writeAnswer head (now (a .entry)) (now (file .entry))) ⌝ }

@@ -1,4 +1,5 @@
-// The settings store under its C names: 0 with what was asked for through pointers, or a refusal's number + 256 * 64 and nothing written.
+// The settings store under its C names: 0 with what was asked for through pointers, or a refusal's number + 256 * 64
+// and nothing written.
 use model_settings::Content;
 use settings_face::put_chance;
 use settings_face::put_horizon;

@@ -32,19 +32,31 @@ refused-requires : tie.Need-refused-requires
 refused-requires c κs = search needs
 
 returns : tie.Need-returns
-returns c = write-bad (c .before .before .before .before .before .args .head) (c .before .before .before .before .before .args .a .now) (c .before .before .before .before .before .args .file .now) (c .before .before .is-good .ensures) (not-true _ (c .before .if1 .taken)) (c .refused .ensures)
+returns c =
+    let start = c .before .before .before .before .before in
+    write-bad (start .args .head) (start .args .a .now) (start .args .file .now) (c .before .before .is-good .ensures)
+    (not-true _ (c .before .if1 .taken)) (c .refused .ensures)
 
 header-of-requires : tie.Need-header-of-requires
 header-of-requires c κs = search needs
 
 count-of-requires : tie.Need-count-of-requires
-count-of-requires c κs = subst (λ (x : Header). Lengths (x .lengths)) (sym (c .before .header-of .ensures)) (lengths-of (good-word (c .before .before .before .before .before .before .args .head) (sym (c .before .before .before .is-good .ensures) ∙ not-false _ (c .before .before .if1 .left)) .regular .rules))
+count-of-requires c κs =
+    subst (λ (x : Header). Lengths (x .lengths)) (sym (c .before .header-of .ensures))
+    (lengths-of (good-word (c .before .before .before .before .before .before .args .head)
+    (sym (c .before .before .before .is-good .ensures) ∙ not-false _ (c .before .before .if1 .left)) .regular .rules))
 
 refused-requires-2 : tie.Need-refused-requires-2
 refused-requires-2 c κs = search needs
 
 returns-2 : tie.Need-returns-2
-returns-2 c = write-few (c .before .before .before .before .before .before .before .before .before .args .head) (c .before .before .before .before .before .before .before .before .before .args .a .now) (c .before .before .before .before .before .before .before .before .before .args .file .now) (c .before .before .before .before .before .before .is-good .ensures) (not-false _ (c .before .before .before .before .before .if1 .left)) (c .before .before .count-of .ensures ∙ ap (λ (x : Header). count (x .lengths)) (c .before .before .before .before .header-of .ensures)) (c .before .if2 .taken) (c .refused2 .ensures)
+returns-2 c =
+    let start = c .before .before .before .before .before .before .before .before .before in
+    write-few (start .args .head) (start .args .a .now) (start .args .file .now)
+    (c .before .before .before .before .before .before .is-good .ensures)
+    (not-false _ (c .before .before .before .before .before .if1 .left))
+    (c .before .before .count-of .ensures ∙ ap (λ (x : Header). count (x .lengths))
+    (c .before .before .before .before .header-of .ensures)) (c .before .if2 .taken) (c .refused2 .ensures)
 
 mul-if3 : tie.Need-mul-if3
 mul-if3 c = search needs
@@ -56,22 +68,63 @@ refused-requires-3 : tie.Need-refused-requires-3
 refused-requires-3 c κs = search needs
 
 returns-3 : tie.Need-returns-3
-returns-3 c = write-short (c .before .before .before .before .before .before .before .before .before .before .args .head) (c .before .before .before .before .before .before .before .before .before .before .args .a .now) (c .before .before .before .before .before .before .before .before .before .before .args .file .now) (c .before .before .before .before .before .before .before .is-good .ensures) (not-false _ (c .before .before .before .before .before .before .if1 .left)) (c .before .before .before .count-of .ensures ∙ ap (λ (x : Header). count (x .lengths)) (c .before .before .before .before .before .header-of .ensures)) (c .before .before .if2 .left) (c .before .if3 .taken) (c .refused3 .ensures)
+returns-3 c =
+    let start = c .before .before .before .before .before .before .before .before .before .before in
+    write-short (start .args .head) (start .args .a .now) (start .args .file .now)
+    (c .before .before .before .before .before .before .before .is-good .ensures)
+    (not-false _ (c .before .before .before .before .before .before .if1 .left))
+    (c .before .before .before .count-of .ensures
+    ∙ ap (λ (x : Header). count (x .lengths)) (c .before .before .before .before .before .header-of .ensures))
+    (c .before .before .if2 .left) (c .before .if3 .taken) (c .refused3 .ensures)
 
 put-front-requires : tie.Need-put-front-requires
-put-front-requires c κs = (subst (λ (x : Header). Shaped (x .vars) (x .lengths)) (sym (c .before .before .before .before .before .header-of .ensures)) (write-shaped (c .before .before .before .before .before .before .before .before .before .before .args .head) (c .before .before .before .before .before .before .before .before .before .before .args .a .now) (c .before .before .before .before .before .before .before .before .before .before .args .file .now) (c .before .before .before .before .before .before .before .is-good .ensures) (not-false _ (c .before .before .before .before .before .before .if1 .left))), omega (arith, c .before .if3 .left))
+put-front-requires c κs =
+    let start = c .before .before .before .before .before .before .before .before .before .before in (
+      subst (λ (x : Header). Shaped (x .vars) (x .lengths))
+          (sym (c .before .before .before .before .before .header-of .ensures))
+          (write-shaped (start .args .head) (start .args .a .now) (start .args .file .now)
+          (c .before .before .before .before .before .before .before .is-good .ensures)
+          (not-false _ (c .before .before .before .before .before .before .if1 .left))),
+      omega (arith, c .before .if3 .left),
+    )
 
 slice-aggregate-put-data : tie.Need-slice-aggregate-put-data
-slice-aggregate-put-data c = sym (length-take-le (c .before .before .before .before .before .before .before .count-of .result) (c .before .before .before .before .before .before .before .before .before .before .before .before .before .before .args .a .now) (c .before .before .before .before .before .before .if2 .left))
+slice-aggregate-put-data c =
+    let c12 = c .before .before .before .before .before .before .before .before .before .before .before .before in
+    let start = c12 .before .before in
+    sym (length-take-le (c .before .before .before .before .before .before .before .count-of .result)
+    (start .args .a .now) (c .before .before .before .before .before .before .if2 .left))
 
 put-data-requires : tie.Need-put-data-requires
-put-data-requires c κs = omega (arith, length-take-le (c .before .before .before .before .before .before .before .before .count-of .result) (c .before .before .before .before .before .before .before .before .before .before .before .before .before .before .before .args .a .now) (c .before .before .before .before .before .before .before .if2 .left), put-len (c .before .before .before .before .put-front .ensures .put), c .before .before .before .before .put-front .ensures .is, c .before .before .before .before .before .before .if3 .left)
+put-data-requires c κs =
+    let c4 = c .before .before .before .before in
+    let c8 = c4 .before .before .before .before in
+    let start = c8 .before .before .before .before .before .before .before in
+    omega (
+      arith,
+      length-take-le (c8 .count-of .result) (start .args .a .now) (c .before .before .before .before .before .before .before .if2 .left),
+      put-len (c4 .put-front .ensures .put),
+      c4 .put-front .ensures .is,
+      c .before .before .before .before .before .before .if3 .left,
+    )
 
 same-length : tie.Need-same-length
 same-length c = search needs
 
 returns-4 : tie.Need-returns-4
-returns-4 c = write-done (c .before .before .before .before .before .before .before .before .before .before .before .before .before .before .before .before .before .before .args .head) (c .before .before .before .before .before .before .before .before .before .before .before .before .before .before .before .before .before .before .args .a .now) (c .before .before .before .before .before .before .before .before .before .before .before .before .before .before .before .before .before .before .args .file .now) (c .before .before .before .before .before .before .before .before .before .before .before .before .before .before .before .is-good .ensures) (not-false _ (c .before .before .before .before .before .before .before .before .before .before .before .before .before .before .if1 .left)) (c .before .before .before .before .before .before .before .before .before .before .before .count-of .ensures ∙ ap (λ (x : Header). count (x .lengths)) (c .before .before .before .before .before .before .before .before .before .before .before .before .before .header-of .ensures)) (c .before .before .before .before .before .before .before .before .before .before .if2 .left) (c .before .before .before .before .before .before .before .before .before .if3 .left) (c .before .before .before .before .before .before .before .before .before .before .before .before .before .header-of .ensures) (c .before .before .before .before .before .before .before .put-front .ensures) (c .before .before .put-data .ensures)
+returns-4 c =
+    let c9 = c .before .before .before .before .before .before .before .before .before in
+    let c10 = c9 .before in
+    let c11 = c10 .before in
+    let c13 = c11 .before .before in
+    let c14 = c13 .before in
+    let c15 = c14 .before in
+    let start = c15 .before .before .before in
+    write-done (start .args .head) (start .args .a .now) (start .args .file .now) (c15 .is-good .ensures)
+    (not-false _ (c14 .if1 .left)) (c11 .count-of .ensures
+    ∙ ap (λ (x : Header). count (x .lengths)) (c13 .header-of .ensures)) (c10 .if2 .left) (c9 .if3 .left)
+    (c13 .header-of .ensures) (c .before .before .before .before .before .before .before .put-front .ensures)
+    (c .before .before .put-data .ensures)
 
 pub write-spec : {M : Type 1} → statement M
 write-spec =

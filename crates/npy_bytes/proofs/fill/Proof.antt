@@ -50,7 +50,11 @@ loop-less c = search needs
 
 loop-again : tie.Need-loop-again Inv-loop μ-loop
 unfolding valueAt
-loop-again c = (omega arith, (c .before .before .before .loop .inv .1 .0, filled-more (c .before .before .before .loop .inv .1 .1) (c .float-of .ensures ∙ ap (ofBits binary64) (c .before .little-8 .ensures)) (omega arith)))
+loop-again c =
+    let c3 = c .before .before .before in (
+      omega arith,
+      (c3 .loop .inv .1 .0, filled-more (c3 .loop .inv .1 .1) (c .float-of .ensures ∙ ap (ofBits binary64) (c .before .little-8 .ensures)) (omega arith)),
+    )
 
 same-length : tie.Need-same-length Inv-loop μ-loop
 same-length c = c .before .loop .inv .1 .1 .len

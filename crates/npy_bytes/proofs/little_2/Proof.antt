@@ -30,7 +30,9 @@ add-result : tie.Need-add-result
 add-result c = search needs
 
 returns : tie.Need-returns
-returns c = (little-two (c .before .before .before .before .before .args .file .now) (c .before .before .before .before .before .args .at) (c .before .before .wide .ensures .0) (c .wide2 .ensures .0), omega arith)
+returns c =
+    let start = c .before .before .before .before .before in
+    (little-two (start .args .file .now) (start .args .at) (c .before .before .wide .ensures .0) (c .wide2 .ensures .0), omega arith)
 
 pub little-2-spec : {M : Type 1} → statement M
 little-2-spec =

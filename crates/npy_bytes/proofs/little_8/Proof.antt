@@ -120,7 +120,17 @@ add-result-7 : tie.Need-add-result-7
 add-result-7 c = omega arith
 
 returns : tie.Need-returns
-returns c = little-eight (c .before .before .before .before .before .before .before .before .before .before .before .before .before .before .before .before .before .args .file .now) (c .before .before .before .before .before .before .before .before .before .before .before .before .before .before .before .before .before .args .at) (c .before .before .before .before .before .before .before .before .before .before .before .before .before .before .wide .ensures .0) (c .before .before .before .before .before .before .before .before .before .before .before .before .wide2 .ensures .0) (c .before .before .before .before .before .before .before .before .before .before .wide3 .ensures .0) (c .before .before .before .before .before .before .before .before .wide4 .ensures .0) (c .before .before .before .before .before .before .wide5 .ensures .0) (c .before .before .before .before .wide6 .ensures .0) (c .before .before .wide7 .ensures .0) (c .wide8 .ensures .0)
+returns c =
+    let c8 = c .before .before .before .before .before .before .before .before in
+    let c10 = c8 .before .before in
+    let c12 = c10 .before .before in
+    let c14 = c12 .before .before in
+    let start = c14 .before .before .before in
+    little-eight (start .args .file .now) (start .args .at) (c14 .wide .ensures .0) (c12 .wide2 .ensures .0)
+    (c10 .wide3 .ensures .0) (c8 .wide4 .ensures .0)
+    (c .before .before .before .before .before .before .wide5 .ensures .0)
+    (c .before .before .before .before .wide6 .ensures .0)
+    (c .before .before .wide7 .ensures .0) (c .wide8 .ensures .0)
 
 pub little-8-spec : {M : Type 1} → statement M
 little-8-spec =

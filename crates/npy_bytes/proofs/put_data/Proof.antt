@@ -30,7 +30,9 @@ word-of-requires : tie.Need-word-of-requires Inv-loop μ-loop
 word-of-requires c κs = search needs
 
 put-eight-requires : tie.Need-put-eight-requires Inv-loop μ-loop
-put-eight-requires c κs = omega (arith, data-next (c .before .before .before .before .loop .inv), put-len (c .before .before .before .before .loop .inv .put))
+put-eight-requires c κs =
+    let c4 = c .before .before .before .before in
+    omega (arith, data-next (c4 .loop .inv), put-len (c4 .loop .inv .put))
 
 add-k : tie.Need-add-k Inv-loop μ-loop
 add-k c = search needs
@@ -39,7 +41,10 @@ loop-less : tie.Need-loop-less Inv-loop μ-loop
 loop-less c = search needs
 
 loop-again : tie.Need-loop-again Inv-loop μ-loop
-loop-again c = data-more (c .before .before .before .before .before .before .before .loop .inv) (c .before .before .before .before .before .before .loop-test .taken) (c .before .before .before .before .word-of .ensures) (c .before .before .put-eight .ensures)
+loop-again c =
+    data-more (c .before .before .before .before .before .before .before .loop .inv)
+    (c .before .before .before .before .before .before .loop-test .taken)
+    (c .before .before .before .before .word-of .ensures) (c .before .before .put-eight .ensures)
 
 same-length : tie.Need-same-length Inv-loop μ-loop
 same-length c = put-len (c .before .loop .inv .put)

@@ -28,7 +28,9 @@ shared-slice-read-if2-2 : tie.Need-shared-slice-read-if2-2 Inv-loop μ-loop
 shared-slice-read-if2-2 c = search needs
 
 returns-2 : tie.Need-returns-2 Inv-loop μ-loop
-returns-2 c = starts-other _ _ _ (c .before .before .before .before .loop-test .taken) (omega arith) (c .before .before .before .before .before .loop .inv) (c .if2 .taken)
+returns-2 c =
+    starts-other _ _ _ (c .before .before .before .before .loop-test .taken) (omega arith)
+    (c .before .before .before .before .before .loop .inv) (c .if2 .taken)
 
 add-k : tie.Need-add-k Inv-loop μ-loop
 add-k c = search needs
@@ -37,7 +39,9 @@ loop-less : tie.Need-loop-less Inv-loop μ-loop
 loop-less c = search needs
 
 loop-again : tie.Need-loop-again Inv-loop μ-loop
-loop-again c = starts-more _ _ _ (c .before .before .before .before .loop-test .taken) (omega arith) (c .before .before .before .before .before .loop .inv) (c .if2 .left)
+loop-again c =
+    starts-more _ _ _ (c .before .before .before .before .loop-test .taken) (omega arith)
+    (c .before .before .before .before .before .loop .inv) (c .if2 .left)
 
 returns-3 : tie.Need-returns-3 Inv-loop μ-loop
 returns-3 c = starts-end _ _ _ (c .loop-test .left) (c .before .loop .inv)

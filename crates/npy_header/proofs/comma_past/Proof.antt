@@ -16,7 +16,9 @@ eat-byte-requires c κs = search needs
 
 returns : tie.Need-returns
 unfolding passes
-returns c = comma-read (c .before .before .before .before .args .text .now) (c .before .before .before .before .args .c) (c .before .skip .ensures) (c .eat-byte .ensures)
+returns c =
+    let start = c .before .before .before .before in
+    comma-read (start .args .text .now) (start .args .c) (c .before .skip .ensures) (c .eat-byte .ensures)
 
 pub comma-past-spec : {M : Type 1} → statement M
 comma-past-spec = tie.close (tie.spec skip-requires eat-byte-requires returns)

@@ -33,14 +33,23 @@ byte-at-requires c κs = c .skip .ensures .most
 
 returns : tie.Need-returns Inv-loop μ-loop
 unfolding passes
-returns c = listing-few (c .before .before .before .before .before .before .before .args .text .now) (c .before .before .before .before .before .loop .inv) (c .before .before .before .before .loop-test .taken) (c .before .before .before .skip .ensures) (c .before .before .byte-at .ensures) (c .before .if1 .taken) (c .if2 .taken)
+returns c =
+    listing-few (c .before .before .before .before .before .before .before .args .text .now)
+    (c .before .before .before .before .before .loop .inv) (c .before .before .before .before .loop-test .taken)
+    (c .before .before .before .skip .ensures) (c .before .before .byte-at .ensures)
+    (c .before .if1 .taken) (c .if2 .taken)
 
 eat-byte-requires : tie.Need-eat-byte-requires Inv-loop μ-loop
 eat-byte-requires c κs = c .before .before .before .skip .ensures .most
 
 returns-2 : tie.Need-returns-2 Inv-loop μ-loop
 unfolding passes
-returns-2 c = listing-bare (c .before .before .before .before .before .before .before .before .args .text .now) (c .before .before .before .before .before .before .loop .inv) (c .before .before .before .before .before .loop-test .taken) (c .before .before .before .before .skip .ensures) (c .before .before .before .byte-at .ensures) (c .before .before .if1 .taken) (c .before .if2 .left) (c .eat-byte .ensures)
+returns-2 c =
+    let start = c .before .before .before .before .before .before .before .before in
+    listing-bare (start .args .text .now) (c .before .before .before .before .before .before .loop .inv)
+    (c .before .before .before .before .before .loop-test .taken) (c .before .before .before .before .skip .ensures)
+    (c .before .before .before .byte-at .ensures) (c .before .before .if1 .taken)
+    (c .before .if2 .left) (c .eat-byte .ensures)
 
 past-comma-requires : tie.Need-past-comma-requires Inv-loop μ-loop
 past-comma-requires c κs = c .before .before .before .before .loop .inv .inside
@@ -53,7 +62,15 @@ eat-byte-requires-2 c κs = c .before .before .past-comma .ensures .most
 
 returns-3 : tie.Need-returns-3 Inv-loop μ-loop
 unfolding passes
-returns-3 c = listing-comma (c .before .before .before .before .before .before .before .before .before .before .args .text .now) (c .before .before .before .before .before .before .before .before .loop .inv) (c .before .before .before .before .before .before .before .loop-test .taken) (c .before .before .before .before .before .before .skip .ensures) (c .before .before .before .before .before .byte-at .ensures) (c .before .before .before .before .if1 .left) (c .before .before .before .past-comma .ensures) (c .before .before .byte-at2 .ensures) (c .before .if3 .taken) (c .eat-byte2 .ensures)
+returns-3 c =
+    let c8 = c .before .before .before .before .before .before .before .before in
+    let start = c8 .before .before in
+    listing-comma (start .args .text .now) (c8 .loop .inv)
+    (c .before .before .before .before .before .before .before .loop-test .taken)
+    (c .before .before .before .before .before .before .skip .ensures)
+    (c .before .before .before .before .before .byte-at .ensures) (c .before .before .before .before .if1 .left)
+    (c .before .before .before .past-comma .ensures) (c .before .before .byte-at2 .ensures)
+    (c .before .if3 .taken) (c .eat-byte2 .ensures)
 
 number-at-requires : tie.Need-number-at-requires Inv-loop μ-loop
 number-at-requires c κs = c .before .before .past-comma .ensures .most
@@ -72,7 +89,17 @@ loop-less c = search needs
 
 loop-again : tie.Need-loop-again Inv-loop μ-loop
 unfolding passes
-loop-again c = listing-more (c .before .before .before .before .before .before .before .before .before .before .before .before .args .text .now) (c .before .before .before .before .before .before .before .before .before .before .loop .inv) (c .before .before .before .before .before .before .before .before .before .loop-test .taken) (c .before .before .before .before .before .before .before .before .skip .ensures) (c .before .before .before .before .before .before .before .byte-at .ensures) (c .before .before .before .before .before .before .if1 .left) (c .before .before .before .before .before .past-comma .ensures) (c .before .before .before .before .byte-at2 .ensures) (c .before .before .before .if3 .left) (c .before .before .number-at .ensures) (c .before .push .ensures) (c .past-number .ensures)
+loop-again c =
+    let c8 = c .before .before .before .before .before .before .before .before in
+    let c9 = c8 .before in
+    let c10 = c9 .before in
+    let start = c10 .before .before in
+    listing-more (start .args .text .now) (c10 .loop .inv) (c9 .loop-test .taken) (c8 .skip .ensures)
+    (c .before .before .before .before .before .before .before .byte-at .ensures)
+    (c .before .before .before .before .before .before .if1 .left)
+    (c .before .before .before .before .before .past-comma .ensures)
+    (c .before .before .before .before .byte-at2 .ensures) (c .before .before .before .if3 .left)
+    (c .before .before .number-at .ensures) (c .before .push .ensures) (c .past-number .ensures)
 
 returns-4 : tie.Need-returns-4 Inv-loop μ-loop
 returns-4 c = listing-over (c .before .before .before .args .text .now) (c .before .loop .inv) (c .loop-test .left)

@@ -10,10 +10,14 @@ byte-at-requires : tie.Need-byte-at-requires
 byte-at-requires c κs = search needs
 
 returns : tie.Need-returns
-returns c = order-2 (c .before .before .before .args .text .now) (c .before .before .before .args .at) (c .before .byte-at .ensures) (c .if1 .taken)
+returns c =
+    let start = c .before .before .before in
+    order-2 (start .args .text .now) (start .args .at) (c .before .byte-at .ensures) (c .if1 .taken)
 
 returns-2 : tie.Need-returns-2
-returns-2 c = order-1 (c .before .before .before .args .text .now) (c .before .before .before .args .at) (c .before .byte-at .ensures) (c .if1 .left)
+returns-2 c =
+    let start = c .before .before .before in
+    order-1 (start .args .text .now) (start .args .at) (c .before .byte-at .ensures) (c .if1 .left)
 
 pub order-at-spec : {M : Type 1} → statement M
 order-at-spec = tie.close (tie.spec byte-at-requires returns returns-2)

@@ -24,14 +24,21 @@ eat-byte-requires c κs = search needs
 
 returns : tie.Need-returns
 unfolding passes
-returns c = close-comma (c .before .before .before .before .before .before .args .text .now) (c .before .before .before .before .before .before .args .at) (c .before .before .before .before .skip .ensures) (c .before .before .before .byte-at .ensures) (c .before .before .if1 .taken) (c .before .past-comma .ensures) (c .eat-byte .ensures)
+returns c =
+    let start = c .before .before .before .before .before .before in
+    close-comma (start .args .text .now) (start .args .at) (c .before .before .before .before .skip .ensures)
+    (c .before .before .before .byte-at .ensures) (c .before .before .if1 .taken)
+    (c .before .past-comma .ensures) (c .eat-byte .ensures)
 
 eat-byte-requires-2 : tie.Need-eat-byte-requires-2
 eat-byte-requires-2 c κs = search needs
 
 returns-2 : tie.Need-returns-2
 unfolding passes
-returns-2 c = close-bare (c .before .before .before .before .before .args .text .now) (c .before .before .before .before .before .args .at) (c .before .before .before .skip .ensures) (c .before .before .byte-at .ensures) (c .before .if1 .left) (c .eat-byte2 .ensures)
+returns-2 c =
+    let start = c .before .before .before .before .before in
+    close-bare (start .args .text .now) (start .args .at) (c .before .before .before .skip .ensures)
+    (c .before .before .byte-at .ensures) (c .before .if1 .left) (c .eat-byte2 .ensures)
 
 pub past-close-spec : {M : Type 1} → statement M
 past-close-spec =

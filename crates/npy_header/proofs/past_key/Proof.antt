@@ -27,7 +27,12 @@ skip-requires-2 c κs = search needs
 
 returns : tie.Need-returns
 unfolding passes pastKey
-returns c = then (strip isBlank) (then (eat 58) (then (strip isBlank) (then (eat (c .before .before .before .before .before .before .before .args .q)) (c .before .before .before .before .eat-word .ensures) (c .before .before .before .eat-byte .ensures)) (c .before .before .skip .ensures)) (c .before .eat-byte2 .ensures)) (c .skip2 .ensures)
+returns c =
+    then (strip isBlank)
+    (then (eat 58)
+    (then (strip isBlank) (then (eat (c .before .before .before .before .before .before .before .args .q))
+    (c .before .before .before .before .eat-word .ensures) (c .before .before .before .eat-byte .ensures))
+    (c .before .before .skip .ensures)) (c .before .eat-byte2 .ensures)) (c .skip2 .ensures)
 
 pub past-key-spec : {M : Type 1} → statement M
 past-key-spec =

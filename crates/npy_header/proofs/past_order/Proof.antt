@@ -19,7 +19,9 @@ eat-word-requires c κs = search needs
 
 returns : tie.Need-returns
 unfolding orderWord
-returns c = past-2 (c .before .before .before .before .before .args .text .now) (c .before .before .before .before .before .args .at) (c .before .before .before .byte-at .ensures) (c .before .before .if1 .taken) (c .eat-word .ensures)
+returns c =
+    let start = c .before .before .before .before .before in
+    past-2 (start .args .text .now) (start .args .at) (c .before .before .before .byte-at .ensures) (c .before .before .if1 .taken) (c .eat-word .ensures)
 
 slice-aggregate-eat-word-2 : tie.Need-slice-aggregate-eat-word-2
 slice-aggregate-eat-word-2 c = search needs
@@ -29,7 +31,9 @@ eat-word-requires-2 c κs = search needs
 
 returns-2 : tie.Need-returns-2
 unfolding orderWord
-returns-2 c = past-1 (c .before .before .before .before .before .args .text .now) (c .before .before .before .before .before .args .at) (c .before .before .before .byte-at .ensures) (c .before .before .if1 .left) (c .eat-word2 .ensures)
+returns-2 c =
+    let start = c .before .before .before .before .before in
+    past-1 (start .args .text .now) (start .args .at) (c .before .before .before .byte-at .ensures) (c .before .before .if1 .left) (c .eat-word2 .ensures)
 
 pub past-order-spec : {M : Type 1} → statement M
 past-order-spec =

@@ -21,7 +21,10 @@ is-quote-requires : tie.Need-is-quote-requires
 is-quote-requires c κs = search needs
 
 returns : tie.Need-returns
-returns c = past-unquoted (c .before .before .before .before .args .text .now) (c .before .before .before .before .args .at) (c .before .before .byte-at .ensures) (sym (c .before .is-quote .ensures) ∙ not-true _ (c .if1 .taken))
+returns c =
+    let start = c .before .before .before .before in
+    past-unquoted (start .args .text .now) (start .args .at) (c .before .before .byte-at .ensures)
+    (sym (c .before .is-quote .ensures) ∙ not-true _ (c .if1 .taken))
 
 eat-byte-requires : tie.Need-eat-byte-requires
 eat-byte-requires c κs = search needs
@@ -42,7 +45,16 @@ eat-byte-requires-3 : tie.Need-eat-byte-requires-3
 eat-byte-requires-3 c κs = search needs
 
 returns-2 : tie.Need-returns-2
-returns-2 c = past-8 (c .before .before .before .before .before .before .before .before .before .before .before .args .text .now) (c .before .before .before .before .before .before .before .before .before .before .before .args .at) (c .before .before .before .before .before .before .before .before .before .byte-at .ensures) (then (eats (60 ∷ 102 ∷ [])) (c .before .before .before .before .before .before .eat-byte .ensures) (c .before .before .before .before .eat-word .ensures)) (c .before .before .before .byte-at2 .ensures) (sym (c .before .before .before .before .before .before .before .before .is-quote .ensures) ∙ not-false _ (c .before .before .before .before .before .before .before .if1 .left)) (c .before .before .if2 .taken) (c .before .eat-byte2 .ensures) (c .eat-byte3 .ensures)
+returns-2 c =
+    let c8 = c .before .before .before .before .before .before .before .before in
+    let c9 = c8 .before in
+    let start = c9 .before .before in
+    past-8 (start .args .text .now) (start .args .at) (c9 .byte-at .ensures)
+    (then (eats (60 ∷ 102 ∷ [])) (c .before .before .before .before .before .before .eat-byte .ensures)
+    (c .before .before .before .before .eat-word .ensures)) (c .before .before .before .byte-at2 .ensures)
+    (sym (c8 .is-quote .ensures) ∙ not-false _
+    (c .before .before .before .before .before .before .before .if1 .left)) (c .before .before .if2 .taken)
+    (c .before .eat-byte2 .ensures) (c .eat-byte3 .ensures)
 
 eat-byte-requires-4 : tie.Need-eat-byte-requires-4
 eat-byte-requires-4 c κs = search needs
@@ -51,7 +63,16 @@ eat-byte-requires-5 : tie.Need-eat-byte-requires-5
 eat-byte-requires-5 c κs = search needs
 
 returns-3 : tie.Need-returns-3
-returns-3 c = past-4 (c .before .before .before .before .before .before .before .before .before .before .before .args .text .now) (c .before .before .before .before .before .before .before .before .before .before .before .args .at) (c .before .before .before .before .before .before .before .before .before .byte-at .ensures) (then (eats (60 ∷ 102 ∷ [])) (c .before .before .before .before .before .before .eat-byte .ensures) (c .before .before .before .before .eat-word .ensures)) (c .before .before .before .byte-at2 .ensures) (sym (c .before .before .before .before .before .before .before .before .is-quote .ensures) ∙ not-false _ (c .before .before .before .before .before .before .before .if1 .left)) (c .before .before .if2 .left) (c .before .eat-byte4 .ensures) (c .eat-byte5 .ensures)
+returns-3 c =
+    let c8 = c .before .before .before .before .before .before .before .before in
+    let c9 = c8 .before in
+    let start = c9 .before .before in
+    past-4 (start .args .text .now) (start .args .at) (c9 .byte-at .ensures)
+    (then (eats (60 ∷ 102 ∷ [])) (c .before .before .before .before .before .before .eat-byte .ensures)
+    (c .before .before .before .before .eat-word .ensures)) (c .before .before .before .byte-at2 .ensures)
+    (sym (c8 .is-quote .ensures) ∙ not-false _
+    (c .before .before .before .before .before .before .before .if1 .left)) (c .before .before .if2 .left)
+    (c .before .eat-byte4 .ensures) (c .eat-byte5 .ensures)
 
 pub past-width-spec : {M : Type 1} → statement M
 past-width-spec =

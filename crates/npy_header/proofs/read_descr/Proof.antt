@@ -8,7 +8,9 @@ use Rattle.npy_header.proofs.past_width.Reads as past-width-reads
 use Rattle.npy_header.proofs.width_at.Reads as width-at-reads
 
 returns : tie.Need-returns
-returns c = descr-again (c .before .before .before .args .text .now) (c .before .before .before .args .c) (c .before .before .before .args .at) (c .if1 .taken)
+returns c =
+    let start = c .before .before .before in
+    descr-again (start .args .text .now) (start .args .c) (start .args .at) (c .if1 .taken)
 
 past-width-requires : tie.Need-past-width-requires
 past-width-requires c κs = search needs
@@ -17,7 +19,10 @@ width-at-requires : tie.Need-width-at-requires
 width-at-requires c κs = search needs
 
 returns-2 : tie.Need-returns-2
-returns-2 c = descr-first (c .before .before .before .before .before .args .text .now) (c .before .before .before .before .before .args .c) (c .before .before .before .before .before .args .at) (c .before .before .if1 .left) (c .before .past-width .ensures) (c .width-at .ensures)
+returns-2 c =
+    let start = c .before .before .before .before .before in
+    descr-first (start .args .text .now) (start .args .c) (start .args .at) (c .before .before .if1 .left)
+    (c .before .past-width .ensures) (c .width-at .ensures)
 
 pub read-descr-spec : {M : Type 1} → statement M
 read-descr-spec = tie.close (tie.spec returns past-width-requires width-at-requires returns-2)

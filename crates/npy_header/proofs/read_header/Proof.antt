@@ -48,7 +48,18 @@ is-last-requires c κs = search needs
 
 returns : tie.Need-returns
 unfolding passes
-returns c = header-found (c .before .before .before .before .before .before .before .before .before .before .before .before .before .args .text .now) (c .before .before .before .before .before .before .before .before .before .before .before .skip .ensures) (c .before .before .before .before .before .before .before .before .before .before .eat-byte .ensures) (c .before .before .before .before .before .before .before .before .before .no-shape .ensures) (c .before .before .before .before .before .before .before .before .read-item .ensures) (c .before .before .before .before .before .before .before .comma-past .ensures) (c .before .before .before .before .before .before .read-item2 .ensures) (c .before .before .before .before .before .comma-past2 .ensures) (c .before .before .before .before .read-item3 .ensures) (c .before .before .past-close .ensures) (c .before .skip2 .ensures) (c .is-last .ensures)
+returns c =
+    let c8 = c .before .before .before .before .before .before .before .before in
+    let c9 = c8 .before in
+    let c10 = c9 .before in
+    let c11 = c10 .before in
+    let start = c11 .before .before in
+    header-found (start .args .text .now) (c11 .skip .ensures) (c10 .eat-byte .ensures) (c9 .no-shape .ensures)
+    (c8 .read-item .ensures) (c .before .before .before .before .before .before .before .comma-past .ensures)
+    (c .before .before .before .before .before .before .read-item2 .ensures)
+    (c .before .before .before .before .before .comma-past2 .ensures)
+    (c .before .before .before .before .read-item3 .ensures) (c .before .before .past-close .ensures)
+    (c .before .skip2 .ensures) (c .is-last .ensures)
 
 pub read-header-spec : {M : Type 1} → statement M
 read-header-spec =

@@ -30,11 +30,19 @@ read-key-requires c κs = search needs
 
 returns : tie.Need-returns
 unfolding passes
-returns c = item-read (c .before .before .before .before .before .before .before .before .args .text .now) (c .before .before .before .before .before .before .before .before .args .c) _ (c .before .before .before .before .before .skip .ensures) (c .before .before .before .before .byte-at .ensures) (sym (c .before .before .before .is-quote .ensures) ∙ c .before .before .if1 .taken) (c .before .eat-byte .ensures) (c .read-key .ensures)
+returns c =
+    let start = c .before .before .before .before .before .before .before .before in
+    item-read (start .args .text .now) (start .args .c) _ (c .before .before .before .before .before .skip .ensures)
+    (c .before .before .before .before .byte-at .ensures)
+    (sym (c .before .before .before .is-quote .ensures) ∙ c .before .before .if1 .taken)
+    (c .before .eat-byte .ensures) (c .read-key .ensures)
 
 returns-2 : tie.Need-returns-2
 unfolding passes
-returns-2 c = item-none (c .before .before .before .before .before .before .args .text .now) (c .before .before .before .before .before .before .args .c) (c .before .before .before .skip .ensures) (c .before .before .byte-at .ensures) (sym (c .before .is-quote .ensures) ∙ c .if1 .left)
+returns-2 c =
+    let start = c .before .before .before .before .before .before in
+    item-none (start .args .text .now) (start .args .c) (c .before .before .before .skip .ensures)
+    (c .before .before .byte-at .ensures) (sym (c .before .is-quote .ensures) ∙ c .if1 .left)
 
 pub read-item-spec : {M : Type 1} → statement M
 read-item-spec =

@@ -25,7 +25,11 @@ read-descr-requires c κs = search needs
 
 returns : tie.Need-returns
 unfolding keyWord
-returns c = key-100 (c .before .before .before .before .before .before .args .text .now) (c .before .before .before .before .before .before .args .c) _ (c .before .before .before .before .before .before .args .at) (c .before .before .before .before .before .before .args .q) (c .before .before .before .before .byte-at .ensures) (c .before .before .before .if1 .taken) (c .before .past-key .ensures) (c .read-descr .ensures)
+returns c =
+    let start = c .before .before .before .before .before .before in
+    key-100 (start .args .text .now) (start .args .c) _ (start .args .at) (start .args .q)
+    (c .before .before .before .before .byte-at .ensures) (c .before .before .before .if1 .taken)
+    (c .before .past-key .ensures) (c .read-descr .ensures)
 
 slice-aggregate-past-key-2 : tie.Need-slice-aggregate-past-key-2
 slice-aggregate-past-key-2 c = search needs
@@ -38,7 +42,11 @@ read-order-requires c κs = search needs
 
 returns-2 : tie.Need-returns-2
 unfolding keyWord
-returns-2 c = key-102 (c .before .before .before .before .before .before .before .args .text .now) (c .before .before .before .before .before .before .before .args .c) _ (c .before .before .before .before .before .before .before .args .at) (c .before .before .before .before .before .before .before .args .q) (c .before .before .before .before .before .byte-at .ensures) (c .before .before .before .before .if1 .left) (c .before .before .before .if2 .taken) (c .before .past-key2 .ensures) (c .read-order .ensures)
+returns-2 c =
+    let start = c .before .before .before .before .before .before .before in
+    key-102 (start .args .text .now) (start .args .c) _ (start .args .at) (start .args .q)
+    (c .before .before .before .before .before .byte-at .ensures) (c .before .before .before .before .if1 .left)
+    (c .before .before .before .if2 .taken) (c .before .past-key2 .ensures) (c .read-order .ensures)
 
 slice-aggregate-past-key-3 : tie.Need-slice-aggregate-past-key-3
 slice-aggregate-past-key-3 c = search needs
@@ -51,7 +59,11 @@ read-shape-requires c κs = search needs
 
 returns-3 : tie.Need-returns-3
 unfolding keyWord
-returns-3 c = key-other (c .before .before .before .before .before .before .before .args .text .now) (c .before .before .before .before .before .before .before .args .c) _ (c .before .before .before .before .before .before .before .args .at) (c .before .before .before .before .before .before .before .args .q) (c .before .before .before .before .before .byte-at .ensures) (c .before .before .before .before .if1 .left) (c .before .before .before .if2 .left) (c .before .past-key3 .ensures) (c .read-shape .ensures)
+returns-3 c =
+    let start = c .before .before .before .before .before .before .before in
+    key-other (start .args .text .now) (start .args .c) _ (start .args .at) (start .args .q)
+    (c .before .before .before .before .before .byte-at .ensures) (c .before .before .before .before .if1 .left)
+    (c .before .before .before .if2 .left) (c .before .past-key3 .ensures) (c .read-shape .ensures)
 
 pub read-key-spec : {M : Type 1} → statement M
 read-key-spec =

@@ -8,7 +8,9 @@ use Rattle.npy_header.proofs.order_at.Reads as order-at-reads
 use Rattle.npy_header.proofs.past_order.Reads as past-order-reads
 
 returns : tie.Need-returns
-returns c = order-again (c .before .before .before .args .text .now) (c .before .before .before .args .c) (c .before .before .before .args .at) (c .if1 .taken)
+returns c =
+    let start = c .before .before .before in
+    order-again (start .args .text .now) (start .args .c) (start .args .at) (c .if1 .taken)
 
 past-order-requires : tie.Need-past-order-requires
 past-order-requires c κs = search needs
@@ -17,7 +19,10 @@ order-at-requires : tie.Need-order-at-requires
 order-at-requires c κs = search needs
 
 returns-2 : tie.Need-returns-2
-returns-2 c = order-first (c .before .before .before .before .before .args .text .now) (c .before .before .before .before .before .args .c) (c .before .before .before .before .before .args .at) (c .before .before .if1 .left) (c .before .past-order .ensures) (c .order-at .ensures)
+returns-2 c =
+    let start = c .before .before .before .before .before in
+    order-first (start .args .text .now) (start .args .c) (start .args .at) (c .before .before .if1 .left)
+    (c .before .past-order .ensures) (c .order-at .ensures)
 
 pub read-order-spec : {M : Type 1} → statement M
 read-order-spec = tie.close (tie.spec returns past-order-requires order-at-requires returns-2)

@@ -7,13 +7,17 @@ use Rattle.npy_header.proofs.read_shape.Lts as lts
 use Rattle.npy_header.proofs.tuple.Reads as tuple-reads
 
 returns : tie.Need-returns
-returns c = shape-again (c .before .before .before .args .text .now) (c .before .before .before .args .c) (c .before .before .before .args .at) (c .if1 .taken)
+returns c =
+    let start = c .before .before .before in
+    shape-again (start .args .text .now) (start .args .c) (start .args .at) (c .if1 .taken)
 
 tuple-requires : tie.Need-tuple-requires
 tuple-requires c κs = search needs
 
 returns-2 : tie.Need-returns-2
-returns-2 c = shape-first (c .before .before .before .before .before .args .text .now) (c .before .before .before .before .before .args .c) (c .before .before .before .before .before .args .at) (c .before .before .if1 .left) (c .before .tuple .ensures)
+returns-2 c =
+    let start = c .before .before .before .before .before in
+    shape-first (start .args .text .now) (start .args .c) (start .args .at) (c .before .before .if1 .left) (c .before .tuple .ensures)
 
 pub read-shape-spec : {M : Type 1} → statement M
 read-shape-spec = tie.close (tie.spec returns tuple-requires returns-2)

@@ -34,7 +34,12 @@ no-shape-requires c κs = search needs
 
 returns : tie.Need-returns
 unfolding passes
-returns c = tuple-none (c .before .before .before .before .before .before .before .args .text .now) (c .before .before .before .before .before .before .before .args .at) (then (strip isBlank) (c .before .before .before .before .before .eat-byte .ensures) (c .before .before .before .before .skip .ensures)) (c .before .before .before .byte-at .ensures) (c .before .before .if1 .taken) (c .before .eat-byte2 .ensures) (c .no-shape .ensures)
+returns c =
+    let start = c .before .before .before .before .before .before .before in
+    tuple-none (start .args .text .now) (start .args .at)
+    (then (strip isBlank) (c .before .before .before .before .before .eat-byte .ensures)
+    (c .before .before .before .before .skip .ensures)) (c .before .before .before .byte-at .ensures)
+    (c .before .before .if1 .taken) (c .before .eat-byte2 .ensures) (c .no-shape .ensures)
 
 no-shape-requires-2 : tie.Need-no-shape-requires-2
 no-shape-requires-2 c κs = search needs
@@ -53,7 +58,16 @@ more-numbers-requires c κs = search needs
 
 returns-2 : tie.Need-returns-2
 unfolding passes
-returns-2 c = tuple-some (c .before .before .before .before .before .before .before .before .before .before .args .text .now) (c .before .before .before .before .before .before .before .before .before .before .args .at) (then (strip isBlank) (c .before .before .before .before .before .before .before .before .eat-byte .ensures) (c .before .before .before .before .before .before .before .skip .ensures)) (c .before .before .before .before .before .before .byte-at .ensures) (c .before .before .before .before .before .if1 .left) (c .before .before .before .number-at .ensures) (c .before .before .push .ensures [] (c .before .before .before .before .no-shape2 .ensures)) (c .before .past-number .ensures) (c .more-numbers .ensures)
+returns-2 c =
+    let c8 = c .before .before .before .before .before .before .before .before in
+    let start = c8 .before .before in
+    tuple-some (start .args .text .now) (start .args .at)
+    (then (strip isBlank) (c8 .eat-byte .ensures)
+    (c .before .before .before .before .before .before .before .skip .ensures))
+    (c .before .before .before .before .before .before .byte-at .ensures)
+    (c .before .before .before .before .before .if1 .left) (c .before .before .before .number-at .ensures)
+    (c .before .before .push .ensures [] (c .before .before .before .before .no-shape2 .ensures))
+    (c .before .past-number .ensures) (c .more-numbers .ensures)
 
 pub tuple-spec : {M : Type 1} → statement M
 tuple-spec =

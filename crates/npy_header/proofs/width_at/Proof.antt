@@ -27,10 +27,18 @@ byte-at-requires-2 : tie.Need-byte-at-requires-2
 byte-at-requires-2 c κs = search needs
 
 returns : tie.Need-returns
-returns c = width-8 (c .before .before .before .before .before .before .before .args .text .now) (c .before .before .before .before .before .before .before .args .at) (c .before .before .before .before .before .byte-at .ensures) (then (eats (60 ∷ 102 ∷ [])) (c .before .before .before .before .eat-byte .ensures) (c .before .before .eat-word .ensures)) (c .before .byte-at2 .ensures) (c .if1 .taken)
+returns c =
+    let start = c .before .before .before .before .before .before .before in
+    width-8 (start .args .text .now) (start .args .at) (c .before .before .before .before .before .byte-at .ensures)
+    (then (eats (60 ∷ 102 ∷ [])) (c .before .before .before .before .eat-byte .ensures)
+    (c .before .before .eat-word .ensures)) (c .before .byte-at2 .ensures) (c .if1 .taken)
 
 returns-2 : tie.Need-returns-2
-returns-2 c = width-4 (c .before .before .before .before .before .before .before .args .text .now) (c .before .before .before .before .before .before .before .args .at) (c .before .before .before .before .before .byte-at .ensures) (then (eats (60 ∷ 102 ∷ [])) (c .before .before .before .before .eat-byte .ensures) (c .before .before .eat-word .ensures)) (c .before .byte-at2 .ensures) (c .if1 .left)
+returns-2 c =
+    let start = c .before .before .before .before .before .before .before in
+    width-4 (start .args .text .now) (start .args .at) (c .before .before .before .before .before .byte-at .ensures)
+    (then (eats (60 ∷ 102 ∷ [])) (c .before .before .before .before .eat-byte .ensures)
+    (c .before .before .eat-word .ensures)) (c .before .byte-at2 .ensures) (c .if1 .left)
 
 pub width-at-spec : {M : Type 1} → statement M
 width-at-spec =

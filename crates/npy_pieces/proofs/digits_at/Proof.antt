@@ -32,7 +32,10 @@ is-of-requires c κs = search needs
 
 returns : tie.Need-returns Inv-loop μ-loop
 unfolding passes
-returns c = counting-stop (c .before .before .before .before .before .before .args .text .now) (c .before .before .before .before .loop .inv) (c .before .before .before .loop-test .taken) (sym (c .before .is-of .ensures) ∙ not-true _ (c .if1 .taken))
+returns c =
+    counting-stop (c .before .before .before .before .before .before .args .text .now)
+    (c .before .before .before .before .loop .inv) (c .before .before .before .loop-test .taken)
+    (sym (c .before .is-of .ensures) ∙ not-true _ (c .if1 .taken))
 
 mul-capped : tie.Need-mul-capped Inv-loop μ-loop
 mul-capped c = omega (arith, c .before .before .before .before .loop .inv .small)
@@ -54,7 +57,12 @@ loop-less c = search needs
 
 loop-again : tie.Need-loop-again Inv-loop μ-loop
 unfolding passes
-loop-again c = counting-more (c .before .before .before .before .before .before .before .before .args .text .now) (c .before .before .before .before .before .before .loop .inv) (c .before .before .before .before .before .loop-test .taken) (sym (c .before .before .before .is-of .ensures) ∙ not-false _ (c .before .before .if1 .left)) (c .capped .ensures ∙ ap (λ (y : ℕ). cap (10 * c .before .before .before .before .before .before .loop .n + y)) (c .before .less-48 .ensures .0))
+loop-again c =
+    let c6 = c .before .before .before .before .before .before in
+    let start = c6 .before .before in
+    counting-more (start .args .text .now) (c6 .loop .inv) (c .before .before .before .before .before .loop-test .taken)
+    (sym (c .before .before .before .is-of .ensures) ∙ not-false _ (c .before .before .if1 .left))
+    (c .capped .ensures ∙ ap (λ (y : ℕ). cap (10 * c6 .loop .n + y)) (c .before .less-48 .ensures .0))
 
 returns-2 : tie.Need-returns-2 Inv-loop μ-loop
 returns-2 c = counting-end (c .before .before .before .args .text .now) (c .before .loop .inv) (c .loop-test .left)

@@ -12,10 +12,14 @@ add-result : tie.Need-add-result
 add-result c = search needs
 
 returns : tie.Need-returns
-returns c = eat-here (c .before .before .before .args .text .now) (c .before .before .before .args .at) (c .before .before .before .args .x) (c .before .before .if1 .taken) (c .if2 .taken)
+returns c =
+    let start = c .before .before .before in
+    eat-here (start .args .text .now) (start .args .at) (start .args .x) (c .before .before .if1 .taken) (c .if2 .taken)
 
 returns-2 : tie.Need-returns-2
-returns-2 c = eat-other (c .before .before .before .args .text .now) (c .before .before .before .args .at) (c .before .before .before .args .x) (c .before .before .if1 .taken) (c .if2 .left)
+returns-2 c =
+    let start = c .before .before .before in
+    eat-other (start .args .text .now) (start .args .at) (start .args .x) (c .before .before .if1 .taken) (c .if2 .left)
 
 returns-3 : tie.Need-returns-3
 returns-3 c = eat-past (c .before .args .text .now) (c .before .args .at) (c .before .args .x) (c .if1 .left)

@@ -16,11 +16,23 @@ returns-2 c = rw (ne-eqb (c .before .before .args .class) 0 (c .before .if1 .lef
 
 returns-3 : tie.Need-returns-3
 unfolding passes isSpace
-returns-3 c = rw (ne-eqb (c .before .before .before .args .class) 0 (c .before .before .if1 .left), ne-eqb (c .before .before .before .args .class) 1 (c .before .if2 .left), eq-eqb (c .before .before .before .args .class) 2 (c .if3 .taken))
+returns-3 c =
+    let start = c .before .before .before in
+    rw (
+      ne-eqb (start .args .class) 0 (c .before .before .if1 .left),
+      ne-eqb (start .args .class) 1 (c .before .if2 .left),
+      eq-eqb (start .args .class) 2 (c .if3 .taken),
+    )
 
 returns-4 : tie.Need-returns-4
 unfolding passes isDigit
-returns-4 c = rw (ne-eqb (c .before .before .before .args .class) 0 (c .before .before .if1 .left), ne-eqb (c .before .before .before .args .class) 1 (c .before .if2 .left), ne-eqb (c .before .before .before .args .class) 2 (c .if3 .left))
+returns-4 c =
+    let start = c .before .before .before in
+    rw (
+      ne-eqb (start .args .class) 0 (c .before .before .if1 .left),
+      ne-eqb (start .args .class) 1 (c .before .if2 .left),
+      ne-eqb (start .args .class) 2 (c .if3 .left),
+    )
 
 pub is-of-spec : {M : Type 1} → statement M
 is-of-spec = tie.close (tie.spec returns returns-2 returns-3 returns-4)

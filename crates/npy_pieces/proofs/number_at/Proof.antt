@@ -11,7 +11,9 @@ shared-slice-read-b : tie.Need-shared-slice-read-b
 shared-slice-read-b c = search needs
 
 returns : tie.Need-returns
-returns c = value-nought (c .before .before .before .before .args .text .now) (c .before .before .before .before .args .at) (c .before .before .if1 .taken) (c .if2 .taken)
+returns c =
+    let start = c .before .before .before .before in
+    value-nought (start .args .text .now) (start .args .at) (c .before .before .if1 .taken) (c .if2 .taken)
 
 add-digits-at : tie.Need-add-digits-at
 add-digits-at c = search needs
@@ -23,7 +25,10 @@ digits-at-requires : tie.Need-digits-at-requires
 digits-at-requires c κs = search needs
 
 returns-2 : tie.Need-returns-2
-returns-2 c = value-digits (c .before .before .before .before .before .before .args .text .now) (c .before .before .before .before .before .before .args .at) (c .before .before .before .before .if1 .taken) (c .before .before .if2 .left) (c .before .less-48 .ensures .0) (c .digits-at .ensures)
+returns-2 c =
+    let start = c .before .before .before .before .before .before in
+    value-digits (start .args .text .now) (start .args .at) (c .before .before .before .before .if1 .taken)
+    (c .before .before .if2 .left) (c .before .less-48 .ensures .0) (c .digits-at .ensures)
 
 returns-3 : tie.Need-returns-3
 returns-3 c = value-none (c .before .before .args .text .now) (c .before .before .args .at) (c .if1 .left)

@@ -16,7 +16,9 @@ add-result : tie.Need-add-result
 add-result c = search needs
 
 returns : tie.Need-returns
-returns c = past-nought (c .before .before .before .before .args .text .now) (c .before .before .before .before .args .at) (c .before .before .if1 .taken) (c .if2 .taken)
+returns c =
+    let start = c .before .before .before .before in
+    past-nought (start .args .text .now) (start .args .at) (c .before .before .if1 .taken) (c .if2 .taken)
 
 is-of-requires : tie.Need-is-of-requires
 is-of-requires c κs = search needs
@@ -29,11 +31,18 @@ skip-requires c κs = search needs
 
 returns-2 : tie.Need-returns-2
 unfolding passes
-returns-2 c = past-digits (c .before .before .before .before .before .before .before .args .text .now) (c .before .before .before .before .before .before .before .args .at) (c .before .before .before .before .before .if1 .taken) (c .before .before .before .if2 .left) (sym (c .before .before .is-of .ensures) ∙ c .before .if3 .taken) (c .skip .ensures)
+returns-2 c =
+    let start = c .before .before .before .before .before .before .before in
+    past-digits (start .args .text .now) (start .args .at) (c .before .before .before .before .before .if1 .taken)
+    (c .before .before .before .if2 .left) (sym (c .before .before .is-of .ensures) ∙ c .before .if3 .taken)
+    (c .skip .ensures)
 
 returns-3 : tie.Need-returns-3
 unfolding passes
-returns-3 c = past-other (c .before .before .before .before .before .before .args .text .now) (c .before .before .before .before .before .before .args .at) (c .before .before .before .before .if1 .taken) (c .before .before .if2 .left) (sym (c .before .is-of .ensures) ∙ c .if3 .left)
+returns-3 c =
+    let start = c .before .before .before .before .before .before in
+    past-other (start .args .text .now) (start .args .at) (c .before .before .before .before .if1 .taken)
+    (c .before .before .if2 .left) (sym (c .before .is-of .ensures) ∙ c .if3 .left)
 
 returns-4 : tie.Need-returns-4
 returns-4 c = past-none (c .before .before .args .text .now) (c .before .before .args .at) (c .if1 .left)

@@ -21,7 +21,9 @@ returns : tie.Need-returns
 returns c = start-other (c .before .before .before .before .args .file .now) (c .before .starts-with .ensures) (not-true _ (c .if1 .taken))
 
 returns-2 : tie.Need-returns-2
-returns-2 c = start-short (c .before .before .before .before .before .args .file .now) (c .before .before .starts-with .ensures) (not-false _ (c .before .if1 .left)) (c .if2 .taken)
+returns-2 c =
+    start-short (c .before .before .before .before .before .args .file .now) (c .before .before .starts-with .ensures)
+    (not-false _ (c .before .if1 .left)) (c .if2 .taken)
 
 little-2-requires : tie.Need-little-2-requires
 little-2-requires c κs = search needs
@@ -30,10 +32,16 @@ add-end : tie.Need-add-end
 add-end c = search needs
 
 returns-3 : tie.Need-returns-3
-returns-3 c = start-cut (c .before .before .before .before .before .before .before .args .file .now) (c .before .before .before .before .starts-with .ensures) (not-false _ (c .before .before .before .if1 .left)) (ap (λ (x : ℕ). 10 + x) (c .before .little-2 .ensures .0)) (c .before .before .if2 .left) (c .if3 .taken)
+returns-3 c =
+    start-cut (c .before .before .before .before .before .before .before .args .file .now)
+    (c .before .before .before .before .starts-with .ensures) (not-false _ (c .before .before .before .if1 .left))
+    (ap (λ (x : ℕ). 10 + x) (c .before .little-2 .ensures .0)) (c .before .before .if2 .left) (c .if3 .taken)
 
 returns-4 : tie.Need-returns-4
-returns-4 c = start-here (c .before .before .before .before .before .before .before .args .file .now) (c .before .before .before .before .starts-with .ensures) (not-false _ (c .before .before .before .if1 .left)) (ap (λ (x : ℕ). 10 + x) (c .before .little-2 .ensures .0)) (c .before .before .if2 .left) (c .if3 .left)
+returns-4 c =
+    start-here (c .before .before .before .before .before .before .before .args .file .now)
+    (c .before .before .before .before .starts-with .ensures) (not-false _ (c .before .before .before .if1 .left))
+    (ap (λ (x : ℕ). 10 + x) (c .before .little-2 .ensures .0)) (c .before .before .if2 .left) (c .if3 .left)
 
 pub data-start-spec : {M : Type 1} → statement M
 data-start-spec =

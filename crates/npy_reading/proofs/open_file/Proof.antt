@@ -27,7 +27,12 @@ read-header-requires : tie.Need-read-header-requires
 read-header-requires c κs = search needs
 
 returns-2 : tie.Need-returns-2
-returns-2 c = opens-found (c .before .before .before .before .before .before .before .before .before .args .file .now) (begun (c .before .before .before .before .before .before .before .before .before .args .file .now) (c .before .before .before .before .before .before .before .data-start .ensures) (c .before .before .before .before .before .before .if1 .left)) (c .before .before .before .before .read-header .ensures)
+returns-2 c =
+    let start = c .before .before .before .before .before .before .before .before .before in
+    opens-found (start .args .file .now) (begun (start .args .file .now)
+    (c .before .before .before .before .before .before .before .data-start .ensures)
+    (c .before .before .before .before .before .before .if1 .left))
+    (c .before .before .before .before .read-header .ensures)
 
 pub open-file-spec : {M : Type 1} → statement M
 open-file-spec =

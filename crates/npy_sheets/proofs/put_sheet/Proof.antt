@@ -14,7 +14,14 @@ put-line-requires : tie.Need-put-line-requires
 put-line-requires c κs = search needs
 
 put-floats-requires : tie.Need-put-floats-requires
-put-floats-requires c κs = omega (arith, put-len (c .before .before .before .put-line .ensures), c .before .before .before .put-line .ensures .behind, length-line (c .before .before .before .before .before .before .before .args .head))
+put-floats-requires c κs =
+    let c3 = c .before .before .before in
+    omega (
+      arith,
+      put-len (c3 .put-line .ensures),
+      c3 .put-line .ensures .behind,
+      length-line (c .before .before .before .before .before .before .before .args .head),
+    )
 
 same-length : tie.Need-same-length
 same-length c = search needs

@@ -25,16 +25,31 @@ header-of-requires : tie.Need-header-of-requires
 header-of-requires c κs = search needs
 
 stored-of-requires : tie.Need-stored-of-requires
-stored-of-requires c κs = done-ruled _ (c .before .before .before .before .before .before .read .ensures) (c .before .before .head .given .1) (c .header-of .ensures)
+stored-of-requires c κs =
+    done-ruled _ (c .before .before .before .before .before .before .read .ensures)
+    (c .before .before .head .given .1) (c .header-of .ensures)
 
 slice-reshare-prefix-put-sheet : tie.Need-slice-reshare-prefix-put-sheet
-slice-reshare-prefix-put-sheet c = let k = done-small _ (c .before .before .before .before .before .before .before .read .ensures) (c .before .before .before .head .given .1) (c .before .header-of .ensures) (c .stored-of .ensures) in omega arith
+slice-reshare-prefix-put-sheet c = let k =
+    done-small _ (c .before .before .before .before .before .before .before .read .ensures)
+    (c .before .before .before .head .given .1) (c .before .header-of .ensures) (c .stored-of .ensures) in
+    omega arith
 
 slice-aggregate-put-sheet : tie.Need-slice-aggregate-put-sheet
-slice-aggregate-put-sheet c = let k = done-small _ (c .before .before .before .before .before .before .before .before .read .ensures) (c .before .before .before .before .head .given .1) (c .before .before .header-of .ensures) (c .before .stored-of .ensures) in sym (length-take-le _ _ (omega arith))
+slice-aggregate-put-sheet c =
+    let c8 = c .before .before .before .before .before .before .before .before in
+    let k =
+    done-small _ (c8 .read .ensures) (c .before .before .before .before .head .given .1)
+    (c .before .before .header-of .ensures) (c .before .stored-of .ensures) in
+    sym (length-take-le _ _ (omega arith))
 
 put-sheet-requires : tie.Need-put-sheet-requires
-put-sheet-requires c κs = let k = done-small _ (c .before .before .before .before .before .before .before .before .before .read .ensures) (c .before .before .before .before .before .head .given .1) (c .before .before .before .header-of .ensures) (c .before .before .stored-of .ensures) in omega (arith, length-take-le (c .before .before .stored-of .result) (c .before .before .before .before .before .before .before .before .before .read .last .1 .0) (omega arith))
+put-sheet-requires c κs =
+    let c9 = c .before .before .before .before .before .before .before .before .before in
+    let k =
+    done-small _ (c9 .read .ensures) (c .before .before .before .before .before .head .given .1)
+    (c .before .before .before .header-of .ensures) (c .before .before .stored-of .ensures) in
+    omega (arith, length-take-le (c .before .before .stored-of .result) (c9 .read .last .1 .0) (omega arith))
 
 enum-known-e : tie.Need-enum-known-e
 enum-known-e c = search needs
@@ -49,7 +64,13 @@ same-length-2 : tie.Need-same-length-2
 same-length-2 c = search needs
 
 returns : tie.Need-returns
-returns c = shown-done _ (c .before .before .before .before .before .before .before .before .before .before .before .before .read .ensures) (c .before .before .before .before .before .before .before .before .head .given .1) (c .before .before .before .before .before .stored-of .ensures ∙ ap stored (c .before .before .before .before .before .before .header-of .ensures)) (c .before .before .put-sheet .ensures)
+returns c =
+    let c8 = c .before .before .before .before .before .before .before .before in
+    let c12 = c8 .before .before .before .before in
+    shown-done _ (c12 .read .ensures) (c8 .head .given .1)
+    (c .before .before .before .before .before .stored-of .ensures
+    ∙ ap stored (c .before .before .before .before .before .before .header-of .ensures))
+    (c .before .before .put-sheet .ensures)
 
 same-length-3 : tie.Need-same-length-3
 same-length-3 c = search needs
@@ -58,7 +79,9 @@ same-length-4 : tie.Need-same-length-4
 same-length-4 c = search needs
 
 returns-2 : tie.Need-returns-2
-returns-2 c = shown-refused _ (c .before .before .before .before .before .before .before .before .before .read .ensures) (c .before .before .before .before .before .e .given .1) (c .before .before .put-refusal .ensures)
+returns-2 c =
+    let c9 = c .before .before .before .before .before .before .before .before .before in
+    shown-refused _ (c9 .read .ensures) (c .before .before .before .before .before .e .given .1) (c .before .before .put-refusal .ensures)
 
 pub show-spec : {M : Type 1} → statement M
 show-spec =

@@ -30,7 +30,10 @@ same-length c = search needs
 
 returns : tie.Need-returns
 unfolding bytes
-returns c = dict-put _ (c .before .before .before .before .before .before .before .before .before .before .before .put-bytes .ensures) (c .before .before .before .before .before .before .before .put-tuple .ensures) (c .before .before .put-bytes2 .ensures)
+returns c =
+    let c11 = c .before .before .before .before .before .before .before .before .before .before .before in
+    dict-put _ (c11 .put-bytes .ensures) (c .before .before .before .before .before .before .before .put-tuple .ensures)
+    (c .before .before .put-bytes2 .ensures)
 
 pub put-dict-spec : {M : Type 1} → statement M
 put-dict-spec =

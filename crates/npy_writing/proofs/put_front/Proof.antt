@@ -30,13 +30,32 @@ put-spaces-requires : tie.Need-put-spaces-requires
 put-spaces-requires c κs = search needs
 
 put-byte-requires : tie.Need-put-byte-requires
-put-byte-requires c κs = omega (arith, put-len (c .before .before .before .before .before .before .before .before .before .before .before .put-bytes .ensures), c .before .before .before .before .before .before .before .before .before .before .before .put-bytes .ensures .behind, c .before .before .before .before .before .before .before .put-dict .ensures .most, put-len (c .before .before .before .before .before .before .before .put-dict .ensures .put), c .before .before .before .put-spaces .ensures .behind, put-len (c .before .before .before .put-spaces .ensures), length-table {A = ℕ} (λ k. 32) (127 - c .before .before .before .before .before .before .before .put-dict .result), c .before .before .before .before .before .before .before .before .before .before .before .before .before .before .before .pre .1)
+put-byte-requires c κs =
+    let c3 = c .before .before .before in
+    let c7 = c3 .before .before .before .before in
+    let c11 = c7 .before .before .before .before in
+    let start = c11 .before .before .before .before in
+    omega (
+      arith,
+      put-len (c11 .put-bytes .ensures),
+      c11 .put-bytes .ensures .behind,
+      c7 .put-dict .ensures .most,
+      put-len (c7 .put-dict .ensures .put),
+      c3 .put-spaces .ensures .behind,
+      put-len (c3 .put-spaces .ensures),
+      length-table {A = ℕ} (λ k. 32) (127 - c7 .put-dict .result),
+      start .pre .1,
+    )
 
 same-length : tie.Need-same-length
 same-length c = search needs
 
 returns : tie.Need-returns
-returns c = front-put _ (c .before .before .before .before .before .before .before .before .before .before .before .before .before .before .put-bytes .ensures) (c .before .before .before .before .before .before .before .before .before .before .put-dict .ensures) (c .before .before .before .before .before .before .put-spaces .ensures) (c .before .before .put-byte .ensures)
+returns c =
+    let c10 = c .before .before .before .before .before .before .before .before .before .before in
+    let c14 = c10 .before .before .before .before in
+    front-put _ (c14 .put-bytes .ensures) (c10 .put-dict .ensures)
+    (c .before .before .before .before .before .before .put-spaces .ensures) (c .before .before .put-byte .ensures)
 
 pub put-front-spec : {M : Type 1} → statement M
 put-front-spec =

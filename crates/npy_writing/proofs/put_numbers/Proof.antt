@@ -17,16 +17,30 @@ array-read-put-decimal : tie.Need-array-read-put-decimal
 array-read-put-decimal c = search needs
 
 put-decimal-requires : tie.Need-put-decimal-requires
-put-decimal-requires c κs = omega (arith, two-digits _ (c .before .before .before .pre .0 .small 0), c .before .before .before .pre .1)
+put-decimal-requires c κs =
+    let start = c .before .before .before in
+    omega (arith, two-digits _ (start .pre .0 .small 0), start .pre .1)
 
 put-rest-requires : tie.Need-put-rest-requires
-put-rest-requires c κs = (c .before .before .before .before .before .before .before .pre .0, (omega (arith, c .before .before .before .before .before .if1 .left), omega (arith, two-digits _ (c .before .before .before .before .before .before .before .pre .0 .small 0), c .before .before .before .put-decimal .ensures .behind, put-len (c .before .before .before .put-decimal .ensures), c .before .before .before .before .before .before .before .pre .1)))
+put-rest-requires c κs =
+    let c3 = c .before .before .before in
+    let start = c3 .before .before .before .before in (
+      start .pre .0,
+      (
+        omega (arith, c .before .before .before .before .before .if1 .left),
+        omega (arith, two-digits _ (start .pre .0 .small 0), c3 .put-decimal .ensures .behind, put-len (c3 .put-decimal .ensures), start .pre .1),
+      ),
+    )
 
 same-length : tie.Need-same-length
 same-length c = search needs
 
 returns-2 : tie.Need-returns-2
-returns-2 c = numbers-put (c .before .before .before .before .before .before .before .before .before .before .pre .0) _ _ (omega (arith, c .before .before .before .before .before .before .before .before .if1 .left)) (c .before .before .before .before .before .before .put-decimal .ensures) (c .before .before .put-rest .ensures)
+returns-2 c =
+    let c8 = c .before .before .before .before .before .before .before .before in
+    let start = c8 .before .before in
+    numbers-put (start .pre .0) _ _ (omega (arith, c8 .if1 .left))
+    (c .before .before .before .before .before .before .put-decimal .ensures) (c .before .before .put-rest .ensures)
 
 pub put-numbers-spec : {M : Type 1} → statement M
 put-numbers-spec =

@@ -23,7 +23,9 @@ slice-aggregate-put-bytes : tie.Need-slice-aggregate-put-bytes Inv-loop μ-loop
 slice-aggregate-put-bytes c = search needs
 
 put-bytes-requires : tie.Need-put-bytes-requires Inv-loop μ-loop
-put-bytes-requires c κs = omega (arith, c .before .before .before .loop .inv .room, c .before .before .before .loop .inv .most, put-len (c .before .before .before .loop .inv .put), c .before .before .before .before .before .pre .0 .few)
+put-bytes-requires c κs =
+    let c3 = c .before .before .before in
+    omega (arith, c3 .loop .inv .room, c3 .loop .inv .most, put-len (c3 .loop .inv .put), c .before .before .before .before .before .pre .0 .few)
 
 mul-put-decimal : tie.Need-mul-put-decimal Inv-loop μ-loop
 mul-put-decimal c = omega arith
@@ -32,7 +34,19 @@ array-read-put-decimal : tie.Need-array-read-put-decimal Inv-loop μ-loop
 array-read-put-decimal c = omega (arith, c .before .before .before .before .before .before .before .before .pre .0 .few)
 
 put-decimal-requires : tie.Need-put-decimal-requires Inv-loop μ-loop
-put-decimal-requires c κs = omega (arith, c .before .before .before .before .before .before .before .loop .inv .room, put-len (c .before .before .before .before .before .before .before .loop .inv .put), put-len (c .before .before .before .put-bytes .ensures), c .before .before .before .put-bytes .ensures .behind, c .before .before .before .before .before .before .before .before .before .pre .0 .few, two-digits _ (c .before .before .before .before .before .before .before .before .before .pre .0 .small (c .before .before .before .before .before .before .before .loop .k)))
+put-decimal-requires c κs =
+    let c3 = c .before .before .before in
+    let c7 = c3 .before .before .before .before in
+    let start = c7 .before .before in
+    omega (
+      arith,
+      c7 .loop .inv .room,
+      put-len (c7 .loop .inv .put),
+      put-len (c3 .put-bytes .ensures),
+      c3 .put-bytes .ensures .behind,
+      start .pre .0 .few,
+      two-digits _ (start .pre .0 .small (c7 .loop .k)),
+    )
 
 add-k : tie.Need-add-k Inv-loop μ-loop
 add-k c = search needs
@@ -41,7 +55,13 @@ loop-less : tie.Need-loop-less Inv-loop μ-loop
 loop-less c = search needs
 
 loop-again : tie.Need-loop-again Inv-loop μ-loop
-loop-again c = rest-more (c .before .before .before .before .before .before .before .before .before .before .before .before .pre .0) _ _ (c .before .before .before .before .before .before .before .before .before .before .loop .inv) (c .before .before .before .before .before .before .before .before .before .loop-test .taken) (c .before .before .before .before .before .before .put-bytes .ensures) (c .before .before .put-decimal .ensures)
+loop-again c =
+    let c9 = c .before .before .before .before .before .before .before .before .before in
+    let c10 = c9 .before in
+    let start = c10 .before .before in
+    rest-more (start .pre .0) _ _ (c10 .loop .inv) (c9 .loop-test .taken)
+    (c .before .before .before .before .before .before .put-bytes .ensures)
+    (c .before .before .put-decimal .ensures)
 
 same-length : tie.Need-same-length Inv-loop μ-loop
 same-length c = put-len (c .before .loop .inv .put)

@@ -22,13 +22,33 @@ put-closing-requires : tie.Need-put-closing-requires
 put-closing-requires c κs = search needs
 
 put-byte-requires-2 : tie.Need-put-byte-requires-2
-put-byte-requires-2 c κs = omega (arith, c .before .before .before .before .before .before .before .before .before .before .before .put-byte .ensures .behind, put-len (c .before .before .before .before .before .before .before .before .before .before .before .put-byte .ensures), c .before .before .before .before .before .before .before .put-numbers .ensures .most, put-len (c .before .before .before .before .before .before .before .put-numbers .ensures .put), c .before .before .before .put-closing .ensures (c .before .before .before .before .before .before .before .before .before .before .before .before .before .before .args .n) (c .before .before .before .before .before .before .before .before .before .before .before .before .before .before .pre .0 .long) (c .before .before .before .before .before .before .before .before .before .before .before .before .before .before .pre .0 .few) .most, put-len (c .before .before .before .put-closing .ensures (c .before .before .before .before .before .before .before .before .before .before .before .before .before .before .args .n) (c .before .before .before .before .before .before .before .before .before .before .before .before .before .before .pre .0 .long) (c .before .before .before .before .before .before .before .before .before .before .before .before .before .before .pre .0 .few) .put), c .before .before .before .before .before .before .before .before .before .before .before .before .before .before .pre .1)
+put-byte-requires-2 c κs =
+    let c3 = c .before .before .before in
+    let c7 = c3 .before .before .before .before in
+    let c11 = c7 .before .before .before .before in
+    let start = c11 .before .before .before in
+    omega (
+      arith,
+      c11 .put-byte .ensures .behind,
+      put-len (c11 .put-byte .ensures),
+      c7 .put-numbers .ensures .most,
+      put-len (c7 .put-numbers .ensures .put),
+      c3 .put-closing .ensures (start .args .n) (start .pre .0 .long) (start .pre .0 .few) .most,
+      put-len (c3 .put-closing .ensures (start .args .n) (start .pre .0 .long) (start .pre .0 .few) .put),
+      start .pre .1,
+    )
 
 same-length : tie.Need-same-length
 same-length c = search needs
 
 returns : tie.Need-returns
-returns c = tuple-put _ (c .before .before .before .before .before .before .before .before .before .before .before .before .before .before .put-byte .ensures) (c .before .before .before .before .before .before .before .before .before .before .put-numbers .ensures) (c .before .before .before .before .before .before .put-closing .ensures (c .before .before .before .before .before .before .before .before .before .before .before .before .before .before .before .before .before .args .n) (c .before .before .before .before .before .before .before .before .before .before .before .before .before .before .before .before .before .pre .0 .long) (c .before .before .before .before .before .before .before .before .before .before .before .before .before .before .before .before .before .pre .0 .few)) (c .before .before .put-byte2 .ensures)
+returns c =
+    let c10 = c .before .before .before .before .before .before .before .before .before .before in
+    let c14 = c10 .before .before .before .before in
+    let start = c14 .before .before .before in
+    tuple-put _ (c14 .put-byte .ensures) (c10 .put-numbers .ensures)
+    (c .before .before .before .before .before .before .put-closing .ensures (start .args .n) (start .pre .0 .long)
+    (start .pre .0 .few)) (c .before .before .put-byte2 .ensures)
 
 pub put-tuple-spec : {M : Type 1} → statement M
 put-tuple-spec =

@@ -42,14 +42,26 @@ sub-put-verdict : tie.Need-sub-put-verdict
 sub-put-verdict c = search needs
 
 put-verdict-requires : tie.Need-put-verdict-requires
-put-verdict-requires c κs = let h : c .before .before .before .before .before .before .before .before .before .before .before .before .before .before .before .before .before .before .before .before .before .before .before .before .before .before .before .args .n ≤ 64 = c .before .before .before .before .before .before .before .before .before .before .before .before .before .before .before .before .before .before .before .before .before .before .before .before .before .before .before .pre .1 in omega (arith, h)
+put-verdict-requires c κs =
+    let c12 = c .before .before .before .before .before .before .before .before .before .before .before .before in
+    let c24 = c12 .before .before .before .before .before .before .before .before .before .before .before .before in
+    let start = c24 .before .before .before in
+    let h : start .args .n ≤ 64 = start .pre .1 in omega (arith, h)
 
 same-length : tie.Need-same-length
 same-length c = search needs
 
 returns : tie.Need-returns
 unfolding limitsWith bytes
-returns c = puts-then (c .before .before .before .before .before .before .before .before .before .before .before .before .before .before .before .before .before .before .before .before .before .before .before .put .ensures) (puts-then (c .before .before .before .before .before .before .before .before .before .before .before .before .before .before .before .before .before .before .put2 .ensures) (puts-then (c .before .before .before .before .before .before .before .before .before .before .before .before .before .before .put-places .ensures) (puts-then (c .before .before .before .before .before .before .before .before .before .before .put-cuts .ensures) (puts-then (c .before .before .before .before .before .before .put-ends .ensures) (c .before .before .put-verdict .ensures)))))
+returns c =
+    let c10 = c .before .before .before .before .before .before .before .before .before .before in
+    let c14 = c10 .before .before .before .before in
+    let c18 = c14 .before .before .before .before in
+    let c23 = c18 .before .before .before .before .before in
+    puts-then (c23 .put .ensures) (puts-then (c18 .put2 .ensures)
+    (puts-then (c14 .put-places .ensures) (puts-then (c10 .put-cuts .ensures)
+    (puts-then (c .before .before .before .before .before .before .put-ends .ensures)
+    (c .before .before .put-verdict .ensures)))))
 
 pub put-limits-with-spec : {M : Type 1} → statement M
 put-limits-with-spec =

@@ -19,7 +19,12 @@ same-length : tie.Need-same-length
 same-length c = search needs
 
 returns : tie.Need-returns
-returns c = (c .put-written .ensures .0 ∙ ap wordOfWritten (c .before .before .before .before .write .ensures .0), (c .before .before .before .before .write .ensures .1, c .put-written .ensures .1 ∙ ap (λ (x : Written). lengthAfter x (c .before .before .before .before .before .before .before .before .args .written .now)) (c .before .before .before .before .write .ensures .0)))
+returns c =
+    let c4 = c .before .before .before .before in
+    let start = c4 .before .before .before .before in (
+      c .put-written .ensures .0 ∙ ap wordOfWritten (c4 .write .ensures .0),
+      (c4 .write .ensures .1, c .put-written .ensures .1 ∙ ap (λ (x : Written). lengthAfter x (start .args .written .now)) (c4 .write .ensures .0)),
+    )
 
 pub taylor-npy-write-spec : {M : Type 1} → statement M
 taylor-npy-write-spec =

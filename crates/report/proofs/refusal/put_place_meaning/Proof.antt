@@ -30,7 +30,9 @@ unfolding placeMeanings bytes
 returns-5 c = rw (c .before .before .before .before .before .match .keys5) (c .before .before .put5 .ensures)
 
 returns-6 : tie.Need-returns-6
-returns-6 c = rw (← no-place-meaning _ (c .match .rest .0 .0 .0 .0 .1) (c .match .rest .0 .0 .0 .1) (c .match .rest .0 .0 .1) (c .match .rest .0 .1) (c .match .rest .1)) (puts-none _ _)
+returns-6 c =
+    rw (← no-place-meaning _ (c .match .rest .0 .0 .0 .0 .1) (c .match .rest .0 .0 .0 .1) (c .match .rest .0 .0 .1)
+    (c .match .rest .0 .1) (c .match .rest .1)) (puts-none _ _)
 
 pub put-place-meaning-spec : {M : Type 1} → statement M
 put-place-meaning-spec =

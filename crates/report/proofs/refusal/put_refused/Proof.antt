@@ -12,7 +12,9 @@ use Rattle.report_lines.proofs.put.put.Reads as put-reads
 use Rattle.sheet.proofs.print.put_refusal.Reads as put-refusal-reads
 
 slice-aggregate-put : tie.Need-slice-aggregate-put
-slice-aggregate-put c = sym (length-take-le _ _ (omega (arith, c .before .before .put-refusal .ensures .fits, put-len (c .before .before .put-refusal .ensures))))
+slice-aggregate-put c =
+    sym (length-take-le _ _
+    (omega (arith, c .before .before .put-refusal .ensures .fits, put-len (c .before .before .put-refusal .ensures))))
 
 returns : tie.Need-returns
 returns c = rw (put-taken (c .before .before .before .before .before .before .put-refusal .ensures)) at (c .before .before .put .ensures)

@@ -10,7 +10,9 @@ use Rattle.report_lines.proofs.put.tell.Reads as tell-reads
 
 returns : tie.Need-returns
 unfolding bytes
-returns c = rw (c .before .before .before .before .before .before .before .before .before .before .if1 .taken) (puts-then (c .before .before .before .before .before .before .before .tell .ensures) (c .before .before .put .ensures))
+returns c =
+    let c10 = c .before .before .before .before .before .before .before .before .before .before in
+    rw (c10 .if1 .taken) (puts-then (c .before .before .before .before .before .before .before .tell .ensures) (c .before .before .put .ensures))
 
 returns-2 : tie.Need-returns-2
 returns-2 c = rw (c .if1 .left) (puts-none _ _)

@@ -7,7 +7,9 @@ returns : tie.Need-returns
 returns c = fills-never (c .before .before .args .n) (c .before .before .args .from) (c .before .before .args .next) _ (c .if1 .taken)
 
 returns-2 : tie.Need-returns-2
-returns-2 c = fills-none (c .before .before .before .args .n) (c .before .before .before .args .from) (c .before .before .before .args .next) _ (c .before .if1 .left) (c .if2 .taken)
+returns-2 c =
+    let start = c .before .before .before in
+    fills-none (start .args .n) (start .args .from) (start .args .next) _ (c .before .if1 .left) (c .if2 .taken)
 
 sub-put-blanks : tie.Need-sub-put-blanks
 sub-put-blanks c = search needs
@@ -19,7 +21,10 @@ same-length : tie.Need-same-length
 same-length c = search needs
 
 returns-3 : tie.Need-returns-3
-returns-3 c = fills-blanks (c .before .before .before .before .before .before .before .args .n) (c .before .before .before .before .before .before .before .args .from) (c .before .before .before .before .before .before .before .args .next) _ _ _ (c .before .before .before .before .before .if1 .left) (c .before .before .put-blanks .ensures)
+returns-3 c =
+    let start = c .before .before .before .before .before .before .before in
+    fills-blanks (start .args .n) (start .args .from) (start .args .next) _ _ _
+    (c .before .before .before .before .before .if1 .left) (c .before .before .put-blanks .ensures)
 
 pub fill-spec : {M : Type 1} → statement M
 fill-spec =

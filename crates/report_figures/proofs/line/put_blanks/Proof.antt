@@ -21,7 +21,14 @@ unfolding table
 loop-holds c = record { most = omega arith; len = refl; put = puts-none _ _ }
 
 loop-again : tie.Need-loop-again Inv-loop μ-loop
-loop-again c = record { most = omega arith; len = c .before .before .put .kept .1 .1 .0 ∙ c .before .before .before .before .before .before .loop .inv .len; put = puts-blank _ (c .before .before .before .before .before .before .loop .inv .put) (c .before .before .put .ensures) }
+loop-again c =
+    let c6 = c .before .before .before .before .before .before in
+    record {
+      most = omega arith;
+      len = c .before .before .put .kept .1 .1 .0
+          ∙ c6 .loop .inv .len;
+      put = puts-blank _ (c6 .loop .inv .put) (c .before .before .put .ensures);
+    }
 
 same-length : tie.Need-same-length Inv-loop μ-loop
 same-length c = c .before .loop .inv .len

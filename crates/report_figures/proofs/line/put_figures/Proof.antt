@@ -17,14 +17,23 @@ put-heading-requires : tie.Need-put-heading-requires
 put-heading-requires c κs = search needs
 
 put-lines-requires : tie.Need-put-lines-requires
-put-lines-requires c κs = rw (c .before .before .before .before .before .header-of .ensures) (word-lengths (c .before .before .before .before .before .before .before .before .args .header))
+put-lines-requires c κs =
+    let start = c .before .before .before .before .before .before .before .before in
+    rw (c .before .before .before .before .before .header-of .ensures) (word-lengths (start .args .header))
 
 same-length : tie.Need-same-length
 same-length c = search needs
 
 returns : tie.Need-returns
 unfolding figuresText
-returns c = puts-is (ap (λ (h : Header). figuresText h (c .before .before .before .before .before .before .before .before .before .before .before .args .xs .now)) (sym (c .before .before .before .before .before .before .before .before .header-of .ensures))) (puts-then (c .before .before .before .before .before .before .put-heading .ensures) (puts-is (ap (joined (figureText (c .before .before .before .before .before .before .before .before .header-of .result) (c .before .before .before .before .before .before .before .before .before .before .before .args .xs .now))) (ap (λ (h : Header). stored h) (c .before .before .before .before .before .before .before .before .header-of .ensures) ∙ sym ((c .before .before .before .before .before .before .before .before .before .before .before) .pre))) (c .before .before .put-lines .ensures)))
+returns c =
+    let c8 = c .before .before .before .before .before .before .before .before in
+    let start = c8 .before .before .before in
+    puts-is (ap (λ (h : Header). figuresText h (start .args .xs .now)) (sym (c8 .header-of .ensures)))
+    (puts-then (c .before .before .before .before .before .before .put-heading .ensures)
+    (puts-is (ap (joined (figureText (c8 .header-of .result) (start .args .xs .now)))
+    (ap (λ (h : Header). stored h) (c8 .header-of .ensures) ∙ sym (start .pre)))
+    (c .before .before .put-lines .ensures)))
 
 pub put-figures-spec : {M : Type 1} → statement M
 put-figures-spec =

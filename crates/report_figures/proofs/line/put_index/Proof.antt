@@ -12,7 +12,14 @@ use Rattle.report_figures.proofs.line.put_index.Tie as tie
 
 returns : tie.Need-returns
 unfolding indexText bytes
-returns c = puts-then (c .before .before .before .before .before .before .before .before .before .before .before .put .ensures) (puts-then (puts-is (ap (λ (i : List ℕ). joined (partText (c .before .before .before .before .before .before .before .before .before .before .before .before .before .before .before .before .before .args .h .vars) i) 4) (sym (c .before .before .before .before .before .before .before .before .before .before .before .before .before .before .index-of .ensures))) (c .before .before .before .before .before .before .before .put-parts .ensures)) (c .before .before .put2 .ensures))
+returns c =
+    let c11 = c .before .before .before .before .before .before .before .before .before .before .before in
+    let c14 = c11 .before .before .before in
+    let start = c14 .before .before .before in
+    puts-then (c11 .put .ensures)
+    (puts-then (puts-is (ap (λ (i : List ℕ). joined (partText (start .args .h .vars) i) 4)
+    (sym (c14 .index-of .ensures))) (c .before .before .before .before .before .before .before .put-parts .ensures))
+    (c .before .before .put2 .ensures))
 
 pub put-index-spec : {M : Type 1} → statement M
 put-index-spec =

@@ -21,13 +21,22 @@ unfolding joined
 loop-holds c = record { most = omega arith; len = refl; put = puts-none _ _ }
 
 loop-again : tie.Need-loop-again Inv-loop μ-loop
-loop-again c = record { most = omega arith; len = c .before .before .put-figure .kept .1 .1 .1 .1 .0 ∙ c .before .before .before .before .before .loop .inv .len; put = puts-joined _ _ (c .before .before .before .before .before .loop .inv .put) (c .before .before .put-figure .ensures) }
+loop-again c =
+    let c5 = c .before .before .before .before .before in
+    record {
+      most = omega arith;
+      len = c .before .before .put-figure .kept .1 .1 .1 .1 .0
+          ∙ c5 .loop .inv .len;
+      put = puts-joined _ _ (c5 .loop .inv .put) (c .before .before .put-figure .ensures);
+    }
 
 same-length : tie.Need-same-length Inv-loop μ-loop
 same-length c = c .before .loop .inv .len
 
 returns : tie.Need-returns Inv-loop μ-loop
-returns c = putting-end (joined (figureText (c .before .before .before .before .args .h) (c .before .before .before .before .args .xs .now))) (c .before .loop .inv) (c .loop-test .left)
+returns c =
+    let start = c .before .before .before .before in
+    putting-end (joined (figureText (start .args .h) (start .args .xs .now))) (c .before .loop .inv) (c .loop-test .left)
 
 pub put-lines-spec : {M : Type 1} → statement M
 put-lines-spec =

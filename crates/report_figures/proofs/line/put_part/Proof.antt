@@ -8,7 +8,9 @@ use Rattle.report_figures.proofs.line.put_part.Tie as tie
 
 returns : tie.Need-returns
 unfolding partText bytes
-returns c = rw (lt-ltb _ _ (c .before .before .before .before .before .before .before .before .before .if1 .taken)) (puts-then (c .before .before .before .before .before .before .put-if .ensures) (c .before .before .put-number .ensures))
+returns c =
+    let c9 = c .before .before .before .before .before .before .before .before .before in
+    rw (lt-ltb _ _ (c9 .if1 .taken)) (puts-then (c .before .before .before .before .before .before .put-if .ensures) (c .before .before .put-number .ensures))
 
 returns-2 : tie.Need-returns-2
 unfolding partText

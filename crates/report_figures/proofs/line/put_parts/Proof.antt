@@ -20,13 +20,22 @@ unfolding joined
 loop-holds c = record { most = omega arith; len = refl; put = puts-none _ _ }
 
 loop-again : tie.Need-loop-again Inv-loop μ-loop
-loop-again c = record { most = omega arith; len = c .before .before .put-part .kept .1 .1 .1 .1 .0 ∙ c .before .before .before .before .before .loop .inv .len; put = puts-joined _ _ (c .before .before .before .before .before .loop .inv .put) (c .before .before .put-part .ensures) }
+loop-again c =
+    let c5 = c .before .before .before .before .before in
+    record {
+      most = omega arith;
+      len = c .before .before .put-part .kept .1 .1 .1 .1 .0
+          ∙ c5 .loop .inv .len;
+      put = puts-joined _ _ (c5 .loop .inv .put) (c .before .before .put-part .ensures);
+    }
 
 same-length : tie.Need-same-length Inv-loop μ-loop
 same-length c = c .before .loop .inv .len
 
 returns : tie.Need-returns Inv-loop μ-loop
-returns c = putting-end (joined (partText (c .before .before .before .args .vars) (c .before .before .before .args .i))) (c .before .loop .inv) (c .loop-test .left)
+returns c =
+    let start = c .before .before .before in
+    putting-end (joined (partText (start .args .vars) (start .args .i))) (c .before .loop .inv) (c .loop-test .left)
 
 pub put-parts-spec : {M : Type 1} → statement M
 put-parts-spec =

@@ -13,7 +13,9 @@ same-length : tie.Need-same-length
 same-length c = search needs
 
 returns : tie.Need-returns
-returns c = puts-filled (c .before .before .before .before .before .before .before .before .before .args .n) (c .before .before .before .before .before .before .put-index .ensures) (c .before .before .fill .ensures)
+returns c =
+    let start = c .before .before .before .before .before .before .before .before .before in
+    puts-filled (start .args .n) (c .before .before .before .before .before .before .put-index .ensures) (c .before .before .fill .ensures)
 
 pub put-place-spec : {M : Type 1} → statement M
 put-place-spec = tie.close (tie.spec put-index-requires fill-requires same-length returns)

@@ -7,7 +7,11 @@ use Rattle.report_figures.proofs.line.put_plain.Tie as tie
 
 returns : tie.Need-returns
 unfolding plainLine bytes
-returns c = puts-then (c .before .before .before .before .before .before .before .before .before .before .before .before .put-place .ensures) (puts-then (c .before .before .before .before .before .before .before .put-float .ensures) (c .before .before .put .ensures))
+returns c =
+    let c12 = c .before .before .before .before .before .before .before .before .before .before .before .before in
+    puts-then (c12 .put-place .ensures) (puts-then
+    (c .before .before .before .before .before .before .before .put-float .ensures)
+    (c .before .before .put .ensures))
 
 pub put-plain-spec : {M : Type 1} → statement M
 put-plain-spec =

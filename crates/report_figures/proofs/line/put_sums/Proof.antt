@@ -13,7 +13,21 @@ use Rattle.report_figures.proofs.line.put_sums.Tie as tie
 
 returns : tie.Need-returns
 unfolding sumLine tailOf bytes
-returns c = puts-then (c .before .before .before .before .before .before .before .before .before .before .before .before .before .before .before .before .before .before .before .before .before .before .before .put-place .ensures) (puts-then (c .before .before .before .before .before .before .before .before .before .before .before .before .before .before .before .before .before .before .put-column .ensures) (puts-then (puts-is (ap (λ (x : Float). filled 20 (numberText x)) (sym (c .before .before .before .before .before .before .before .before .before .before .before .before .before .before .before .sum-to .ensures))) (c .before .before .before .before .before .before .before .before .before .before .before .before .before .put-column2 .ensures)) (puts-then (puts-is (ap (λ (x : Float). numberText (sub binary64 oneF x)) (sym (c .before .before .before .before .before .before .before .before .before .sum-to2 .ensures ∙ ap (sumTo (c .before .before .before .before .before .before .before .before .before .before .before .before .before .before .before .before .before .before .before .before .before .before .before .before .before .before .before .before .args .xs .now)) (c .before .before .before .before .before .before .before .before .before .before .least .ensures)))) (c .before .before .before .before .before .before .before .put-float .ensures)) (c .before .before .put .ensures))))
+returns c =
+    let c9 = c .before .before .before .before .before .before .before .before .before in
+    let c10 = c9 .before in
+    let c13 = c10 .before .before .before in
+    let c15 = c13 .before .before in
+    let c18 = c15 .before .before .before in
+    let c23 = c18 .before .before .before .before .before in
+    let start = c23 .before .before .before .before .before in
+    puts-then (c23 .put-place .ensures) (puts-then (c18 .put-column .ensures)
+    (puts-then (puts-is (ap (λ (x : Float). filled 20 (numberText x)) (sym (c15 .sum-to .ensures)))
+    (c13 .put-column2 .ensures))
+    (puts-then (puts-is (ap (λ (x : Float). numberText (sub binary64 oneF x))
+    (sym (c9 .sum-to2 .ensures ∙ ap (sumTo (start .args .xs .now)) (c10 .least .ensures))))
+    (c .before .before .before .before .before .before .before .put-float .ensures))
+    (c .before .before .put .ensures))))
 
 pub put-sums-spec : {M : Type 1} → statement M
 put-sums-spec =

@@ -11,11 +11,15 @@ use Rattle.report_figures.proofs.number.put_hex.Statement.{statement}
 use Rattle.report_figures.proofs.number.put_hex.Tie as tie
 
 slice-aggregate-put-2 : tie.Need-slice-aggregate-put-2
-slice-aggregate-put-2 c = let p = c .before .before .before .before .before .before .before .put-word .ensures in sym (length-take-le _ _ (omega (arith, p .fits, put-len p)))
+slice-aggregate-put-2 c = let p = c .before .before .before .before .before .before .before .put-word .ensures in
+    sym (length-take-le _ _ (omega (arith, p .fits, put-len p)))
 
 returns : tie.Need-returns
 unfolding hexText bytes
-returns c = puts-then (c .before .before .before .before .before .before .before .put .ensures) (puts-is (sym (own-text (c .before .before .before .before .before .before .before .before .before .before .before .put-word .ensures))) (c .before .before .put2 .ensures))
+returns c =
+    let c11 = c .before .before .before .before .before .before .before .before .before .before .before in
+    puts-then (c .before .before .before .before .before .before .before .put .ensures)
+    (puts-is (sym (own-text (c11 .put-word .ensures))) (c .before .before .put2 .ensures))
 
 pub put-hex-spec : {M : Type 1} → statement M
 put-hex-spec =

@@ -31,7 +31,9 @@ same-length-2 c = search needs
 
 returns-2 : tie.Need-returns-2
 unfolding cutText
-returns-2 c = rw (le-ltb _ _ (c .before .before .before .before .before .before .before .before .if1 .left)) (puts-then (c .before .before .before .before .before .before .put-fall .ensures) (c .before .before .put-needs .ensures))
+returns-2 c =
+    let c8 = c .before .before .before .before .before .before .before .before in
+    rw (le-ltb _ _ (c8 .if1 .left)) (puts-then (c .before .before .before .before .before .before .put-fall .ensures) (c .before .before .put-needs .ensures))
 
 pub put-cut-spec : {M : Type 1} → statement M
 put-cut-spec =

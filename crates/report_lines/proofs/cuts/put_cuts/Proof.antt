@@ -30,7 +30,9 @@ loop-less : tie.Need-loop-less Inv-loop μ-loop
 loop-less c = search needs
 
 loop-again : tie.Need-loop-again Inv-loop μ-loop
-loop-again c = putting-more (c .before .before .before .before .before .loop .inv) (c .before .before .before .before .loop-test .taken) (omega arith) (c .before .before .put-cuts-at .ensures)
+loop-again c =
+    putting-more (c .before .before .before .before .before .loop .inv)
+    (c .before .before .before .before .loop-test .taken) (omega arith) (c .before .before .put-cuts-at .ensures)
 
 same-length : tie.Need-same-length Inv-loop μ-loop
 same-length c = c .before .loop .inv .len

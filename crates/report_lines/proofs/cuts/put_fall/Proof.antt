@@ -43,7 +43,23 @@ same-length c = search needs
 
 returns : tie.Need-returns
 unfolding fallsLine
-returns c = rw (← c .before .before .before .before .before .before .before .before .before .before .before .before .before .before .step-word .ensures, ← c .before .before .before .before .before .before .before .before .before .before .before .before .before .is-cut .ensures, c .before .before .before .before .before .before .before .before .before .before .before .before .if1 .taken, ← c .before .before .before .before .before .before .before .before .before .before .before .cut-operand .ensures, ← c .before .before .before .before .before .before .before .before .before .before .limit-at .ensures, ← c .before .before .before .before .before .before .before .before .before .limit-at2 .ensures, ← c .before .before .before .before .before .before .before .before .follow .ensures) (puts-then (c .before .before .before .before .before .before .put-variable .ensures) (c .before .before .put-falls .ensures))
+returns c =
+    let c8 = c .before .before .before .before .before .before .before .before in
+    let c9 = c8 .before in
+    let c10 = c9 .before in
+    let c11 = c10 .before in
+    let c12 = c11 .before in
+    let c13 = c12 .before in
+    let c14 = c13 .before in
+    rw (
+      ← c14 .step-word .ensures,
+      ← c13 .is-cut .ensures,
+      c12 .if1 .taken,
+      ← c11 .cut-operand .ensures,
+      ← c10 .limit-at .ensures,
+      ← c9 .limit-at2 .ensures,
+      ← c8 .follow .ensures,
+    ) (puts-then (c .before .before .before .before .before .before .put-variable .ensures) (c .before .before .put-falls .ensures))
 
 returns-2 : tie.Need-returns-2
 unfolding fallsLine

@@ -44,7 +44,13 @@ same-length c = search needs
 
 returns : tie.Need-returns
 unfolding fallsText bytes
-returns c = puts-then (c .before .before .before .before .before .before .before .before .before .before .before .before .before .before .before .before .before .before .before .before .before .before .tell .ensures) (puts-then (c .before .before .before .before .before .before .before .before .before .before .before .before .before .before .before .before .before .tell2 .ensures) (puts-then (c .before .before .before .before .before .before .before .before .before .before .before .before .tell3 .ensures) (puts-then (c .before .before .before .before .before .before .before .tell4 .ensures) (c .before .before .put .ensures))))
+returns c =
+    let c12 = c .before .before .before .before .before .before .before .before .before .before .before .before in
+    let c17 = c12 .before .before .before .before .before in
+    let c22 = c17 .before .before .before .before .before in
+    puts-then (c22 .tell .ensures) (puts-then (c17 .tell2 .ensures)
+    (puts-then (c12 .tell3 .ensures) (puts-then
+    (c .before .before .before .before .before .before .before .tell4 .ensures) (c .before .before .put .ensures))))
 
 pub put-falls-spec : {M : Type 1} → statement M
 put-falls-spec =

@@ -38,11 +38,24 @@ same-length c = search needs
 
 returns : tie.Need-returns
 unfolding fillsLine
-returns c = rw (← c .before .before .before .before .before .before .before .before .before .before .before .has .ensures, ← c .before .before .before .before .before .before .before .before .before .before .before .before .limit-at .ensures, ← c .before .before .before .before .before .before .before .before .before .before .head-at .ensures, c .before .before .before .before .before .before .before .before .if1 .taken) (puts-then (c .before .before .before .before .before .before .put-variable .ensures) (c .before .before .put-filled .ensures))
+returns c =
+    let c8 = c .before .before .before .before .before .before .before .before in
+    let c10 = c8 .before .before in
+    let c11 = c10 .before in
+    let c12 = c11 .before in
+    rw (← c11 .has .ensures, ← c12 .limit-at .ensures, ← c10 .head-at .ensures, c8 .if1 .taken)
+    (puts-then (c .before .before .before .before .before .before .put-variable .ensures)
+    (c .before .before .put-filled .ensures))
 
 returns-2 : tie.Need-returns-2
 unfolding fillsLine
-returns-2 c = rw (← c .before .before .before .has .ensures, ← c .before .before .before .before .limit-at .ensures, ← c .before .before .head-at .ensures, c .if1 .left) (puts-none _ _)
+returns-2 c =
+    rw (
+      ← c .before .before .before .has .ensures,
+      ← c .before .before .before .before .limit-at .ensures,
+      ← c .before .before .head-at .ensures,
+      c .if1 .left,
+    ) (puts-none _ _)
 
 pub put-fills-spec : {M : Type 1} → statement M
 put-fills-spec =

@@ -34,7 +34,11 @@ same-length-2 c = search needs
 
 returns-2 : tie.Need-returns-2
 unfolding needText bytes
-returns-2 c = rw (ne-eqb _ _ (c .before .before .before .before .before .before .if1 .left), eq-eqb _ _ (c .before .before .before .before .before .if2 .taken)) (c .before .before .put2 .ensures)
+returns-2 c =
+    rw (
+      ne-eqb _ _ (c .before .before .before .before .before .before .if1 .left),
+      eq-eqb _ _ (c .before .before .before .before .before .if2 .taken),
+    ) (c .before .before .put2 .ensures)
 
 slice-aggregate-tell : tie.Need-slice-aggregate-tell
 slice-aggregate-tell c = search needs
@@ -47,7 +51,11 @@ same-length-3 c = search needs
 
 returns-3 : tie.Need-returns-3
 unfolding needText bytes
-returns-3 c = rw (ne-eqb _ _ (c .before .before .before .before .before .before .if1 .left), ne-eqb _ _ (c .before .before .before .before .before .if2 .left)) (c .before .before .tell .ensures)
+returns-3 c =
+    rw (
+      ne-eqb _ _ (c .before .before .before .before .before .before .if1 .left),
+      ne-eqb _ _ (c .before .before .before .before .before .if2 .left),
+    ) (c .before .before .tell .ensures)
 
 pub put-need-spec : {M : Type 1} → statement M
 put-need-spec =

@@ -44,7 +44,22 @@ same-length c = search needs
 
 returns : tie.Need-returns
 unfolding needsLine bytes
-returns c = rw (← c .before .before .before .before .before .before .before .before .before .before .before .before .before .before .before .before .before .passes .ensures, c .before .before .before .before .before .before .before .before .before .before .before .before .before .before .before .before .if1 .taken, ← c .before .before .before .before .before .before .before .before .before .before .before .before .before .full-at .ensures, ← c .before .before .before .before .before .before .before .before .before .before .before .before .before .before .before .limit-at .ensures, ← c .before .before .before .before .before .before .before .before .before .before .before .before .before .before .source-of .ensures) (puts-then (c .before .before .before .before .before .before .before .before .before .before .before .put-needs-front .ensures) (puts-then (c .before .before .before .before .before .before .put .ensures) (c .before .before .put-limit-has .ensures)))
+returns c =
+    let c11 = c .before .before .before .before .before .before .before .before .before .before .before in
+    let c13 = c11 .before .before in
+    let c14 = c13 .before in
+    let c15 = c14 .before in
+    let c16 = c15 .before in
+    let c17 = c16 .before in
+    rw (
+      ← c17 .passes .ensures,
+      c16 .if1 .taken,
+      ← c13 .full-at .ensures,
+      ← c15 .limit-at .ensures,
+      ← c14 .source-of .ensures,
+    ) (puts-then (c11 .put-needs-front .ensures)
+    (puts-then (c .before .before .before .before .before .before .put .ensures)
+    (c .before .before .put-limit-has .ensures)))
 
 returns-2 : tie.Need-returns-2
 unfolding needsLine

@@ -24,7 +24,10 @@ same-length c = search needs
 
 returns : tie.Need-returns
 unfolding needsFront
-returns c = puts-then (c .before .before .before .before .before .before .before .before .before .before .put-variable .ensures) (puts-then (c .before .before .before .before .before .before .put-need .ensures) (c .before .before .put-break .ensures))
+returns c =
+    let c10 = c .before .before .before .before .before .before .before .before .before .before in
+    puts-then (c10 .put-variable .ensures) (puts-then
+    (c .before .before .before .before .before .before .put-need .ensures) (c .before .before .put-break .ensures))
 
 pub put-needs-front-spec : {M : Type 1} → statement M
 put-needs-front-spec =

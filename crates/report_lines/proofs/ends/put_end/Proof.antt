@@ -19,7 +19,9 @@ same-length c = search needs
 
 returns : tie.Need-returns
 unfolding endText
-returns c = rw (← c .before .before .before .before .before .has .ensures, c .before .before .before .before .if1 .taken) (c .before .before .put-end-line .ensures)
+returns c =
+    rw (← c .before .before .before .before .before .has .ensures, c .before .before .before .before .if1 .taken)
+    (c .before .before .put-end-line .ensures)
 
 returns-2 : tie.Need-returns-2
 unfolding endText

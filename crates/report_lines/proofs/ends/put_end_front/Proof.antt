@@ -30,7 +30,9 @@ same-length c = search needs
 
 returns : tie.Need-returns
 unfolding endFront bytes
-returns c = puts-then (c .before .before .before .before .before .before .before .before .before .before .before .tell .ensures) (puts-then (c .before .before .before .before .before .before .put .ensures) (c .before .before .put-limit .ensures))
+returns c =
+    let c11 = c .before .before .before .before .before .before .before .before .before .before .before in
+    puts-then (c11 .tell .ensures) (puts-then (c .before .before .before .before .before .before .put .ensures) (c .before .before .put-limit .ensures))
 
 pub put-end-front-spec : {M : Type 1} → statement M
 put-end-front-spec =

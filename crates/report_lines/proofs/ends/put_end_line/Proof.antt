@@ -49,7 +49,19 @@ same-length c = search needs
 
 returns : tie.Need-returns
 unfolding endLine bytes
-returns c = rw (← c .before .before .before .before .before .before .before .before .before .before .before .before .before .before .before .before .before .before .before .before .before .before .before .before .before .before .before .limit-at .ensures, ← c .before .before .before .before .before .before .before .before .before .before .before .before .before .before .before .before .before .before .before .before .before .before .before .before .before .before .source-of .ensures) (puts-then (c .before .before .before .before .before .before .before .before .before .before .before .before .before .before .before .before .before .before .before .before .before .before .before .before .put-end-front .ensures) (puts-then (c .before .before .before .before .before .before .before .before .before .before .before .before .before .before .before .before .before .before .before .before .put-break .ensures) (puts-then (c .before .before .before .before .before .before .before .before .before .before .before .before .before .before .before .before .put-decider .ensures) (puts-then (c .before .before .before .before .before .before .before .before .before .before .before .put .ensures) (puts-then (c .before .before .before .before .before .before .before .put-further .ensures) (c .before .before .put2 .ensures))))))
+returns c =
+    let c11 = c .before .before .before .before .before .before .before .before .before .before .before in
+    let c16 = c11 .before .before .before .before .before in
+    let c20 = c16 .before .before .before .before in
+    let c24 = c20 .before .before .before .before in
+    let c26 = c24 .before .before in
+    let c27 = c26 .before in
+    rw (← c27 .limit-at .ensures, ← c26 .source-of .ensures)
+    (puts-then (c24 .put-end-front .ensures)
+    (puts-then (c20 .put-break .ensures) (puts-then (c16 .put-decider .ensures)
+    (puts-then (c11 .put .ensures) (puts-then
+    (c .before .before .before .before .before .before .before .put-further .ensures)
+    (c .before .before .put2 .ensures))))))
 
 pub put-end-line-spec : {M : Type 1} → statement M
 put-end-line-spec =

@@ -38,11 +38,24 @@ same-length c = search needs
 
 returns : tie.Need-returns
 unfolding furtherText bytes
-returns c = rw (← c .before .before .before .before .before .before .before .before .before .before .before .before .before .furthest .ensures, ← c .before .before .before .before .before .before .before .before .before .before .before .before .limit-at .ensures, ← c .before .before .before .before .before .before .before .before .before .before .before .source-of .ensures, lt-ltb _ _ (c .before .before .before .before .before .before .before .before .before .before .if1 .taken)) (puts-then (c .before .before .before .before .before .before .before .tell .ensures) (c .before .before .tell2 .ensures))
+returns c =
+    let c10 = c .before .before .before .before .before .before .before .before .before .before in
+    let c11 = c10 .before in
+    let c12 = c11 .before in
+    let c13 = c12 .before in
+    rw (← c13 .furthest .ensures, ← c12 .limit-at .ensures, ← c11 .source-of .ensures, lt-ltb _ _ (c10 .if1 .taken))
+    (puts-then (c .before .before .before .before .before .before .before .tell .ensures)
+    (c .before .before .tell2 .ensures))
 
 returns-2 : tie.Need-returns-2
 unfolding furtherText bytes
-returns-2 c = rw (← c .before .before .before .furthest .ensures, ← c .before .before .limit-at .ensures, ← c .before .source-of .ensures, le-ltb _ _ (c .if1 .left)) (puts-none _ _)
+returns-2 c =
+    rw (
+      ← c .before .before .before .furthest .ensures,
+      ← c .before .before .limit-at .ensures,
+      ← c .before .source-of .ensures,
+      le-ltb _ _ (c .if1 .left),
+    ) (puts-none _ _)
 
 pub put-further-spec : {M : Type 1} → statement M
 put-further-spec =

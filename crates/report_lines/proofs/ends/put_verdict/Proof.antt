@@ -26,7 +26,11 @@ same-length c = search needs
 
 returns : tie.Need-returns
 unfolding verdictText isWhole bytes
-returns c = rw (← c .before .before .before .before .before .before .first-out .ensures, le-leb _ _ (c .before .before .before .before .before .if1 .taken)) (c .before .before .put .ensures)
+returns c =
+    rw (
+      ← c .before .before .before .before .before .before .first-out .ensures,
+      le-leb _ _ (c .before .before .before .before .before .if1 .taken),
+    ) (c .before .before .put .ensures)
 
 slice-aggregate-tell : tie.Need-slice-aggregate-tell
 slice-aggregate-tell c = search needs
@@ -45,7 +49,12 @@ same-length-2 c = search needs
 
 returns-2 : tie.Need-returns-2
 unfolding verdictText isWhole bytes
-returns-2 c = rw (← c .before .before .before .before .before .before .before .before .before .before .before .first-out .ensures, lt-leb _ _ (c .before .before .before .before .before .before .before .before .before .before .if1 .left)) (puts-then (c .before .before .before .before .before .before .before .tell .ensures) (c .before .before .put2 .ensures))
+returns-2 c =
+    let c10 = c .before .before .before .before .before .before .before .before .before .before in
+    let c11 = c10 .before in
+    rw (← c11 .first-out .ensures, lt-leb _ _ (c10 .if1 .left))
+    (puts-then (c .before .before .before .before .before .before .before .tell .ensures)
+    (c .before .before .put2 .ensures))
 
 pub put-verdict-spec : {M : Type 1} → statement M
 put-verdict-spec =

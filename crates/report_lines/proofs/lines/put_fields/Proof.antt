@@ -12,7 +12,15 @@ use Rattle.report_trace.proofs.cut.uses_in.Reads as uses-in-reads
 
 returns : tie.Need-returns
 unfolding fieldsText bytes
-returns c = rw (← c .before .before .before .before .before .before .before .before .before .before .before .before .before .before .before .before .before .before .before .before .before .uses-in .ensures, ← c .before .before .before .before .before .before .before .before .before .before .before .before .before .before .before .before .before .before .before .before .before .before .step-of .ensures) (puts-then (c .before .before .before .before .before .before .before .before .before .before .before .before .before .before .before .before .before .before .tell-if .ensures) (puts-then (c .before .before .before .before .before .before .before .before .before .before .before .before .before .tell-if2 .ensures) (puts-then (c .before .before .before .before .before .before .before .before .tell-if3 .ensures) (c .before .before .tell-if4 .ensures))))
+returns c =
+    let c8 = c .before .before .before .before .before .before .before .before in
+    let c13 = c8 .before .before .before .before .before in
+    let c18 = c13 .before .before .before .before .before in
+    let c21 = c18 .before .before .before in
+    let c22 = c21 .before in
+    rw (← c21 .uses-in .ensures, ← c22 .step-of .ensures)
+    (puts-then (c18 .tell-if .ensures) (puts-then (c13 .tell-if2 .ensures)
+    (puts-then (c8 .tell-if3 .ensures) (c .before .before .tell-if4 .ensures))))
 
 pub put-fields-spec : {M : Type 1} → statement M
 put-fields-spec =

@@ -11,7 +11,10 @@ use Rattle.report_lines.proofs.put.tell.Reads as tell-reads
 
 returns : tie.Need-returns
 unfolding pairText bytes
-returns c = rw (lt-ltb _ _ (c .before .before .before .before .before .before .before .before .before .before .before .before .if1 .taken)) (puts-then (c .before .before .before .before .before .before .before .before .tell .ensures) (c .before .before .tell2 .ensures))
+returns c =
+    let c8 = c .before .before .before .before .before .before .before .before in
+    let c12 = c8 .before .before .before .before in
+    rw (lt-ltb _ _ (c12 .if1 .taken)) (puts-then (c8 .tell .ensures) (c .before .before .tell2 .ensures))
 
 returns-2 : tie.Need-returns-2
 unfolding pairText

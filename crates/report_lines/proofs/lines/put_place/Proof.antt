@@ -14,7 +14,13 @@ use Rattle.report_lines.proofs.put.tell.Reads as tell-reads
 
 returns : tie.Need-returns
 unfolding placeText bytes
-returns c = rw (← c .before .before .before .before .head-at .ensures) (puts-then (c .before .before .before .before .before .before .before .before .before .before .before .before .before .before .before .before .tell .ensures) (puts-then (c .before .before .before .before .before .before .before .before .before .before .before .put .ensures) (puts-then (c .before .before .before .before .before .before .before .put-what .ensures) (c .before .before .put-shape .ensures))))
+returns c =
+    let c11 = c .before .before .before .before .before .before .before .before .before .before .before in
+    let c16 = c11 .before .before .before .before .before in
+    rw (← c .before .before .before .before .head-at .ensures)
+    (puts-then (c16 .tell .ensures) (puts-then (c11 .put .ensures)
+    (puts-then (c .before .before .before .before .before .before .before .put-what .ensures)
+    (c .before .before .put-shape .ensures))))
 
 pub put-place-spec : {M : Type 1} → statement M
 put-place-spec =

@@ -21,7 +21,9 @@ loop-holds : tie.Need-loop-holds Inv-loop μ-loop
 loop-holds c = putting-none _ _ _ _
 
 loop-again : tie.Need-loop-again Inv-loop μ-loop
-loop-again c = putting-more (c .before .before .before .before .before .loop .inv) (c .before .before .before .before .loop-test .taken) (omega arith) (c .before .before .put-place .ensures)
+loop-again c =
+    putting-more (c .before .before .before .before .before .loop .inv)
+    (c .before .before .before .before .loop-test .taken) (omega arith) (c .before .before .put-place .ensures)
 
 same-length : tie.Need-same-length Inv-loop μ-loop
 same-length c = c .before .loop .inv .len

@@ -13,7 +13,12 @@ use Rattle.report_lines.proofs.put.tell.Reads as tell-reads
 
 returns : tie.Need-returns
 unfolding shapeText bytes
-returns c = puts-then (c .before .before .before .before .before .before .before .before .before .before .before .before .before .before .before .before .before .tell .ensures) (puts-then (c .before .before .before .before .before .before .before .before .before .before .before .put-if .ensures) (puts-then (c .before .before .before .before .before .before .before .put-pairs .ensures) (c .before .before .put .ensures)))
+returns c =
+    let c11 = c .before .before .before .before .before .before .before .before .before .before .before in
+    let c17 = c11 .before .before .before .before .before .before in
+    puts-then (c17 .tell .ensures) (puts-then (c11 .put-if .ensures)
+    (puts-then (c .before .before .before .before .before .before .before .put-pairs .ensures)
+    (c .before .before .put .ensures)))
 
 pub put-shape-spec : {M : Type 1} → statement M
 put-shape-spec =

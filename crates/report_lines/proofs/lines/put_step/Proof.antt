@@ -23,7 +23,9 @@ same-length c = search needs
 
 returns : tie.Need-returns
 unfolding stepText
-returns c = rw (← c .before .before .before .before .before .before .before .before .step-of .ensures) (puts-then (c .before .before .before .before .before .before .put-kind .ensures) (c .before .before .put-fields .ensures))
+returns c =
+    let c8 = c .before .before .before .before .before .before .before .before in
+    rw (← c8 .step-of .ensures) (puts-then (c .before .before .before .before .before .before .put-kind .ensures) (c .before .before .put-fields .ensures))
 
 pub put-step-spec : {M : Type 1} → statement M
 put-step-spec =

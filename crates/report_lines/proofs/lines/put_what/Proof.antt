@@ -16,7 +16,11 @@ returns c = rw (lt-ltb _ _ (c .before .before .before .before .before .if1 .take
 
 returns-2 : tie.Need-returns-2
 unfolding whatText
-returns-2 c = rw (le-ltb _ _ (c .before .before .before .before .before .if1 .left), ← c .before .before .before .before .step-word .ensures) (c .before .before .put-step .ensures)
+returns-2 c =
+    rw (
+      le-ltb _ _ (c .before .before .before .before .before .if1 .left),
+      ← c .before .before .before .before .step-word .ensures,
+    ) (c .before .before .put-step .ensures)
 
 pub put-what-spec : {M : Type 1} → statement M
 put-what-spec =

@@ -16,7 +16,9 @@ put-decimal-requires : tie.Need-put-decimal-requires
 put-decimal-requires c κs = omega (arith, decimal-most 20 (c .before .before .args .n) (omega arith) (omega arith) (omega arith))
 
 slice-aggregate-put : tie.Need-slice-aggregate-put
-slice-aggregate-put c = sym (length-take-le _ _ (omega (arith, c .before .before .put-decimal .ensures .fits, put-len (c .before .before .put-decimal .ensures))))
+slice-aggregate-put c =
+    sym (length-take-le _ _
+    (omega (arith, c .before .before .put-decimal .ensures .fits, put-len (c .before .before .put-decimal .ensures))))
 
 returns : tie.Need-returns
 returns c = rw (put-taken (c .before .before .before .before .before .before .put-decimal .ensures)) at (c .before .before .put .ensures)

@@ -27,7 +27,9 @@ same-length c = search needs
 
 returns : tie.Need-returns
 unfolding deciderText bytes
-returns c = rw (← c .before .before .before .before .before .before .before .before .before .decider .ensures) (puts-then (c .before .before .before .before .before .before .put .ensures) (c .before .before .put-place-kind .ensures))
+returns c =
+    let c9 = c .before .before .before .before .before .before .before .before .before in
+    rw (← c9 .decider .ensures) (puts-then (c .before .before .before .before .before .before .put .ensures) (c .before .before .put-place-kind .ensures))
 
 pub put-decider-spec : {M : Type 1} → statement M
 put-decider-spec =

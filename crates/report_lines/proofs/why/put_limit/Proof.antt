@@ -42,7 +42,16 @@ same-length c = search needs
 
 returns : tie.Need-returns
 unfolding limitText
-returns c = rw (← c .before .before .before .before .before .before .before .before .before .before .before .before .limit-at .ensures, ← c .before .before .before .before .before .before .before .before .before .before .lowerer .ensures, ← c .before .before .before .before .before .before .before .before .before .step-word .ensures, ← c .before .before .before .before .before .before .before .before .step-of .ensures) (rw (← c .before .before .before .before .before .before .before .before .before .before .before .source-of .ensures) (puts-then (c .before .before .before .before .before .before .put-number .ensures) (c .before .before .put-lowered .ensures)))
+returns c =
+    let c8 = c .before .before .before .before .before .before .before .before in
+    let c9 = c8 .before in
+    let c10 = c9 .before in
+    let c11 = c10 .before in
+    let c12 = c11 .before in
+    rw (← c12 .limit-at .ensures, ← c10 .lowerer .ensures, ← c9 .step-word .ensures, ← c8 .step-of .ensures)
+    (rw (← c11 .source-of .ensures) (puts-then
+    (c .before .before .before .before .before .before .put-number .ensures)
+    (c .before .before .put-lowered .ensures)))
 
 pub put-limit-spec : {M : Type 1} → statement M
 put-limit-spec =

@@ -33,7 +33,12 @@ same-length c = search needs
 
 returns : tie.Need-returns
 unfolding limitHas bytes
-returns c = puts-then (c .before .before .before .before .before .before .before .before .before .before .before .before .before .before .before .before .put-limit .ensures) (puts-then (c .before .before .before .before .before .before .before .before .before .before .before .put .ensures) (puts-then (c .before .before .before .before .before .before .before .put-decider .ensures) (c .before .before .put2 .ensures)))
+returns c =
+    let c11 = c .before .before .before .before .before .before .before .before .before .before .before in
+    let c16 = c11 .before .before .before .before .before in
+    puts-then (c16 .put-limit .ensures) (puts-then (c11 .put .ensures)
+    (puts-then (c .before .before .before .before .before .before .before .put-decider .ensures)
+    (c .before .before .put2 .ensures)))
 
 pub put-limit-has-spec : {M : Type 1} → statement M
 put-limit-has-spec =

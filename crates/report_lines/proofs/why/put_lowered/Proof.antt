@@ -52,7 +52,15 @@ same-length c = search needs
 
 returns : tie.Need-returns
 unfolding loweredText bytes
-returns c = rw (lt-ltb _ _ (c .before .before .before .before .before .before .before .before .before .before .before .before .before .before .before .before .before .before .before .before .before .before .before .before .before .if1 .taken)) (puts-then (c .before .before .before .before .before .before .before .before .before .before .before .before .before .before .before .before .before .before .before .before .before .before .tell .ensures) (puts-then (c .before .before .before .before .before .before .before .before .before .before .before .before .before .before .before .before .before .tell2 .ensures) (puts-then (c .before .before .before .before .before .before .before .before .before .before .before .before .tell3 .ensures) (puts-then (c .before .before .before .before .before .before .before .put-if .ensures) (c .before .before .put .ensures)))))
+returns c =
+    let c12 = c .before .before .before .before .before .before .before .before .before .before .before .before in
+    let c17 = c12 .before .before .before .before .before in
+    let c22 = c17 .before .before .before .before .before in
+    let c25 = c22 .before .before .before in
+    rw (lt-ltb _ _ (c25 .if1 .taken)) (puts-then (c22 .tell .ensures)
+    (puts-then (c17 .tell2 .ensures) (puts-then (c12 .tell3 .ensures)
+    (puts-then (c .before .before .before .before .before .before .before .put-if .ensures)
+    (c .before .before .put .ensures)))))
 
 returns-2 : tie.Need-returns-2
 unfolding loweredText bytes

@@ -11,7 +11,9 @@ use Rattle.report_lines.proofs.put.tell.Reads as tell-reads
 
 returns : tie.Need-returns
 unfolding placeKindText bytes
-returns c = puts-then (c .before .before .before .before .before .before .before .before .tell .ensures) (c .before .before .put-either .ensures)
+returns c =
+    let c8 = c .before .before .before .before .before .before .before .before in
+    puts-then (c8 .tell .ensures) (c .before .before .put-either .ensures)
 
 pub put-place-kind-spec : {M : Type 1} → statement M
 put-place-kind-spec =

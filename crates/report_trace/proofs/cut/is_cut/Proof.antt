@@ -11,7 +11,15 @@ use Rattle.report_trace.proofs.cut.uses_in.Reads as uses-in-reads
 
 returns : tie.Need-returns
 unfolding isCut
-returns c = rw (c .before .before .before .has .ensures, c .before .before .is-shift-in .ensures, c .before .is-cut-from .ensures, c .is-cut-from2 .ensures, c .before .before .before .before .uses-in .ensures, c .before .before .before .before .before .step-of .ensures)
+returns c =
+    rw (
+      c .before .before .before .has .ensures,
+      c .before .before .is-shift-in .ensures,
+      c .before .is-cut-from .ensures,
+      c .is-cut-from2 .ensures,
+      c .before .before .before .before .uses-in .ensures,
+      c .before .before .before .before .before .step-of .ensures,
+    )
 
 pub is-cut-spec : {M : Type 1} → statement M
 is-cut-spec =

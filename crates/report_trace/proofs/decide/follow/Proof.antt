@@ -11,7 +11,14 @@ use Rattle.report_trace.proofs.decide.is_equal.Reads as is-equal-reads
 use Rattle.report_trace.proofs.decide.step_word.Reads as step-word-reads
 
 returns : tie.Need-returns
-returns c = follow-is _ _ _ _ _ (c .before .before .before .before .before .before .before .before .step-word .ensures) (c .before .before .before .before .before .before .before .step-of .ensures) (c .before .before .before .before .before .before .uses-in .ensures) (c .before .before .before .before .before .is-equal .ensures) (c .before .before .before .before .pick .ensures) (c .before .before .before .is-shift-in .ensures) (c .before .before .is-equal2 .ensures) (c .before .pick2 .ensures) (c .pick3 .ensures)
+returns c =
+    let c8 = c .before .before .before .before .before .before .before .before in
+    follow-is _ _ _ _ _ (c8 .step-word .ensures)
+    (c .before .before .before .before .before .before .before .step-of .ensures)
+    (c .before .before .before .before .before .before .uses-in .ensures)
+    (c .before .before .before .before .before .is-equal .ensures)
+    (c .before .before .before .before .pick .ensures) (c .before .before .before .is-shift-in .ensures)
+    (c .before .before .is-equal2 .ensures) (c .before .pick2 .ensures) (c .pick3 .ensures)
 
 pub follow-spec : {M : Type 1} → statement M
 follow-spec =

@@ -47,7 +47,9 @@ slice-aggregate-furthest-next-2 c = sym (length-take-le _ _ (omega (arith, grown
 
 returns : tie.Need-returns Inv-loop μ-loop
 unfolding furthests
-returns c = c .furthest-next2 .ensures ∙ ap (furthestNext _ _ _ _) (grown-end (c .before .before .before .loop .inv .1) (c .before .before .before .loop .inv .0) (omega arith))
+returns c =
+    let c3 = c .before .before .before in
+    c .furthest-next2 .ensures ∙ ap (furthestNext _ _ _ _) (grown-end (c3 .loop .inv .1) (c3 .loop .inv .0) (omega arith))
 
 pub furthest-spec : {M : Type 1} → statement M
 furthest-spec =

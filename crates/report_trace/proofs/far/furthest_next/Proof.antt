@@ -13,7 +13,16 @@ use Rattle.report_trace.proofs.far.farther.Reads as farther-reads
 use Rattle.report_trace.proofs.far.found_at.Reads as found-at-reads
 
 returns : tie.Need-returns
-returns c = next-is _ _ _ _ _ (c .before .before .before .before .before .before .before .before .before .before .before .before .step-word .ensures) (c .before .before .before .before .before .before .before .before .before .before .before .step-of .ensures) (c .before .before .before .before .before .before .before .before .before .before .uses-in .ensures) (c .before .before .before .before .before .before .before .before .before .has .ensures) (c .before .before .before .before .before .before .before .has2 .ensures) (c .before .before .before .before .before .before .found-at .ensures) (c .before .before .before .before .before .farther .ensures) (c .before .before .before .has3 .ensures) (c .before .before .found-at2 .ensures) (c .before .farther2 .ensures) (c .pick .ensures)
+returns c =
+    let c9 = c .before .before .before .before .before .before .before .before .before in
+    let c10 = c9 .before in
+    let c11 = c10 .before in
+    let c12 = c11 .before in
+    next-is _ _ _ _ _ (c12 .step-word .ensures) (c11 .step-of .ensures) (c10 .uses-in .ensures) (c9 .has .ensures)
+    (c .before .before .before .before .before .before .before .has2 .ensures)
+    (c .before .before .before .before .before .before .found-at .ensures)
+    (c .before .before .before .before .before .farther .ensures) (c .before .before .before .has3 .ensures)
+    (c .before .before .found-at2 .ensures) (c .before .farther2 .ensures) (c .pick .ensures)
 
 pub furthest-next-spec : {M : Type 1} → statement M
 furthest-next-spec =

@@ -73,7 +73,13 @@ pick-requires-2 : tie.Need-pick-requires-2
 pick-requires-2 c κs = search needs
 
 substitution-full-requires : tie.Need-substitution-full-requires
-substitution-full-requires c κs = let h : c .pick2 .result ≤ many = rw (c .pick2 .ensures) (of-both (λ (x : ℕ). x ≤ many) (eqb (c .before .before .before .before .args .k) (c .before .before .f3 .given .0 .0)) {x = 1} {y = c .before .before .before .before .args .a} (omega arith) (omega arith)) in (omega arith, (h, omega arith))
+substitution-full-requires c κs =
+    let start = c .before .before .before .before in
+    let h : c .pick2 .result ≤ many =
+    rw (c .pick2 .ensures) (of-both (λ (x : ℕ). x ≤ many)
+    (eqb (start .args .k) (c .before .before .f3 .given .0 .0)) {x = 1} {y = start .args .a}
+    (omega arith) (omega arith)) in
+    (omega arith, (h, omega arith))
 
 enum-told-7 : tie.Need-enum-told-7
 enum-told-7 c = search needs

@@ -26,7 +26,9 @@ counted-requires : tie.Need-counted-requires
 counted-requires c κs = search needs
 
 returns : tie.Need-returns
-returns c = c .counted .ensures ∙ ap counted (inside-any (c .before .before .before .before .args .full .now) (4 * c .before .before .before .before .args .x + c .before .before .before .before .args .v) 0 1 (c .before .before .if1 .taken))
+returns c =
+    let start = c .before .before .before .before in
+    c .counted .ensures ∙ ap counted (inside-any (start .args .full .now) (4 * start .args .x + start .args .v) 0 1 (c .before .before .if1 .taken))
 
 returns-2 : tie.Need-returns-2
 returns-2 c = full-past (c .before .before .args .full .now) (c .before .before .args .x) (c .before .before .args .v) (c .if1 .left)

@@ -31,7 +31,10 @@ full-after-requires : tie.Need-full-after-requires
 full-after-requires c κs = search needs
 
 returns : tie.Need-returns
-returns c = step-is _ _ _ (c .before .before .before .before .before .step-of .ensures) (c .before .before .before .before .full-at .ensures) (c .before .before .before .full-at2 .ensures) (c .before .before .full-at3 .ensures) (c .before .family-of .ensures) (c .full-after .ensures)
+returns c =
+    step-is _ _ _ (c .before .before .before .before .before .step-of .ensures)
+    (c .before .before .before .before .full-at .ensures) (c .before .before .before .full-at2 .ensures)
+    (c .before .before .full-at3 .ensures) (c .before .family-of .ensures) (c .full-after .ensures)
 
 pub step-full-spec : {M : Type 1} → statement M
 step-full-spec =

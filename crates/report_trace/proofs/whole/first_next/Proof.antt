@@ -67,7 +67,22 @@ least-requires-2 : tie.Need-least-requires-2
 least-requires-2 c κs = search needs
 
 returns-2 : tie.Need-returns-2
-returns-2 c = first-is _ _ _ _ _ (c .before .before .before .before .before .before .before .before .before .before .before .before .before .before .before .if1 .left) (c .before .before .before .before .before .before .before .before .before .before .before .before .before .before .step-word .ensures) (c .before .before .before .before .before .before .before .before .before .before .before .before .before .step-of .ensures) (c .before .before .before .before .before .before .before .before .before .before .before .before .full-at .ensures) (c .before .before .before .before .before .before .before .before .before .before .before .leaves-out .ensures) (c .before .before .before .before .before .before .before .before .before .before .pick .ensures) (c .before .before .before .before .before .before .before .before .before .family-of .ensures) (c .before .before .before .before .before .before .before .before .needs-first .ensures) (c .before .before .before .before .before .before .before .found-at .ensures) (c .before .before .before .before .before .before .pick2 .ensures) (c .before .before .before .before .before .family-of2 .ensures) (c .before .before .before .before .needs-second .ensures) (c .before .before .before .found-at2 .ensures) (c .before .before .pick3 .ensures) (c .before .least .ensures) (c .least2 .ensures)
+returns-2 c =
+    let c8 = c .before .before .before .before .before .before .before .before in
+    let c9 = c8 .before in
+    let c10 = c9 .before in
+    let c11 = c10 .before in
+    let c12 = c11 .before in
+    let c13 = c12 .before in
+    let c14 = c13 .before in
+    let c15 = c14 .before in
+    first-is _ _ _ _ _ (c15 .if1 .left) (c14 .step-word .ensures) (c13 .step-of .ensures) (c12 .full-at .ensures)
+    (c11 .leaves-out .ensures) (c10 .pick .ensures) (c9 .family-of .ensures) (c8 .needs-first .ensures)
+    (c .before .before .before .before .before .before .before .found-at .ensures)
+    (c .before .before .before .before .before .before .pick2 .ensures)
+    (c .before .before .before .before .before .family-of2 .ensures)
+    (c .before .before .before .before .needs-second .ensures) (c .before .before .before .found-at2 .ensures)
+    (c .before .before .pick3 .ensures) (c .before .least .ensures) (c .least2 .ensures)
 
 pub first-next-spec : {M : Type 1} → statement M
 first-next-spec =

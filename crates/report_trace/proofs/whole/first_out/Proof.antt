@@ -30,7 +30,10 @@ slice-aggregate-first-next : tie.Need-slice-aggregate-first-next Inv-loop μ-loo
 slice-aggregate-first-next c = sym (length-take-le _ _ (omega (arith, grown-len (c .before .before .loop .inv .1))))
 
 first-next-requires : tie.Need-first-next-requires Inv-loop μ-loop
-first-next-requires c κs = let e = length-take-le (c .before .before .loop .k) (c .before .before .loop .found) (omega (arith, grown-len (c .before .before .loop .inv .1))) in omega (arith, e)
+first-next-requires c κs = let e =
+    length-take-le (c .before .before .loop .k) (c .before .before .loop .found)
+    (omega (arith, grown-len (c .before .before .loop .inv .1))) in
+    omega (arith, e)
 
 mul-found : tie.Need-mul-found Inv-loop μ-loop
 mul-found c = omega (arith, grown-len (c .before .before .before .loop .inv .1))
@@ -54,11 +57,16 @@ slice-aggregate-first-next-2 : tie.Need-slice-aggregate-first-next-2 Inv-loop μ
 slice-aggregate-first-next-2 c = sym (length-take-le _ _ (omega (arith, grown-len (c .before .before .loop .inv .1))))
 
 first-next-requires-2 : tie.Need-first-next-requires-2 Inv-loop μ-loop
-first-next-requires-2 c κs = let e = length-take-le (c .before .before .before .before .before .before .args .p) (c .before .before .loop .found) (omega (arith, grown-len (c .before .before .loop .inv .1))) in omega (arith, e)
+first-next-requires-2 c κs = let e =
+    length-take-le (c .before .before .before .before .before .before .args .p) (c .before .before .loop .found)
+    (omega (arith, grown-len (c .before .before .loop .inv .1))) in
+    omega (arith, e)
 
 returns : tie.Need-returns Inv-loop μ-loop
 unfolding firsts
-returns c = c .first-next2 .ensures ∙ ap (firstNext _ _ _ _) (grown-end (c .before .before .before .loop .inv .1) (c .before .before .before .loop .inv .0) (omega arith))
+returns c =
+    let c3 = c .before .before .before in
+    c .first-next2 .ensures ∙ ap (firstNext _ _ _ _) (grown-end (c3 .loop .inv .1) (c3 .loop .inv .0) (omega arith))
 
 pub first-out-spec : {M : Type 1} → statement M
 first-out-spec =
