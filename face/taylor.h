@@ -126,9 +126,9 @@ uint64_t taylor_run(const uint64_t *headers, size_t headers_len, const double *c
 /* ---- the settings store: 32 departments in 544 lent words, the last eight versions of each
  *
  * Each function answers 0 and writes through its pointers, or a refusal (number + 256 * 64) and writes nothing: 18
- * fewer than 544 words or, but for settings_fresh, words that no calls leave; 3 department above 31; 4 chance not from
- * 0 to 1, horizon not 1 to 255, recipe above 65,535; 13 `from` is not the current version; 14 version not kept; 15 the current
- * version is 2^32 - 1. The first in the order named at a function is told. */
+ * fewer than 544 words or, but for settings_fresh, words that no calls leave; 3 department above 31; 4 chance not
+ * from 0 to 1, horizon not 1 to 255, recipe above 65,535; 13 `from` is not the current version; 14 version not kept;
+ * 15 the current version is 2^32 - 1. The first in the order named at a function is told. */
 
 /* every department at version 0: chance 0.0, horizon 1, recipe 0; refusal 18 */
 uint64_t settings_fresh(uint64_t *words, size_t len);
