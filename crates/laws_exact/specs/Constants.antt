@@ -19,7 +19,7 @@ use Rattle.laws_whole.specs.Whole.{Whole}
 use Rattle.laws_whole.specs.Exact.{whole-mul}
 use Rattle.laws_whole.specs.IndexLaws.{within-length}
 use Rattle.shape_words.specs.Lengths.{Inside, is-inside, inside-four}
-use Rattle.laws_exact.specs.Sits.{Sits}
+use Rattle.laws_keeps.specs.Sits.{Sits}
 use Rattle.laws_exact.specs.Windows.{degree-origin}
 use Rattle.laws_exact.specs.Factors.{times-first, constantOf}
 use Rattle.laws_exact.specs.Generals.{before}

@@ -22,7 +22,7 @@ use Rattle.laws_whole.specs.StoredLaws.{in-box-inside}
 use Rattle.shape_words.specs.Lengths.{Inside, inside-is, count-is}
 use Rattle.shape_words.specs.Places.{place-index}
 use Rattle.shape.specs.Cut.{cut-at}
-use Rattle.laws_exact.specs.Sits.{Sits, cut-sits}
+use Rattle.laws_keeps.specs.Sits.{Sits, cut-sits}
 use Rattle.laws_exact.specs.Wholes.{Wholes, Is, stored-at, wholes-at, wholes-is, cut-is}
 use Rattle.laws_exact.specs.Firsts.{stored-under}
 use Rattle.laws_exact.specs.Windows.{at-within}

@@ -24,7 +24,7 @@ use Rattle.laws_whole.specs.IndexLaws.{four-at}
 use Rattle.shape_words.specs.Lengths.{Inside, inside-is, is-inside, inside-four, inside-at}
 use Rattle.shape_words.specs.Places.{place-lt}
 use Rattle.laws_exact.specs.Windows.{degree-origin}
-use Rattle.laws_exact.specs.Sits.{Sits}
+use Rattle.laws_keeps.specs.Sits.{Sits}
 use Rattle.shape_words.specs.Spans.{count-one}
 use Rattle.laws_exact.specs.Wholes.{Is, whole-at, stored-at, past-at, place-one, place-origin}
 

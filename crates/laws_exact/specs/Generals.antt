@@ -27,10 +27,10 @@ use Rattle.laws_whole.specs.PlaceLaws.{place-of-four}
 use Rattle.laws_whole.specs.StoredLaws.{in-box-inside, inside-in-box}
 use Rattle.laws_whole.specs.SeriesSizes.{sizes}
 use Rattle.shape_words.specs.Lengths.{Inside, inside-is, is-inside, inside-four, inside-at}
-use Rattle.laws_exact.specs.Sits.{Sits, sum-at}
+use Rattle.laws_keeps.specs.Sits.{Sits, sum-at}
 use Rattle.laws_exact.specs.Wholes.{Is, whole-at, stored-at, past-at, index-read}
 use Rattle.laws_exact.specs.Firsts.{outside, stored-under}
-use Rattle.laws_exact.specs.ProductKeeps.{left-fits, right-fits}
+use Rattle.laws_keeps.specs.ProductKeeps.{left-fits, right-fits}
 use Rattle.laws_exact.specs.Windows.{within-at, minus-at, times-none}
 use Rattle.laws_exact.specs.Remaining.{from, from-four}
 use Rattle.laws_exact.specs.Terms.{Stores}

@@ -26,7 +26,7 @@ use Rattle.laws_whole.specs.Int.{abs-neg}
 use Rattle.laws_whole.specs.Whole.{Whole, whole-zero}
 use Rattle.laws_whole.specs.Exact.{whole-add, whole-sub, whole-neg}
 use Rattle.shape_words.specs.Lengths.{Inside, inside-is}
-use Rattle.laws_exact.specs.Sits.{Sits, max-at, max-left, max-right}
+use Rattle.laws_keeps.specs.Sits.{Sits, max-at, max-left, max-right}
 use Rattle.laws_exact.specs.Wholes.{Is, whole-at, stored-at, past-at, table-read, index-read, is-same}
 use Rattle.laws_exact.specs.Firsts.{outside-shorter, first-whole, origin-stored, stored-under, only-first, first-changed}
 

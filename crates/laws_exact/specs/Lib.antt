@@ -1,13 +1,9 @@
-pub mod Sits
-pub mod Keeps
 pub mod Windows
 pub mod Wholes
 pub mod Cuts
 pub mod Firsts
 pub mod Joins
 pub mod Sums
-pub mod Ways
-pub mod ProductKeeps
 pub mod Remaining
 pub mod Terms
 pub mod Rows
@@ -20,10 +16,4 @@ pub mod Stages
 pub mod Multiplied
 pub mod Products
 pub mod Results
-pub mod QuotientKeeps
-pub mod ShiftKeeps
-pub mod Running
-pub mod PowerKeeps
-pub mod SubstituteKeeps
 pub mod BoxRows
-pub mod SeriesKeeps

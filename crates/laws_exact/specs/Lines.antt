@@ -28,9 +28,9 @@ use Rattle.laws_whole.specs.SeriesLaws.{times-comm}
 use Rattle.laws_whole.specs.SeriesSizes.{sizes, abs-times}
 use Rattle.shape_words.specs.Lengths.{Inside, inside-is, inside-four, inside-at}
 use Rattle.shape_words.specs.Places.{place-lt}
-use Rattle.laws_exact.specs.Sits.{Sits}
-use Rattle.laws_exact.specs.ProductKeeps.{raised-sits}
-use Rattle.laws_exact.specs.Ways.{Line, line-two, line-place}
+use Rattle.laws_keeps.specs.Sits.{Sits}
+use Rattle.laws_keeps.specs.ProductKeeps.{raised-sits}
+use Rattle.laws_keeps.specs.Ways.{Line, line-two, line-place}
 use Rattle.laws_exact.specs.Factors.{positive, sizes-term, unit, unit-length, unit-within, minus-unit, raisedZ, constantOf, times-constantOf, times-line}
 use Rattle.laws_exact.specs.Generals.{Fits, before}
 use Rattle.laws_exact.specs.Wholes.{Is, stored-at, past-at, place-one, place-origin, is-same}

@@ -21,7 +21,7 @@ use Rattle.laws_whole.specs.Whole.{whole-zero}
 use Rattle.laws_whole.specs.Compare.{eq-zero}
 use Rattle.laws_whole.specs.IndexLaws.{within-length, minus-length, minus-within}
 use Rattle.shape_words.specs.Lengths.{Inside, inside-four}
-use Rattle.laws_exact.specs.Sits.{Sits, cut-sits}
+use Rattle.laws_keeps.specs.Sits.{Sits, cut-sits}
 use Rattle.laws_exact.specs.Windows.{times-none}
 use Rattle.laws_exact.specs.Generals.{Fits, before}
 use Rattle.laws_exact.specs.Wholes.{Is, cut-is, is-same, stored-at, place-origin}

@@ -22,8 +22,8 @@ use Rattle.laws_whole.specs.Compare.{whole-eq}
 use Rattle.shape_words.specs.Rules.{Regular, ruled-at}
 use Rattle.shape_words.specs.Lengths.{Inside}
 use Rattle.shape.specs.Limits.{min-limit-pos}
-use Rattle.laws_exact.specs.Sits.{Sits}
-use Rattle.laws_exact.specs.Keeps.{limitsOf, left-sits, right-sits}
+use Rattle.laws_keeps.specs.Sits.{Sits}
+use Rattle.laws_keeps.specs.Keeps.{limitsOf, left-sits, right-sits}
 use Rattle.laws_exact.specs.Sums.{seriesIn, weightIn}
 use Rattle.laws_exact.specs.Generals.{Fits, general-is}
 use Rattle.laws_exact.specs.Wholes.{Wholes, wholes-is, cut-is}

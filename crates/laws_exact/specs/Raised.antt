@@ -21,7 +21,7 @@ use Rattle.model_textbook.specs.Textbook.{Series}
 use Rattle.laws_whole.specs.Whole.{Whole, whole-zero}
 use Rattle.laws_whole.specs.Exact.{whole-mul}
 use Rattle.shape_words.specs.Lengths.{Inside, is-inside, inside-four, inside-at}
-use Rattle.laws_exact.specs.Sits.{Sits}
+use Rattle.laws_keeps.specs.Sits.{Sits}
 use Rattle.laws_exact.specs.Factors.{positive, raisedZ}
 use Rattle.laws_exact.specs.Wholes.{Is, whole-at, stored-at, past-at, index-read}
 use Rattle.laws_exact.specs.Firsts.{outside}

@@ -27,9 +27,9 @@ use Rattle.laws_whole.specs.SeriesSizes.{weight-plus, weight-times}
 use Rattle.shape_words.specs.Rules.{Regular, ruled-at}
 use Rattle.shape_words.specs.Lengths.{Inside}
 use Rattle.shape.specs.Keeps.{Keeps}
-use Rattle.laws_exact.specs.Sits.{Sits}
-use Rattle.laws_exact.specs.Keeps.{combined-keeps}
-use Rattle.laws_exact.specs.ProductKeeps.{product-keeps}
+use Rattle.laws_keeps.specs.Sits.{Sits}
+use Rattle.laws_keeps.specs.Keeps.{combined-keeps}
+use Rattle.laws_keeps.specs.ProductKeeps.{product-keeps}
 use Rattle.laws_exact.specs.Windows.{at-within}
 use Rattle.laws_exact.specs.Wholes.{Wholes, Is}
 use Rattle.laws_exact.specs.Cuts.{numbersOf, is-wholes, wholes-agree, wholes-weight}

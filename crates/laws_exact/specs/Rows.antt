@@ -24,7 +24,7 @@ use Rattle.laws_whole.specs.SeriesSizes.{sizes, abs-times}
 use Rattle.laws_whole.specs.Whole.{Whole}
 use Rattle.laws_whole.specs.Steps.{whole-walk, mul-step}
 use Rattle.shape_words.specs.Lengths.{Inside, inside-at}
-use Rattle.laws_exact.specs.Sits.{Sits}
+use Rattle.laws_keeps.specs.Sits.{Sits}
 use Rattle.laws_exact.specs.Windows.{times-nil, sizes-nil}
 use Rattle.laws_exact.specs.Remaining.{from, from-count, from-in-box, from-degree}
 use Rattle.shape_words.specs.Spans.{span-ones, ones-of-span}

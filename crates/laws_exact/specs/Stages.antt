@@ -27,14 +27,14 @@ use Rattle.laws_whole.specs.IndexLaws.{at-in-box}
 use Rattle.laws_whole.specs.StoredLaws.{weight-wider}
 use Rattle.laws_whole.specs.SeriesLaws.{times-comm}
 use Rattle.laws_whole.specs.SeriesSizes.{sizes, abs-times, sizes-le}
-use Rattle.laws_exact.specs.Sits.{Sits, sits-more}
-use Rattle.laws_exact.specs.ProductKeeps.{shape-under, constant-sits, product-sits}
+use Rattle.laws_keeps.specs.Sits.{Sits, sits-more}
+use Rattle.laws_keeps.specs.ProductKeeps.{shape-under, constant-sits, product-sits}
 use Rattle.laws_exact.specs.Windows.{at-within}
 use Rattle.laws_exact.specs.Factors.{sizes-comm, sizes-less, constantOf}
 use Rattle.laws_exact.specs.Generals.{Fits, general-is}
 use Rattle.laws_exact.specs.Wholes.{Is, is-same}
 use Rattle.laws_exact.specs.Firsts.{first-whole}
-use Rattle.laws_exact.specs.Ways.{by-way, Line, linear-is}
+use Rattle.laws_keeps.specs.Ways.{by-way, Line, linear-is}
 use Rattle.laws_exact.specs.Constants.{scaled-is, constant-is, constant-times}
 use Rattle.laws_exact.specs.Lines.{line-constant, linear-product}
 

@@ -21,7 +21,7 @@ use Rattle.laws_whole.specs.Int.{abs-add, abs-sub}
 use Rattle.laws_whole.specs.Whole.{Whole}
 use Rattle.shape_words.specs.Rules.{Regular}
 use Rattle.shape_words.specs.Lengths.{Inside, inside-four}
-use Rattle.laws_exact.specs.Keeps.{limitsOf, left-sits, right-sits, negated-head}
+use Rattle.laws_keeps.specs.Keeps.{limitsOf, left-sits, right-sits, negated-head}
 use Rattle.laws_exact.specs.Wholes.{Wholes, Is, wholes-is, cut-is, size-at}
 use Rattle.laws_exact.specs.Joins.{joinZ, Room, joined-is, negated-is}
 

@@ -1,5 +1,4 @@
-// Where the sums and products of `model` are exact on whole numbers, and that every operation keeps the announced
-// header. A crate needs a function: this one.
+// Where the sums and products of `model` are exact on whole numbers. A crate needs a function: this one.
 ghost use mathlib.Core.Path.{_≡_};
 
 pub fn same(x: f64) -> f64

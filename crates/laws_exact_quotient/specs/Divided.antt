@@ -26,7 +26,7 @@ use Rattle.laws_whole.specs.SeriesLaws.{times-comm}
 use Rattle.laws_whole.specs.SeriesSizes.{abs-times}
 use Rattle.laws_whole.specs.QuotientLaws.{quotient-times}
 use Rattle.shape_words.specs.Lengths.{Inside}
-use Rattle.laws_exact.specs.Sits.{Sits, cut-sits}
+use Rattle.laws_keeps.specs.Sits.{Sits, cut-sits}
 use Rattle.laws_exact.specs.Wholes.{Is, whole-at, stored-at, past-at, table-read, is-same, cut-is}
 use Rattle.laws_exact.specs.Firsts.{first-whole}
 use Rattle.laws_exact.specs.Generals.{Fits}

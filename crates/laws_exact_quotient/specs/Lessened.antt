@@ -26,7 +26,7 @@ use Rattle.laws_whole.specs.Whole.{Whole, whole-zero}
 use Rattle.laws_whole.specs.Exact.{whole-add, whole-neg, whole-div}
 use Rattle.laws_whole.specs.Steps.{whole-walk}
 use Rattle.shape_words.specs.Lengths.{Inside, inside-at}
-use Rattle.laws_exact.specs.Sits.{Sits}
+use Rattle.laws_keeps.specs.Sits.{Sits}
 use Rattle.laws_exact.specs.Windows.{times-nil}
 use Rattle.laws_exact.specs.Remaining.{from, from-count, from-in-box}
 use Rattle.laws_exact.specs.Terms.{Stores, row-stores}

@@ -19,13 +19,13 @@ use Rattle.laws_whole.specs.IndexLaws.{minus-length, minus-within}
 use Rattle.laws_whole.specs.SeriesLaws.{times-same}
 use Rattle.laws_whole.specs.QuotientLaws.{quotient-times}
 use Rattle.shape_words.specs.Lengths.{Inside, inside-is, is-inside, inside-four, inside-at}
-use Rattle.laws_exact.specs.Sits.{Sits}
+use Rattle.laws_keeps.specs.Sits.{Sits}
 use Rattle.laws_exact.specs.Windows.{minus-at, times-none}
 use Rattle.laws_exact.specs.Wholes.{Is}
 use Rattle.laws_exact.specs.Firsts.{outside-shorter}
 use Rattle.laws_exact.specs.Generals.{before, past-is}
 use Rattle.laws_exact_quotient.specs.Inverses.{Solves, quotient-only-under}
-use Rattle.laws_exact.specs.QuotientKeeps.{by-length, dividend-fits}
+use Rattle.laws_keeps.specs.QuotientKeeps.{by-length, dividend-fits}
 
 module _ {l : List ℕ} {a b : Block} {A B : Series} (s : Sits l a) (t : Sits l b) (p : Is l a A) (q : Is l b B) (unit : natAbs (B origin) ≡ 1) where
   abbrev r : List ℕ

@@ -25,13 +25,13 @@ use Rattle.shape_words.specs.Lengths.{Inside, is-inside}
 use Rattle.shape.specs.Limits.{min-limit-pos}
 use Rattle.shape.specs.Announced.{announced-regular}
 use Rattle.laws_exact.specs.Windows.{at-within}
-use Rattle.laws_exact.specs.Keeps.{limitsOf}
+use Rattle.laws_keeps.specs.Keeps.{limitsOf}
 use Rattle.laws_exact.specs.Sums.{seriesIn, weightIn}
 use Rattle.laws_exact.specs.Generals.{Fits}
 use Rattle.laws_exact.specs.Wholes.{Wholes, wholes-is}
 use Rattle.laws_exact.specs.Products.{own-sits}
 use Rattle.laws_exact.specs.Results.{Result, keeps-sits, result, weight-any}
-use Rattle.laws_exact.specs.QuotientKeeps.{quotient-keeps}
+use Rattle.laws_keeps.specs.QuotientKeeps.{quotient-keeps}
 use Rattle.laws_exact_quotient.specs.Divided.{divided-is}
 
 -- the exact quotient of two polynomials, and |Q| under the announced limits

@@ -24,13 +24,13 @@ use Rattle.laws_whole.specs.StoredLaws.{in-box-inside}
 use Rattle.laws_whole.specs.QuotientLaws.{quotient-times}
 use Rattle.shape_words.specs.Lengths.{Inside, inside-is, inside-four, inside-at}
 use Rattle.shape_words.specs.Places.{place-lt, place-index, index-place}
-use Rattle.laws_exact.specs.Sits.{Sits}
+use Rattle.laws_keeps.specs.Sits.{Sits}
 use Rattle.laws_exact.specs.Windows.{degree-origin}
 use Rattle.laws_exact.specs.Remaining.{from, from-four}
 use Rattle.laws_exact.specs.Wholes.{Is, whole-at}
 use Rattle.laws_exact.specs.Cuts.{index-stored}
 use Rattle.laws_exact.specs.Generals.{Fits, stores}
-use Rattle.laws_exact.specs.QuotientKeeps.{divisor-fits, recurred-fits, quotient-under}
+use Rattle.laws_keeps.specs.QuotientKeeps.{divisor-fits, recurred-fits, quotient-under}
 use Rattle.laws_exact_quotient.specs.Pasts.{past-quotient}
 use Rattle.laws_exact_quotient.specs.Earlier.{Before}
 use Rattle.laws_exact_quotient.specs.Lessened.{quotient-at-whole}

@@ -39,7 +39,7 @@ use Rattle.laws_exact.specs.Firsts.{stored-under}
 use Rattle.laws_exact.specs.Factors.{positive}
 use Rattle.laws_exact.specs.Sums.{seriesIn, weightIn}
 use Rattle.laws_exact.specs.Results.{Result, result, keeps-sits}
-use Rattle.laws_exact.specs.ShiftKeeps.{shiftHead, shift-down-keeps}
+use Rattle.laws_keeps.specs.ShiftKeeps.{shiftHead, shift-down-keeps}
 use Rattle.laws_exact.specs.BoxRows.{box-rows, gathered}
 use Rattle.laws_exact_shift.specs.Shifted.{length-here, beyond, shift-down-exact}
 

@@ -30,7 +30,7 @@ use Rattle.shape_words.specs.Rules.{Regular}
 use Rattle.shape_words.specs.Lengths.{Inside, inside-is, is-inside, inside-four, inside-at}
 use Rattle.laws_exact.specs.Wholes.{Wholes, whole-at, stored-at, index-read, wholes-at}
 use Rattle.laws_exact.specs.Sums.{seriesIn, weightIn}
-use Rattle.laws_exact.specs.ShiftKeeps.{shiftHead, shiftedAt}
+use Rattle.laws_keeps.specs.ShiftKeeps.{shiftHead, shiftedAt}
 use Rattle.laws_exact.specs.BoxRows.{row-part}
 
 module _ (v n : ℕ) (p : Poly) (g : Regular (p .head)) (h : v < 4) where

@@ -19,16 +19,16 @@ use Rattle.model_textbook.specs.Textbook.{Series, seriesOf, weight, times, coef
 use Rattle.laws_whole.specs.Index.{InBox}
 use Rattle.laws_whole.specs.IndexLaws.{at-in-box}
 use Rattle.laws_whole.specs.SeriesSizes.{sizes-le, abs-times, weight-at}
-use Rattle.laws_exact.specs.Sits.{Sits, sits-self}
-use Rattle.laws_exact.specs.Keeps.{joined-under}
+use Rattle.laws_keeps.specs.Sits.{Sits, sits-self}
+use Rattle.laws_keeps.specs.Keeps.{joined-under}
 use Rattle.laws_exact.specs.Generals.{Fits}
 use Rattle.laws_exact.specs.Wholes.{Wholes, Is, is-same, wholes-is}
 use Rattle.laws_exact.specs.Joins.{Room, joined-is}
 use Rattle.laws_exact.specs.Multiplied.{zero-is, multiplied-is}
-use Rattle.laws_exact.specs.ProductKeeps.{constant-sits}
+use Rattle.laws_keeps.specs.ProductKeeps.{constant-sits}
 use Rattle.laws_exact.specs.Results.{weight-any}
-use Rattle.laws_exact.specs.Running.{multiplied-sits}
-use Rattle.laws_exact.specs.SubstituteKeeps.{row-sits}
+use Rattle.laws_keeps.specs.Running.{multiplied-sits}
+use Rattle.laws_keeps.specs.SubstituteKeeps.{row-sits}
 use Rattle.laws_exact_substitution.specs.Rowed.{row-is}
 use Rattle.laws_exact_substitution.specs.Hornered.{running, running-none, running-step, running-all, running-weight}
 

@@ -33,7 +33,7 @@ use Rattle.laws_exact.specs.Generals.{before}
 use Rattle.laws_exact.specs.Factors.{unit, unit-length}
 use Rattle.laws_exact.specs.Wholes.{Is, is-same, wholes-is, wholes-at, past-at, size-at}
 use Rattle.laws_exact.specs.Firsts.{outside, at-origin}
-use Rattle.laws_exact.specs.Ways.{Line, linear-is}
+use Rattle.laws_keeps.specs.Ways.{Line, linear-is}
 use Rattle.laws_exact.specs.Lines.{line-constant, line-factor, line-only}
 use Rattle.laws_exact.specs.Multiplied.{zero-series}
 use Rattle.laws_exact_substitution.specs.Rowed.{row-is}

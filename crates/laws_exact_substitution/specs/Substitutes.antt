@@ -29,14 +29,14 @@ use Rattle.laws_whole.specs.StoredLaws.{in-box-inside}
 use Rattle.shape_words.specs.Rules.{Regular, ruled-at}
 use Rattle.shape_words.specs.Lengths.{Inside, inside-is, inside-four, inside-at}
 use Rattle.shape.specs.Limits.{min-limit-pos}
-use Rattle.laws_exact.specs.Keeps.{limitsOf}
+use Rattle.laws_keeps.specs.Keeps.{limitsOf}
 use Rattle.laws_exact.specs.Windows.{at-within}
 use Rattle.laws_exact.specs.Factors.{positive}
 use Rattle.laws_exact.specs.Wholes.{Wholes, Is, is-same, wholes-is}
 use Rattle.laws_exact.specs.Sums.{seriesIn, weightIn}
 use Rattle.laws_exact.specs.Products.{own-sits}
 use Rattle.laws_exact.specs.Results.{Result, result}
-use Rattle.laws_exact.specs.SubstituteKeeps.{substitute-keeps}
+use Rattle.laws_keeps.specs.SubstituteKeeps.{substitute-keeps}
 use Rattle.laws_exact_substitution.specs.Hornered.{running, running-all, substitute-one}
 use Rattle.laws_exact_substitution.specs.Horners.{Puts, made-weight}
 use Rattle.laws_exact_substitution.specs.Substituted.{substituted-is}

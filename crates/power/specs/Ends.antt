@@ -19,7 +19,7 @@ use Rattle.model.specs.Poly.{Block, block}
 use Rattle.model.specs.Product.{constantBlock}
 use Rattle.model.specs.Power.{squared}
 use Rattle.shape_words.specs.Lengths.{Lengths}
-use Rattle.laws_exact.specs.Sits.{Sits}
+use Rattle.laws_keeps.specs.Sits.{Sits}
 use Rattle.product.specs.Room.{Under, Stands}
 use Rattle.product.specs.Ways.{under-lengths, sits-under, count-less}
 use Rattle.product.specs.Times.{stands-padded}

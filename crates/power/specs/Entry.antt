@@ -22,7 +22,7 @@ use Rattle.shape_words.specs.Rules.{Ruled, Regular, ruled-at}
 use Rattle.shape_words.specs.Lengths.{lengths-of}
 use Rattle.shape.specs.Announced.{single-limits}
 use Rattle.gates.specs.Gate.{WorkReady}
-use Rattle.laws_exact.specs.PowerKeeps.{power-keeps}
+use Rattle.laws_keeps.specs.PowerKeeps.{power-keeps}
 use Rattle.product.specs.Room.{Under}
 use Rattle.power.specs.Room.{powerBlock, powerShape, Powers}
 

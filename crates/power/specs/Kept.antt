@@ -17,8 +17,8 @@ use Rattle.model.specs.Poly.{Block, block}
 use Rattle.model.specs.Product.{constantBlock, multiplied}
 use Rattle.model.specs.Power.{squared}
 use Rattle.shape_words.specs.Lengths.{Lengths, count-pos, count-most}
-use Rattle.laws_exact.specs.Sits.{Sits}
-use Rattle.laws_exact.specs.Running.{multiplied-fits}
+use Rattle.laws_keeps.specs.Sits.{Sits}
+use Rattle.laws_keeps.specs.Running.{multiplied-fits}
 use Rattle.product.specs.Room.{Under, Room, Stands, Made}
 use Rattle.product.specs.Ways.{under-lengths, under-sits, sits-under, count-less, shape-under, shape-left, shape-right}
 use Rattle.product.specs.Times.{cut-none}

@@ -15,9 +15,9 @@ use Rattle.model.specs.Readings.{oneF}
 use Rattle.model.specs.Poly.{Block}
 use Rattle.model.specs.Product.{constantBlock, multiplied}
 use Rattle.model.specs.Power.{squared}
-use Rattle.laws_exact.specs.Sits.{Sits, sum-at}
-use Rattle.laws_exact.specs.Running.{Most, constant-most}
-use Rattle.laws_exact.specs.PowerKeeps.{halves, product-most, bit-most, squared-most}
+use Rattle.laws_keeps.specs.Sits.{Sits, sum-at}
+use Rattle.laws_keeps.specs.Running.{Most, constant-most}
+use Rattle.laws_keeps.specs.PowerKeeps.{halves, product-most, bit-most, squared-most}
 use Rattle.product.specs.Room.{Under}
 use Rattle.product.specs.Ways.{count-less, sits-under, shape-left, shape-right}
 use Rattle.power.specs.Room.{powerBlock, powerShape, taken}

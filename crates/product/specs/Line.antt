@@ -20,9 +20,9 @@ use Rattle.model.specs.Linear.{linear}
 use Rattle.model.specs.Add.{joinedBlock}
 use Rattle.model.specs.Product.{chosen, constantBlock, grown, raised, plainProduct, linearProduct, productOf}
 use Rattle.shape_words.specs.Lengths.{Lengths, count-pos}
-use Rattle.laws_exact.specs.Sits.{Sits, sits-more, sum-at, max-at}
-use Rattle.laws_exact.specs.Ways.{linear-is, line-two}
-use Rattle.laws_exact.specs.ProductKeeps.{product-sits, constant-sits}
+use Rattle.laws_keeps.specs.Sits.{Sits, sits-more, sum-at, max-at}
+use Rattle.laws_keeps.specs.Ways.{linear-is, line-two}
+use Rattle.laws_keeps.specs.ProductKeeps.{product-sits, constant-sits}
 use Rattle.product.specs.Room.{Caps, Under, RaisesTo, Plain, Joins, Lies, Room, LineRoom, Whole, LineWhole, Put, Stands, Made}
 use Rattle.product.specs.Ways.{under-lengths, count-less, under-sits, sits-under, shape-under, shape-left}
 use Rattle.product.specs.Ways.{shape-right, grown-under, grown-in, grown-fits, ones-under, shape-one, put-stands}

@@ -30,7 +30,7 @@ use Rattle.shape_words.specs.Words.{good-word, pack-unpack}
 use Rattle.product_kept.specs.Kept.{KeepsLength, Keeps, keeps-ruled, keeps-announced}
 use Rattle.gates.specs.Gate.{PairReady, pair-ready}
 use Rattle.blocks.specs.Entry.{done-answer, done-full}
-use Rattle.laws_exact.specs.Sits.{Sits}
+use Rattle.laws_keeps.specs.Sits.{Sits}
 use Rattle.product.specs.Room.{Caps}
 use Rattle.product.specs.Own.{Light, Owns, Shortens, ShortRoom, shortPlaces}
 use Rattle.product.specs.Short.{short-var, short-value}

@@ -23,8 +23,8 @@ use Rattle.model.specs.Add.{joinedBlock}
 use Rattle.model.specs.Linear.{linear}
 use Rattle.model.specs.Product.{isConstant, isZero, constantBlock, scaled, scaledAt, grown, raised, chosen, linearProduct, productOf, multiplied}
 use Rattle.product_kept.specs.Kept.{KeepsLength}
-use Rattle.laws_exact.specs.Sits.{Sits}
-use Rattle.laws_exact.specs.Ways.{linear-is, line-two}
+use Rattle.laws_keeps.specs.Sits.{Sits}
+use Rattle.laws_keeps.specs.Ways.{linear-is, line-two}
 use Rattle.product.specs.Room.{Caps, RaisesTo}
 use Rattle.product.specs.Ways.{sits-under, chosen-five, product-five, product-plain, plain-3}
 use Rattle.product.specs.Lined.{neither, by-scale, lined-block}

@@ -31,9 +31,9 @@ use Rattle.gates.specs.Gate.{PairReady}
 use Rattle.blocks.specs.Rows.{Inner, inner-of}
 use Rattle.blocks.specs.Same.{sameLengths, same-is, same-count, cut-all}
 use Rattle.blocks.specs.Two.{Two, Holds, cutPlaces, cut-is}
-use Rattle.laws_exact.specs.Sits.{Sits}
-use Rattle.laws_exact.specs.Running.{multiplied-fits}
-use Rattle.laws_exact.specs.ProductKeeps.{product-keeps}
+use Rattle.laws_keeps.specs.Sits.{Sits}
+use Rattle.laws_keeps.specs.Running.{multiplied-fits}
+use Rattle.laws_keeps.specs.ProductKeeps.{product-keeps}
 use Rattle.product.specs.Room.{Under, Room, Times, Whole, Put, Stands, Made}
 use Rattle.product.specs.Ways.{under-lengths, count-less, shape-under, shape-left, shape-right}
 

@@ -29,7 +29,7 @@ use Rattle.shape_words.specs.Lengths.{Lengths}
 use Rattle.blocks.specs.Rows.{count-inner, inner-of}
 use Rattle.product_general.specs.Rows.{Multiplying}
 use Rattle.blocks.specs.Combine.{Combining}
-use Rattle.laws_exact.specs.Sits.{Sits, sum-at}
+use Rattle.laws_keeps.specs.Sits.{Sits, sum-at}
 use Rattle.product.specs.Room.{lineWay, Caps, Under, RaisesTo, Plain, Joins, Put, Stands, Made}
 use Rattle.product_linear.specs.Raise.{Raising}
 

@@ -27,12 +27,12 @@ use Rattle.shape_words.specs.Words.{good-word}
 use Rattle.shape.specs.Under.{Under, under-same, under-then, announced-under}
 use Rattle.shape.specs.Keeps.{Keeps, none-keeps}
 use Rattle.recipes_kinds.specs.Known.{Known, step-regular}
-use Rattle.laws_exact.specs.Keeps.{negated-keeps, combined-keeps}
-use Rattle.laws_exact.specs.ProductKeeps.{product-keeps}
-use Rattle.laws_exact.specs.QuotientKeeps.{quotient-keeps}
-use Rattle.laws_exact.specs.PowerKeeps.{power-keeps}
-use Rattle.laws_exact.specs.ShiftKeeps.{derivative-keeps, expansion-keeps, shift-down-keeps}
-use Rattle.laws_exact.specs.SubstituteKeeps.{substitute-keeps}
+use Rattle.laws_keeps.specs.Keeps.{negated-keeps, combined-keeps}
+use Rattle.laws_keeps.specs.ProductKeeps.{product-keeps}
+use Rattle.laws_keeps.specs.QuotientKeeps.{quotient-keeps}
+use Rattle.laws_keeps.specs.PowerKeeps.{power-keeps}
+use Rattle.laws_keeps.specs.ShiftKeeps.{derivative-keeps, expansion-keeps, shift-down-keeps}
+use Rattle.laws_keeps.specs.SubstituteKeeps.{substitute-keeps}
 use Rattle.recipes_check.specs.Inputs.{none-good, inputs-good, first-good}
 use Rattle.recipes_laws.specs.EachKind.{by-kind}
 

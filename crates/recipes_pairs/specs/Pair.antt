@@ -42,9 +42,9 @@ use Rattle.product.specs.Ways.{put-stands}
 use Rattle.quotient.specs.Room.{Recurring, Divides, loadedQuotient}
 use Rattle.quotient.specs.Entry.{entry-divides}
 use Rattle.quotient.specs.Into.{into-two, into-recur, same-count, loaded-is, loaded-lengths}
-use Rattle.laws_exact.specs.Keeps.{combined-keeps}
-use Rattle.laws_exact.specs.ProductKeeps.{product-keeps}
-use Rattle.laws_exact.specs.QuotientKeeps.{quotient-keeps}
+use Rattle.laws_keeps.specs.Keeps.{combined-keeps}
+use Rattle.laws_keeps.specs.ProductKeeps.{product-keeps}
+use Rattle.laws_keeps.specs.QuotientKeeps.{quotient-keeps}
 use Rattle.recipes_operands.specs.Lent.{kept-as, kept-over}
 
 abbrev pub pairFamily : ℕ → Family

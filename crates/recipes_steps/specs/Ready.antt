@@ -27,12 +27,12 @@ use Rattle.shape_words.specs.Rules.{Ruled, Good}
 use Rattle.shape.specs.Keeps.{Keeps}
 use Rattle.shape.specs.Under.{count-under}
 use Rattle.shape.specs.Announced.{announced-regular}
-use Rattle.laws_exact.specs.Keeps.{negated-keeps, combined-keeps}
-use Rattle.laws_exact.specs.ProductKeeps.{product-keeps}
-use Rattle.laws_exact.specs.QuotientKeeps.{quotient-keeps}
-use Rattle.laws_exact.specs.PowerKeeps.{power-keeps}
-use Rattle.laws_exact.specs.ShiftKeeps.{derivative-keeps, expansion-keeps, shift-down-keeps}
-use Rattle.laws_exact.specs.SubstituteKeeps.{substitute-keeps}
+use Rattle.laws_keeps.specs.Keeps.{negated-keeps, combined-keeps}
+use Rattle.laws_keeps.specs.ProductKeeps.{product-keeps}
+use Rattle.laws_keeps.specs.QuotientKeeps.{quotient-keeps}
+use Rattle.laws_keeps.specs.PowerKeeps.{power-keeps}
+use Rattle.laws_keeps.specs.ShiftKeeps.{derivative-keeps, expansion-keeps, shift-down-keeps}
+use Rattle.laws_keeps.specs.SubstituteKeeps.{substitute-keeps}
 use Rattle.recipes_operands.specs.Lent.{Lies, Lent, kept-as, kept-then, padded-on}
 use Rattle.recipes_singles.specs.Change.{changeFamily, changedPoly, Changing}
 use Rattle.recipes_pairs.specs.Pair.{pairFamily, pairPoly, Pairing, pair-sum, pair-product, pair-quotient}

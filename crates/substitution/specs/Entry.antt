@@ -26,8 +26,8 @@ use Rattle.shape.specs.Limits.{min-limit-pos, min-degrees-range}
 use Rattle.shape.specs.Announced.{announced-regular}
 use Rattle.shape.specs.Keeps.{Keeps}
 use Rattle.gates.specs.Gate.{PairReady}
-use Rattle.laws_exact.specs.Sits.{Sits}
-use Rattle.laws_exact.specs.SubstituteKeeps.{lengths-fit, substitute-keeps}
+use Rattle.laws_keeps.specs.Sits.{Sits}
+use Rattle.laws_keeps.specs.SubstituteKeeps.{lengths-fit, substitute-keeps}
 use Rattle.product.specs.Room.{Stands}
 use Rattle.product.specs.Ways.{count-less}
 use Rattle.substitution_way.specs.Way.{putFor}

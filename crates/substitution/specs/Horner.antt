@@ -24,11 +24,11 @@ use Rattle.shape_words.specs.Lengths.{lengths-pos}
 use Rattle.shape.specs.Cut.{cut-at}
 use Rattle.blocks.specs.Two.{cutPlaces, cut-is}
 use Rattle.readings_row.specs.Rows.{Picking}
-use Rattle.laws_exact.specs.Sits.{Sits, sum-at, max-at, sits-more}
-use Rattle.laws_exact.specs.Keeps.{joined-sits, joined-under}
-use Rattle.laws_exact.specs.ProductKeeps.{constant-sits, shape-under}
-use Rattle.laws_exact.specs.Running.{multiplied-sits}
-use Rattle.laws_exact.specs.SubstituteKeeps.{row-sits, zero-first}
+use Rattle.laws_keeps.specs.Sits.{Sits, sum-at, max-at, sits-more}
+use Rattle.laws_keeps.specs.Keeps.{joined-sits, joined-under}
+use Rattle.laws_keeps.specs.ProductKeeps.{constant-sits, shape-under}
+use Rattle.laws_keeps.specs.Running.{multiplied-sits}
+use Rattle.laws_keeps.specs.SubstituteKeeps.{row-sits, zero-first}
 use Rattle.product.specs.Room.{Stands}
 use Rattle.product.specs.Ways.{under-lengths, count-less, under-sits, sits-under}
 use Rattle.product.specs.Times.{cut-none}

@@ -18,8 +18,8 @@ use Rattle.shape_words.specs.Lengths.{Lengths, lengths-pos}
 use Rattle.shape.specs.Cut.{cut-at}
 use Rattle.blocks.specs.Rows.{Cutting, inner-of}
 use Rattle.readings_row.specs.Rows.{Picking}
-use Rattle.laws_exact.specs.Sits.{cut-sits}
-use Rattle.laws_exact.specs.SubstituteKeeps.{row-sits, substituted-most}
+use Rattle.laws_keeps.specs.Sits.{cut-sits}
+use Rattle.laws_keeps.specs.SubstituteKeeps.{row-sits, substituted-most}
 use Rattle.product.specs.Room.{Under}
 use Rattle.product.specs.Ways.{under-lengths, count-less, sits-under, ones-under}
 use Rattle.substitution.specs.Room.{rowOf, Puts, Cuts}

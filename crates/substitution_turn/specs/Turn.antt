@@ -19,9 +19,9 @@ use Rattle.model.specs.Poly.{Block, block}
 use Rattle.model.specs.Add.{joinedBlock}
 use Rattle.model.specs.Product.{isZero, constantBlock, productOf}
 use Rattle.shape_words.specs.Lengths.{Lengths, count-pos}
-use Rattle.laws_exact.specs.Sits.{Sits, max-at}
-use Rattle.laws_exact.specs.Keeps.{joined-sits}
-use Rattle.laws_exact.specs.ProductKeeps.{product-sits, constant-sits, left-fits}
+use Rattle.laws_keeps.specs.Sits.{Sits, max-at}
+use Rattle.laws_keeps.specs.Keeps.{joined-sits}
+use Rattle.laws_keeps.specs.ProductKeeps.{product-sits, constant-sits, left-fits}
 use Rattle.product.specs.Room.{Under, Joins, Room, Put, Stands, Made}
 use Rattle.product.specs.Ways.{under-lengths, count-less, under-sits, sits-under, under-more, shape-under, shape-left}
 use Rattle.product.specs.Ways.{shape-right, put-stands, put-made}

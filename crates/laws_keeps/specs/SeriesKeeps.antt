@@ -29,9 +29,9 @@ use Rattle.shape_words.specs.Rules.{Regular, ruled-at, none-regular}
 use Rattle.shape_words.specs.Spans.{count-one}
 use Rattle.shape.specs.Announced.{announced-regular}
 use Rattle.shape.specs.Keeps.{Keeps}
-use Rattle.laws_exact.specs.Sits.{Sits}
-use Rattle.laws_exact.specs.Keeps.{sits-keeps}
-use Rattle.laws_exact.specs.QuotientKeeps.{quotient-sits, quotient-lengths}
+use Rattle.laws_keeps.specs.Sits.{Sits}
+use Rattle.laws_keeps.specs.Keeps.{sits-keeps}
+use Rattle.laws_keeps.specs.QuotientKeeps.{quotient-sits, quotient-lengths}
 
 -- ---- as many places as the lengths say
 

@@ -24,8 +24,8 @@ use Rattle.shape_words.specs.Rules.{Regular}
 use Rattle.shape_words.specs.Spans.{count-one}
 use Rattle.shape.specs.Announced.{announced-regular}
 use Rattle.shape.specs.Keeps.{Keeps}
-use Rattle.laws_exact.specs.Sits.{Sits}
-use Rattle.laws_exact.specs.Keeps.{sits-keeps, left-sits, right-sits}
+use Rattle.laws_keeps.specs.Sits.{Sits}
+use Rattle.laws_keeps.specs.Keeps.{sits-keeps, left-sits, right-sits}
 
 -- ---- the lengths
 

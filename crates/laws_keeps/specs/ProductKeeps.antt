@@ -25,9 +25,9 @@ use Rattle.model.specs.Product.{isZero, constantBlock, scaled, scaledAt, grown,
 use Rattle.shape_words.specs.Rules.{Regular}
 use Rattle.shape.specs.Announced.{announced-regular}
 use Rattle.shape.specs.Keeps.{Keeps}
-use Rattle.laws_exact.specs.Sits.{Sits, sits-more, sum-at}
-use Rattle.laws_exact.specs.Keeps.{sits-keeps, joined-under, left-sits, right-sits}
-use Rattle.laws_exact.specs.Ways.{by-way, linear-is, line-two}
+use Rattle.laws_keeps.specs.Sits.{Sits, sits-more, sum-at}
+use Rattle.laws_keeps.specs.Keeps.{sits-keeps, joined-under, left-sits, right-sits}
+use Rattle.laws_keeps.specs.Ways.{by-way, linear-is, line-two}
 
 -- ---- lengths
 

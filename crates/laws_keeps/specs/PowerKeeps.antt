@@ -22,8 +22,8 @@ use Rattle.shape_words.specs.Rules.{Regular, ruled-at}
 use Rattle.shape.specs.Announced.{single-regular, single-limits}
 use Rattle.shape.specs.Keeps.{Keeps, none-keeps}
 use Rattle.shape.specs.Cut.{cut-at}
-use Rattle.laws_exact.specs.Sits.{Sits}
-use Rattle.laws_exact.specs.Running.{Most, most-more, constant-most, multiplied-most, most-keeps}
+use Rattle.laws_keeps.specs.Sits.{Sits}
+use Rattle.laws_keeps.specs.Running.{Most, most-more, constant-most, multiplied-most, most-keeps}
 
 -- the exponent's last bit and the rest of it, on y
 pub halves : (e y : ℕ) → (e % 2) * y + (e / 2) * (y + y) ≡ e * y

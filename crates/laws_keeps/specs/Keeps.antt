@@ -26,7 +26,7 @@ use Rattle.shape.specs.Limits.{min-limit-pos}
 use Rattle.shape.specs.Announced.{announced-regular}
 use Rattle.shape.specs.Under.{under-same}
 use Rattle.shape.specs.Keeps.{Keeps}
-use Rattle.laws_exact.specs.Sits.{Sits, sits-more, cut-sits, max-at, max-left, max-right}
+use Rattle.laws_keeps.specs.Sits.{Sits, sits-more, cut-sits, max-at, max-left, max-right}
 
 -- a block that sits under the lengths of a header
 pub sits-keeps : {h : Header} {b : Block} → Regular h → Sits (h .lengths) b → Keeps h (polyOf h b)

@@ -21,9 +21,9 @@ use Rattle.model.specs.Shifts.{inRow, byIndex, rowSum, rowsFrom, derivativePoly
 use Rattle.shape_words.specs.Rules.{Regular, ruled-at, none-regular}
 use Rattle.shape.specs.Announced.{announced-regular}
 use Rattle.shape.specs.Keeps.{Keeps}
-use Rattle.laws_exact.specs.Sits.{Sits}
-use Rattle.laws_exact.specs.Keeps.{sits-keeps}
-use Rattle.laws_exact.specs.ProductKeeps.{constant-sits}
+use Rattle.laws_keeps.specs.Sits.{Sits}
+use Rattle.laws_keeps.specs.Keeps.{sits-keeps}
+use Rattle.laws_keeps.specs.ProductKeeps.{constant-sits}
 
 -- each place of a header's lengths, whatever stands there
 pub by-index-sits : {h : Header} → Regular h → (f : List ℕ → Float) → Sits (h .lengths) (byIndex h f)

@@ -2,14 +2,14 @@
 -- the polynomial itself where it lacks the variable; else the smaller limits, and no length above min(L, 1+(p-1)(b-1))
 -- in v and min(L, a+(p-1)(b-1)) elsewhere, p the uncut length of v; on the zero, linear and Horner paths.
 use mathlib.Core.Path.{_≡_, refl}
-use mathlib.Core.Bool.{false, _&&_}
+use mathlib.Core.Bool.{true, false, _&&_}
 use mathlib.Core.List.{List}
 use Prim.Native.Nat.{ℕ, zero, suc, _+_, _-_, _*_, _≤_, _<_, min}
 use native.Mathlib.Nat.{le-refl, le-trans, mul-le-mul-left}
 use native.Mathlib.Omega.{arith}
 use lib.Dec.{leb, ltb, eqb}
 use lib.ListN.{length, set}
-use lib.Ieee.{Float, eq}
+use lib.Ieee.{Float, eq, ofBits}
 use borrow.Author.Tests.{le-ltb, eqb-true, ltb-true, leb-true, leb-false, eq-eqb, ne-eqb}
 use Rattle.lists.specs.Test.{decide, and-left, and-right}
 use Rattle.lists.specs.Table.{length-table}
@@ -24,19 +24,17 @@ use Rattle.model.specs.Linear.{linear}
 use Rattle.model.specs.Add.{joinedBlock}
 use Rattle.model.specs.Product.{isZero, constantBlock, multiplied}
 use Rattle.model.specs.Substitute.{rowAt, powered, horner, substituted, substitutePoly}
-use Rattle.laws_whole.specs.Whole.{whole-zero}
-use Rattle.laws_whole.specs.Compare.{eq-zero}
 use Rattle.shape_words.specs.Rules.{Regular, ruled-at}
 use Rattle.shape.specs.Limits.{min-limit-pos}
 use Rattle.shape.specs.Announced.{paired-regular}
 use Rattle.shape.specs.Under.{under-same}
 use Rattle.shape.specs.Keeps.{Keeps}
 use Rattle.shape.specs.Cut.{cut-at}
-use Rattle.laws_exact.specs.Sits.{Sits}
-use Rattle.laws_exact.specs.Keeps.{limitsOf}
-use Rattle.laws_exact.specs.ProductKeeps.{set-four}
-use Rattle.laws_exact.specs.Ways.{linear-is, line-two}
-use Rattle.laws_exact.specs.Running.{Most, most-more, constant-most, multiplied-most, joined-most, most-keeps}
+use Rattle.laws_keeps.specs.Sits.{Sits}
+use Rattle.laws_keeps.specs.Keeps.{limitsOf}
+use Rattle.laws_keeps.specs.ProductKeeps.{set-four}
+use Rattle.laws_keeps.specs.Ways.{linear-is, line-two}
+use Rattle.laws_keeps.specs.Running.{Most, most-more, constant-most, multiplied-most, joined-most, most-keeps}
 
 -- p rows under the limit l, where b has two at least
 rows-kept : (l p b : ℕ) → 1 ≤ l → 1 ≤ p → 2 ≤ b → min l p ≤ 1 + (p - 1) * (min l b - 1)
@@ -91,10 +89,14 @@ module _ (l : List ℕ) (v : ℕ) (a : Block) (h : v < 4) (pos-l : (k : ℕ) →
     horner-most (suc n) x e m =
         most-more (λ k g. omega arith) (horner-most n (λ k. x k + more k) (λ k g. le-trans (e k g) (omega arith)) (turn-most n x e m))
 
+    zero-is : eq zeroF zeroF ≡ true
+    unfolding eq ofBits
+    zero-is = refl
+
     -- the first turn multiplies a zero of stored count 1, and leaves the highest row
     pub zero-first : multiplied l (constantBlock zeroF) b ≡ constantBlock zeroF
     unfolding multiplied span
-    zero-first = rw (eq-zero whole-zero .1 refl)
+    zero-first = rw zero-is
 
     horner-all : (p : ℕ) → 1 ≤ p → Most l (λ k. at rowLengths k + (p - 1) * more k) (horner l v a p b (constantBlock zeroF))
     unfolding horner rowAt

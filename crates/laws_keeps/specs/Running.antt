@@ -19,9 +19,9 @@ use Rattle.model.specs.Product.{isZero, constantBlock, multiplied}
 use Rattle.shape_words.specs.Rules.{Regular}
 use Rattle.shape.specs.Keeps.{Keeps}
 use Rattle.shape.specs.Cut.{cut-at}
-use Rattle.laws_exact.specs.Sits.{Sits, sits-more, cut-sits, sum-at, max-at}
-use Rattle.laws_exact.specs.Keeps.{sits-keeps, joined-sits, joined-under}
-use Rattle.laws_exact.specs.ProductKeeps.{constant-sits, left-fits, shape-under, product-sits}
+use Rattle.laws_keeps.specs.Sits.{Sits, sits-more, cut-sits, sum-at, max-at}
+use Rattle.laws_keeps.specs.Keeps.{sits-keeps, joined-sits, joined-under}
+use Rattle.laws_keeps.specs.ProductKeeps.{constant-sits, left-fits, shape-under, product-sits}
 
 pub record Most (l : List ℕ) (x : ℕ → ℕ) (b : Block) : Type 0 where
   pub sits : Sits l b

@@ -1,0 +1,10 @@
+pub mod Sits
+pub mod Keeps
+pub mod Ways
+pub mod ProductKeeps
+pub mod QuotientKeeps
+pub mod ShiftKeeps
+pub mod Running
+pub mod PowerKeeps
+pub mod SubstituteKeeps
+pub mod SeriesKeeps
