@@ -1,5 +1,5 @@
--- The figures of a report: a line for each stored place, with its index and its coefficient; for one variable the
--- running sum and the tail too.
+-- REFERENCE 9.1. The figures of a report: a line for each stored place, with its index and its coefficient; for one
+-- variable the running sum and the tail too.
 use Prim.Native.Nat.{ℕ, _+_, _-_}
 use mathlib.Core.Bool.{cond}
 use mathlib.Core.List.{List, _++_}

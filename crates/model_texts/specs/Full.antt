@@ -1,7 +1,7 @@
--- Full lengths: how long every place would be with no limits anywhere, taking every input as the polynomial that it
--- stores; from words alone. They are document 01's 'Announced limits and lengths' with the limit left out, and the
--- operands' full lengths go in. A length is 1 at least, so 0 stands for 'without end'; 2^32 stands for itself and all
--- that is longer.
+-- REFERENCE 9.2. Full lengths: how long every place would be with no limits anywhere, taking every input as the
+-- polynomial that it stores; from words alone. They are document 01's 'Announced limits and lengths' with the limit
+-- left out, and the operands' full lengths go in. A length is 1 at least, so 0 stands for 'without end'; 2^32 stands
+-- for itself and all that is longer.
 use Prim.Native.Nat.{ℕ, _+_, _-_, _*_, _/_, _%_, _^_, min, max}
 use mathlib.Core.Bool.{Bool, _||_, cond}
 use mathlib.Core.List.{List, []}

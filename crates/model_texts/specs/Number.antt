@@ -1,5 +1,5 @@
--- A float in a report: a whole number of size at most 2 ^ 53 in decimal, -0 as "-0"; any other as "0x" and the 16 hex
--- digits of its word.
+-- REFERENCE 9.1. A float in a report: a whole number of size at most 2 ^ 53 in decimal, -0 as "-0"; any other as "0x"
+-- and the 16 hex digits of its word.
 use Prim.Native.Nat.{ℕ, _+_, _-_, _*_, _/_, _%_, _^_}
 use mathlib.Core.Bool.{Bool, _&&_, _||_, cond}
 use mathlib.Core.List.{List, _++_}

@@ -1,6 +1,7 @@
--- The report of a sheet: every limit before any figure. A line for each place; a line for each input that fills its
--- limit, each limit that falls and each full length that passes its limit; what decided each limit of the answer; and
--- one line that says whether the answer is whole: from the headers that the places announce and the step words alone.
+-- REFERENCE 9.1. The report of a sheet: every limit before any figure. A line for each place; a line for each input
+-- that fills its limit, each limit that falls and each full length that passes its limit; what decided each limit of
+-- the answer; and one line that says whether the answer is whole: from the headers that the places announce and the
+-- step words alone.
 use Prim.Native.Nat.{ℕ, zero, suc, _+_, _-_}
 use Prim.Native.String.{String}
 use mathlib.Core.Bool.{Bool, _&&_, _||_, cond}

@@ -1,5 +1,5 @@
--- What a person reads where a sheet is refused: the line that `recipe` prints, then one sentence: which place, what the
--- number means, what to do about it.
+-- REFERENCE 9. What a person reads where a sheet is refused: the line that `recipe` prints, then one sentence: which
+-- place, what the number means, what to do about it.
 use Prim.Native.Nat.{ℕ}
 use Prim.Native.String.{String}
 use mathlib.Core.Bool.{Bool, cond}

@@ -1,5 +1,5 @@
--- What the program `limits` prints for a sheet: where it is refused what `recipe` prints and a sentence; else all that
--- is said of limits, and then the figures of the last value.
+-- REFERENCE 9. What the program `limits` prints for a sheet: where it is refused what `recipe` prints and a sentence;
+-- else all that is said of limits, and then the figures of the last value.
 use Prim.Native.Nat.{ℕ, _+_}
 use mathlib.Core.Bool.{cond}
 use mathlib.Core.List.{List, _++_}

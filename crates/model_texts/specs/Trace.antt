@@ -1,6 +1,6 @@
--- Which place decides a limit, and where a limit falls ('every limit, shown before any figure'). `known` are the
--- headers that all places announce, ss the step words; the first `inputs` places are inputs. An operand counts where
--- the step's kind uses it, whether or not its value is needed, and where it has the variable.
+-- REFERENCE 9.4. Which place decides a limit, and where a limit falls ('every limit, shown before any figure'). `known`
+-- are the headers that all places announce, ss the step words; the first `inputs` places are inputs. An operand counts
+-- where the step's kind uses it, whether or not its value is needed, and where it has the variable.
 use Prim.Native.Nat.{ℕ, _-_}
 use mathlib.Core.Bool.{Bool, _&&_, _||_, not, cond}
 use mathlib.Core.List.{List, []}

@@ -1,5 +1,6 @@
--- Whole: taking every input as the polynomial that it stores, no step that the answer is made of left a term out. A
--- place leaves terms out where a full length passes its limit. From words alone; fs are the full lengths of all places.
+-- REFERENCE 9.3. Whole: taking every input as the polynomial that it stores, no step that the answer is made of left a
+-- term out. A place leaves terms out where a full length passes its limit. From words alone; fs are the full lengths of
+-- all places.
 use Prim.Native.Nat.{ℕ, min}
 use mathlib.Core.Bool.{Bool, true, false, _&&_, _||_, not, cond}
 use mathlib.Core.List.{List, []}

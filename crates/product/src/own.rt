@@ -1,4 +1,4 @@
-// A right factor that leaves the left operand's header as it is (crate kept_headers): no limit cuts, the left operand's
+// A right factor that leaves the left operand's header as it is (crate product_kept): no limit cuts, the left operand's
 // word is the answer's, and a constant or a linear factor takes one pass.
 use crate::kernel::choose;
 use gates::stored_of;

@@ -1,7 +1,7 @@
 -- Demand 3: 'If the check accepts and the buffers are as long as it says, then for any coefficients the run finishes
 -- every step (answers done), each limit is exactly the one announced, no stored length exceeds its announced one, and
 -- each value is the operation's value (demand 2's definition) of its operands' values. So refusal 9 never happens.'
--- Said of definitions of crate model alone, for all words, coefficients and buffers. The theorem is `demand-3`,
+-- Said of definitions of the room model alone, for all words, coefficients and buffers. The theorem is `demand-3`,
 -- Demanded.antt.
 use Prim.Native.Nat.{ℕ, _+_, _*_, _≤_, _<_}
 use mathlib.Core.Bool.{true, false}
