@@ -5,7 +5,7 @@ use mathlib.Core.Path.{_≡_, refl, ap, _∙_}
 use lib.ListN.{length}
 use lib.Ieee.{ofBits, binary64}
 use Rattle.lists.specs.Table.{Filled, filled-none, filled-more}
-use Rattle.blocks.specs.Fill.{filled-all}
+use Rattle.lists.specs.Fill.{filled-all}
 use Rattle.npy_grammar.specs.Text.{eight}
 use Rattle.npy_files.specs.Values.{valueAt}
 use Rattle.npy_bytes.proofs.fill.Statement.{statement}
