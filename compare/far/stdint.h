@@ -1,3 +1,4 @@
 /* what face/taylor.h needs of it, for a compiler without its headers */
+typedef __UINT8_TYPE__ uint8_t;
 typedef __UINT32_TYPE__ uint32_t;
 typedef __UINT64_TYPE__ uint64_t;
