@@ -120,7 +120,7 @@ fn say_refusal(number: u8) {
             b"refused 4 64: chance is not from 0 to 1, or horizon not 1 to 255, or recipe above 65535. Nothing was changed.\n",
         ),
         13 => say(
-            b"refused 13 64: FROM is not the current version: somebody saved since. Nothing was changed; look again.\n",
+            b"refused 13 64: FROM is not the current version; somebody may have saved since. Nothing was changed; look again.\n",
         ),
         14 => say(
             b"refused 14 64: that version is not kept; the last eight are. Nothing was changed.\n",
