@@ -9,12 +9,13 @@ use lib.ListN.{length, take, drop, length-take, length-drop}
 use lib.Ieee.{Float}
 use mir.Val.{Fits}
 use mir.Syntax.{w64}
-use Rattle.lists.specs.Four.{at, each}
+use Rattle.lists.specs.Four.{at}
 use Rattle.model.specs.Header.{span}
 use Rattle.model.specs.General.{lo, alone}
-use Rattle.shape_words.specs.Lengths.{Lengths}
-use Rattle.product_general.specs.Index.{inRow}
-use Rattle.product_general.specs.Product.{span-more, stride-at, alone-one, row-in}
+use Rattle.shape_words.specs.Lengths.{Lengths, lengths-most}
+use Rattle.shape_words.specs.InRow.{inRow}
+use Rattle.shape_words.specs.Strides.{span-more, stride-at, row-in}
+use Rattle.product_general.specs.Product.{alone-one}
 use Rattle.product_general.specs.Rows.{Strided, Rowing, Several, Pairing}
 use Rattle.product_general.specs.Pairs.{fromOn}
 
@@ -22,17 +23,11 @@ use Rattle.product_general.specs.Pairs.{fromOn}
 pub in-array : {v : ℕ} → v < 4 → Fits w64 (v * 8)
 in-array h = omega arith
 
-pub most : {l : List ℕ} → Lengths l → (v : ℕ) → v < 4 → at l v ≤ 64
-most {l} g = each (λ v. at l v ≤ 64) (g .m0) (g .m1) (g .m2) (g .m3)
-
-pub row-small : {r : List ℕ} {v k : ℕ} → Lengths r → v < 4 → k < at r v → k < 64
-row-small {r} {v} g h l = omega (arith, most g v h)
-
 -- one long variable
 pub line-size : {r : List ℕ} {v n : ℕ} → Lengths r → v < 4 → alone r (4 - (v + 1)) v ≡ true → n ≡ span r (4 - v) v → n ≤ 64
 line-size {r} {v} {n} g h t e =
     let m : n ≡ at r v = e ∙ (span-more r h ∙ rw (alone-one r v t) (mul-one (at r v))) in
-    omega (arith, m, most g v h)
+    omega (arith, m, lengths-most g v h)
 
 -- a turn of the loop over j, from a up to b
 pub record Turn (nx ny k j : ℕ) : Type 0 where

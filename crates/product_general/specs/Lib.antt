@@ -1,4 +1,3 @@
-pub mod Index
 pub mod Product
 pub mod Rows
 pub mod Pairs

@@ -20,8 +20,9 @@ use Rattle.model.specs.General.{lo, steps, line, alone, productAt, general}
 use Rattle.shape_words.specs.Lengths.{Lengths}
 use Rattle.lists.specs.Fill.{filled-row, filled-rest, filled-all}
 use Rattle.lists.specs.Part.{one-place}
-use Rattle.product_general.specs.Index.{inRow, split-at}
-use Rattle.product_general.specs.Product.{span-none, span-more, alone-one, stepAt, product-same, product-end, product-line, product-rows}
+use Rattle.shape_words.specs.InRow.{inRow, split-at}
+use Rattle.shape_words.specs.Strides.{span-none, span-more}
+use Rattle.product_general.specs.Product.{alone-one, stepAt, product-same, product-end, product-line, product-rows}
 use Rattle.product_general.specs.Rows.{Several, placeOf, rowsOf, pairsOf}
 use Rattle.product_lines.specs.Added.{lineAdded}
 

@@ -17,14 +17,15 @@ use Rattle.lists.specs.Walk.{walk, walk-same}
 use Rattle.model.specs.Header.{span}
 use Rattle.model.specs.Places.{index, strides}
 use Rattle.model.specs.General.{lo, steps, line, alone, productAt}
-use Rattle.shape_words.specs.Lengths.{Lengths, lengths-pos}
+use Rattle.shape_words.specs.Lengths.{Lengths, lengths-pos, lengths-most}
 use Rattle.lists.specs.Fill.{filled-row, filled-rest, filled-all}
-use Rattle.product_general.specs.Index.{inRow, row-div, row-mod, split-at}
-use Rattle.product_general.specs.Product.{span-more, span-pos, row-in, first-in, stride-at, alone-one, product-line, product-rows}
+use Rattle.shape_words.specs.InRow.{inRow, row-div, row-mod, split-at}
+use Rattle.shape_words.specs.Strides.{span-more, span-pos, row-in, first-in, stride-at}
+use Rattle.product_general.specs.Product.{alone-one, product-line, product-rows}
 use Rattle.product_general.specs.Rows.{Strided, Rowing, Several, TwoLong, rowsOf}
 use Rattle.product_lines.specs.Added.{lineAdded}
 use Rattle.product_general.specs.Pairs.{fromOn, rows-line}
-use Rattle.product_general.specs.Bounds.{most, line-size, turn}
+use Rattle.product_general.specs.Bounds.{line-size, turn}
 
 -- the lines of the pairs from a up to b of the row k are there; n, m and r are the lengths of the buffers and of the
 -- row
@@ -98,7 +99,7 @@ module _ {lx sx ly sy r sr : List ℕ} (g : Strided lx sx ly sy r sr) {v nx ny n
       let e : at sr v ≡ inRow r v = stride-at r (g .by-r) (m .some) in
       record {
         some = lengths-pos (g .right) v (m .some);
-        many = most (g .result) v (m .some);
+        many = lengths-most (g .result) v (m .some);
         size = line-size (g .result) (z .next) (z .last) e;
         left = line-in lx (g .left) (g .by-x) (p .room-x);
         right = line-in ly (g .right) (g .by-y) (p .room-y);

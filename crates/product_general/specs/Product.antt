@@ -5,59 +5,18 @@ use mathlib.Core.Bool.{true, false, not, _&&_}
 use mathlib.Core.Path.{_≡_, refl, sym, ap, _∙_}
 use native.Mathlib.Omega.{arith}
 use native.Mathlib.Numerals.{add-one}
-use native.Mathlib.Nat.{mul-le-mul-right, mul-le-mul-left, suc-mul, mul-pos, zero-lt-suc}
 use lib.Dec.{eqb}
 use lib.ListN.{getD, drop}
 use lib.Ieee.{Float, nan, add, mul, binary64}
 use borrow.Author.Tests.{eqb-true}
 use Rattle.lists.specs.Test.{of-each, and-right}
-use Rattle.lists.specs.Four.{at, each}
+use Rattle.lists.specs.Four.{at}
 use Rattle.lists.specs.Walk.{walk, walk-same}
 use Rattle.model.specs.Header.{span}
 use Rattle.model.specs.Places.{strides}
 use Rattle.model.specs.General.{lo, steps, line, alone, productAt}
-use Rattle.shape_words.specs.Lengths.{Lengths, lengths-pos}
-use Rattle.product_general.specs.Index.{inRow}
-
-left : {v : ℕ} → v < 4 → 4 - v ≡ suc (4 - (v + 1))
-left h = omega arith
-
--- one variable more
-pub span-more : (l : List ℕ) {v : ℕ} → v < 4 → span l (4 - v) v ≡ at l v * inRow l v
-unfolding span
-span-more l {v} h = ap (λ (n : ℕ). span l n v) (left h) ∙ ap (λ (w : ℕ). at l v * span l (4 - (v + 1)) w) (sym (add-one v))
-
-pub span-none : (l : List ℕ) {v : ℕ} → v ≡ 4 → span l (4 - v) v ≡ 1
-unfolding span
-span-none l h = ap (λ (w : ℕ). span l (4 - w) w) h
-
-span-some : {l : List ℕ} → Lengths l → (n v : ℕ) → n + v ≡ 4 → 0 < span l n v
-unfolding span
-span-some g zero v h = zero-lt-suc 0
-span-some {l} g (suc n) v h = mul-pos (lengths-pos g v (omega arith)) (span-some g n (suc v) (omega arith))
-
-pub span-pos : {l : List ℕ} {v : ℕ} → Lengths l → v ≤ 4 → 0 < span l (4 - v) v
-span-pos {l} {v} g h = span-some g (4 - v) v (omega arith)
-
--- a row lies in a block
-pub row-in : (l : List ℕ) {v j s m : ℕ} → v < 4 → j < at l v → s ≡ inRow l v → span l (4 - v) v ≤ m → j * s + s ≤ m
-row-in l {v} {j} {s} {m} h i e b =
-    let c : suc j * s ≤ at l v * s = mul-le-mul-right s i in
-    let d : at l v * s ≤ m = rw (e, ← span-more l h) b in
-    omega (arith, c, d, suc-mul j s)
-
--- the first length is no more than all
-pub first-in : {l : List ℕ} {v m : ℕ} → Lengths l → v < 4 → span l (4 - v) v ≤ m → at l v ≤ m
-first-in {l} {v} {m} g h b =
-    let p : 1 ≤ inRow l v = span-pos g (omega arith) in
-    let c : at l v * 1 ≤ at l v * inRow l v = mul-le-mul-left (at l v) p in
-    let d : at l v * inRow l v ≤ m = rw (← span-more l h) b in
-    omega (arith, c, d)
-
--- strides that were computed once
-pub stride-at : (l : List ℕ) {s : List ℕ} {v : ℕ} → s ≡ strides l → v < 4 → at s v ≡ inRow l v
-unfolding strides
-stride-at l {s} {v} e h = rw e (each (λ v. at (strides l) v ≡ inRow l v) refl refl refl refl v h)
+use Rattle.shape_words.specs.InRow.{inRow}
+use Rattle.shape_words.specs.Strides.{one-left, stride-at}
 
 -- the test of one long variable
 pub alone-by : (r : List ℕ) {s : List ℕ} {v : ℕ} → s ≡ strides r → v < 4 → (not (eqb (at r v) 1) && eqb (at s v) 1) ≡ alone r (4 - (v + 1)) v
@@ -92,7 +51,7 @@ module _ (lx ly r i : List ℕ) (v : ℕ) (xs ys : List Float) (acc : Float) whe
   pub product-line : v < 4 → alone r (4 - (v + 1)) v ≡ true
       → productAt lx ly r i (4 - v) v xs ys acc ≡ add binary64 acc (line xs ys (at lx v) (at ly v) (at i v))
   unfolding productAt
-  product-line h t = ap (λ (n : ℕ). productAt lx ly r i n v xs ys acc) (left h) ∙ rw t
+  product-line h t = ap (λ (n : ℕ). productAt lx ly r i n v xs ys acc) (one-left h) ∙ rw t
 
   pub product-rows : v < 4 → alone r (4 - (v + 1)) v ≡ false
       → productAt lx ly r i (4 - v) v xs ys acc
@@ -100,7 +59,7 @@ module _ (lx ly r i : List ℕ) (v : ℕ) (xs ys : List Float) (acc : Float) whe
       (lo (at ly v) (at i v)) acc
   unfolding productAt
   product-rows h t =
-      ap (λ (n : ℕ). productAt lx ly r i n v xs ys acc) (left h)
+      ap (λ (n : ℕ). productAt lx ly r i n v xs ys acc) (one-left h)
       ∙ (rw t (sym (ap
       (λ (w : ℕ). walk (λ j a. productAt lx ly r i (4 - (v + 1)) w (drop (j * span lx (4 - (v + 1)) w) xs)
       (drop ((at i v - j) * span ly (4 - (v + 1)) w) ys) a) (steps (at lx v) (at ly v) (at i v))

@@ -13,7 +13,7 @@ use Rattle.model.specs.Header.{span, count}
 use Rattle.model.specs.Places.{strides, index}
 use Rattle.model.specs.General.{lo, steps, alone, productAt}
 use Rattle.shape_words.specs.Lengths.{Lengths}
-use Rattle.product_general.specs.Index.{inRow}
+use Rattle.shape_words.specs.InRow.{inRow}
 use Rattle.product_general.specs.Product.{stepAt}
 
 -- nx, ny and nr are the lengths of the buffers

@@ -21,8 +21,8 @@ use Rattle.model.specs.Add.{joinAt}
 use Rattle.model.specs.Quotient.{taken, lessened, quotientAt}
 use Rattle.shape_words.specs.Lengths.{Lengths, inside-is}
 use Rattle.blocks.specs.Rows.{Joining}
-use Rattle.product_general.specs.Index.{inRow, split-at}
-use Rattle.product_general.specs.Product.{row-in}
+use Rattle.shape_words.specs.InRow.{inRow, split-at}
+use Rattle.shape_words.specs.Strides.{row-in}
 use Rattle.product_general.specs.Pairs.{fromOn}
 use Rattle.quotient_levels.specs.Grows.{grow-add, grow-same, length-grown}
 use Rattle.quotient_levels.specs.Level.{takenAt, levelAt, levelOf, taken-row, lessened-same}

@@ -19,8 +19,8 @@ use Rattle.model.specs.Poly.{block}
 use Rattle.model.specs.Negate.{negatedAt}
 use Rattle.model.specs.Add.{joinAt}
 use Rattle.model.specs.Quotient.{recurred}
-use Rattle.product_general.specs.Index.{inRow}
-use Rattle.product_general.specs.Product.{span-more, stride-at}
+use Rattle.shape_words.specs.InRow.{inRow}
+use Rattle.shape_words.specs.Strides.{span-more, stride-at}
 use Rattle.quotient_levels.specs.Grows.{length-grown}
 use Rattle.quotient_lessening.specs.Laid.{Laid, laid-none, laid-mid, laid-append, laid-above, laid-part, laid-under, laid-front}
 use Rattle.quotient_levels.specs.Level.{takenAt, levelOf}

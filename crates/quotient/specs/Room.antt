@@ -16,7 +16,7 @@ use Rattle.model.specs.Readings.{oneF}
 use Rattle.model.specs.Quotient.{quotientShape, dividedAt, recurred}
 use Rattle.shape_words.specs.Lengths.{Lengths}
 use Rattle.blocks.specs.Rows.{Inner}
-use Rattle.product_general.specs.Index.{inRow}
+use Rattle.shape_words.specs.InRow.{inRow}
 
 -- the dividend, which lies at the front of the work, below q; lx its lengths
 pub record First (lx r : List ℕ) (nx q : ℕ) : Type 0 where

@@ -15,7 +15,7 @@ ghost use Rattle.model.specs.Poly.{block};
 ghost use Rattle.model.specs.Readings.{oneF};
 ghost use Rattle.model.specs.Add.{joinAt};
 ghost use Rattle.model.specs.Quotient.{dividedAt, recurred, divided};
-ghost use Rattle.product_general.specs.Index.{inRow};
+ghost use Rattle.shape_words.specs.InRow.{inRow};
 ghost use Rattle.quotient_lessening.specs.Laid.{Laid};
 ghost use Rattle.quotient_levels.specs.Room.{Dividing, Room, RowRoom};
 ghost use Rattle.quotient.specs.Room.{Adding, First, Recurring, Divides, loadedQuotient};

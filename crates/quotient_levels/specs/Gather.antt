@@ -13,8 +13,8 @@ use Rattle.lists.specs.Table.{table, table-same, table-at, length-table}
 use Rattle.lists.specs.Part.{part, length-part}
 use Rattle.model.specs.Header.{span, count}
 use Rattle.shape_words.specs.Lengths.{Lengths, lengths-pos}
-use Rattle.product_general.specs.Index.{inRow}
-use Rattle.product_general.specs.Product.{span-more, stride-at, row-in}
+use Rattle.shape_words.specs.InRow.{inRow}
+use Rattle.shape_words.specs.Strides.{span-more, stride-at, row-in}
 use Rattle.quotient_lessening.specs.Laid.{Laid}
 use Rattle.quotient_levels.specs.Level.{takenAt, leftAt}
 use Rattle.quotient_levels.specs.Room.{Dividing, Taking, RowRoom}

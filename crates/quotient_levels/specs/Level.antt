@@ -18,7 +18,7 @@ use Rattle.model.specs.Refusals.{zeroF}
 use Rattle.model.specs.General.{lo, productAt}
 use Rattle.model.specs.Quotient.{taken, lessened}
 use Rattle.shape_words.specs.Lengths.{Lengths}
-use Rattle.product_general.specs.Index.{inRow, split-at}
+use Rattle.shape_words.specs.InRow.{inRow, split-at}
 use Rattle.product_general.specs.Product.{stepAt, product-same}
 use Rattle.quotient_levels.specs.Grows.{grow-add, grow-same, length-grown}
 

@@ -11,8 +11,8 @@ use Rattle.lists.specs.Table.{table, length-table}
 use Rattle.lists.specs.Part.{part}
 use Rattle.lists.specs.Grow.{grow}
 use Rattle.model.specs.Header.{span, count}
-use Rattle.product_general.specs.Index.{inRow}
-use Rattle.product_general.specs.Product.{span-more, span-pos, stride-at, row-in}
+use Rattle.shape_words.specs.InRow.{inRow}
+use Rattle.shape_words.specs.Strides.{span-more, span-pos, stride-at, row-in}
 use Rattle.quotient_levels.specs.Grows.{length-grown}
 use Rattle.quotient_lessening.specs.Laid.{Laid, laid-none, laid-append, laid-above, laid-part, laid-under, laid-over}
 use Rattle.quotient_levels.specs.Level.{leftAt, levelAt, levelOf, level-more}

@@ -17,8 +17,8 @@ use Rattle.model.specs.Refusals.{zeroF}
 use Rattle.model.specs.General.{lo, term}
 use Rattle.model.specs.Quotient.{lessened}
 use Rattle.shape_words.specs.Lengths.{count-pos}
-use Rattle.product_general.specs.Index.{inRow}
-use Rattle.product_general.specs.Product.{span-more}
+use Rattle.shape_words.specs.InRow.{inRow}
+use Rattle.shape_words.specs.Strides.{span-more}
 use Rattle.product_lines.specs.Fours.{Summing}
 use Rattle.quotient_levels.specs.Grows.{length-grown}
 use Rattle.quotient_lessening.specs.Laid.{Laid, laid-none, laid-set, laid-append, laid-part, laid-under}

@@ -6,7 +6,7 @@ use Rattle.lists.specs.Four.{at}
 use Rattle.model.specs.Header.{span, count}
 use Rattle.shape_words.specs.Lengths.{Lengths}
 use Rattle.blocks.specs.Rows.{Inner}
-use Rattle.product_general.specs.Index.{inRow}
+use Rattle.shape_words.specs.InRow.{inRow}
 use Rattle.product_general.specs.Rows.{Strided}
 
 -- ly and r the lengths of the divisor and of the result, sy and sr their strides

@@ -18,8 +18,9 @@ use Rattle.model.specs.General.{lo, term, productAt}
 use Rattle.shape_words.specs.Lengths.{lengths-pos, sizes-of}
 use Rattle.shape_words.specs.Spans.{span-ones, ones-of-span}
 use Rattle.blocks.specs.Rows.{at-first}
-use Rattle.product_general.specs.Index.{inRow}
-use Rattle.product_general.specs.Product.{stepAt, stride-at, row-in, first-in}
+use Rattle.shape_words.specs.InRow.{inRow}
+use Rattle.shape_words.specs.Strides.{stride-at, row-in, first-in}
+use Rattle.product_general.specs.Product.{stepAt}
 use Rattle.product_general.specs.Rows.{Strided, Rowing}
 use Rattle.product_general.specs.Pairs.{Paired, paired-end, fromOn}
 use Rattle.product_general.specs.Bounds.{length-on}

@@ -9,7 +9,7 @@ ghost use Rattle.lists.specs.Four.{at};
 ghost use Rattle.lists.specs.Table.{table};
 ghost use Rattle.lists.specs.Walk.{walk};
 ghost use Rattle.lists.specs.Part.{part};
-ghost use Rattle.product_general.specs.Index.{inRow};
+ghost use Rattle.shape_words.specs.InRow.{inRow};
 ghost use Rattle.product_general.specs.Rows.{Strided};
 ghost use Rattle.quotient_lessening.specs.Laid.{Laid};
 ghost use Rattle.quotient_levels.specs.Level.{takenAt, leftAt, levelOf, passed};

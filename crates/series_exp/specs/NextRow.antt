@@ -19,8 +19,8 @@ use Rattle.model.specs.Constructed.{wholeF}
 use Rattle.model.specs.General.{productAt}
 use Rattle.model.specs.Series.{timesWhole, overWhole, expRow}
 use Rattle.lists.specs.Fill.{part-table}
-use Rattle.product_general.specs.Index.{inRow}
-use Rattle.product_general.specs.Product.{row-in}
+use Rattle.shape_words.specs.InRow.{inRow}
+use Rattle.shape_words.specs.Strides.{row-in}
 use Rattle.series_gathering.specs.Gather.{pairAt, gathered}
 use Rattle.series_scaling.specs.Weighed.{weighedAt}
 

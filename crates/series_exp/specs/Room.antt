@@ -5,7 +5,7 @@ use mathlib.Core.List.{List}
 use mathlib.Core.Path.{_≡_}
 use Rattle.lists.specs.Four.{at}
 use Rattle.model.specs.Header.{span}
-use Rattle.product_general.specs.Index.{inRow}
+use Rattle.shape_words.specs.InRow.{inRow}
 
 -- the row k of the variable v in the work: the operand's rows lie from n up to e
 pub record RowRoom (lx r : List ℕ) (v k n e mw mr : ℕ) : Type 0 where

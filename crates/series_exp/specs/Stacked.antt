@@ -16,8 +16,8 @@ use Rattle.lists.specs.Part.{part, Kept, kept-above, one-set}
 use Rattle.lists.specs.Stack.{stack, stack-none, stack-more}
 use Rattle.model.specs.Header.{span}
 use Rattle.model.specs.Series.{overWhole, expRow, expRows}
-use Rattle.product_general.specs.Index.{inRow}
-use Rattle.product_general.specs.Product.{row-in, span-more, span-none, span-pos, stride-at}
+use Rattle.shape_words.specs.InRow.{inRow}
+use Rattle.shape_words.specs.Strides.{row-in, span-more, span-none, span-pos, stride-at}
 use Rattle.series_gathering.specs.Reach.{Shaped, Gathering}
 use Rattle.series_exp.specs.Room.{RowRoom, Room}
 use Rattle.series_scaling.specs.Weighed.{weighedAt}

@@ -10,7 +10,7 @@ ghost use Rattle.lists.specs.Stack.{stack};
 ghost use Rattle.lists.specs.Part.{part, Kept};
 ghost use Rattle.model.specs.Header.{span};
 ghost use Rattle.model.specs.Series.{overWhole, expRows};
-ghost use Rattle.product_general.specs.Index.{inRow};
+ghost use Rattle.shape_words.specs.InRow.{inRow};
 ghost use Rattle.series_gathering.specs.Reach.{Shaped};
 ghost use Rattle.series_exp.specs.Room.{RowRoom, Room};
 ghost use Rattle.series_gathering.specs.Whole.{Whole};

@@ -18,8 +18,8 @@ use Rattle.model.specs.General.{lo, term, alone, productAt}
 use Rattle.shape_words.specs.Lengths.{Lengths, lengths-pos}
 use Rattle.shape_words.specs.Spans.{ones-of-span, span-ones}
 use Rattle.blocks.specs.Rows.{Inner}
-use Rattle.product_general.specs.Index.{inRow, split-at}
-use Rattle.product_general.specs.Product.{stride-at, row-in, first-in, span-pos}
+use Rattle.shape_words.specs.InRow.{inRow, split-at}
+use Rattle.shape_words.specs.Strides.{stride-at, row-in, first-in, span-pos}
 use Rattle.product_general.specs.Rows.{Strided, Rowing, rowsOf}
 use Rattle.product_general.specs.Pairs.{Paired, paired-end}
 use Rattle.product_lines.specs.Fours.{Summing}

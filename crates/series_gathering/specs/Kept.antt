@@ -10,8 +10,8 @@ use borrow.Rule.Slice.PartMut.{putMid, same-len-mid, mid-len, take-put, drop-put
 use Rattle.lists.specs.Part.{Kept}
 use Rattle.model.specs.Header.{span}
 use Rattle.shape_words.specs.Lengths.{Lengths, lengths-pos}
-use Rattle.product_general.specs.Index.{inRow}
-use Rattle.product_general.specs.Product.{row-in}
+use Rattle.shape_words.specs.InRow.{inRow}
+use Rattle.shape_words.specs.Strides.{row-in}
 
 -- a part of a buffer became xs
 pub kept-put : (p e : ℕ) (w : List Float) {xs : List Float} {q : ℕ} → length xs ≡ e - p → p ≤ e → e ≤ length w → q ≡ e - p → Kept p e xs w (putMid p q w xs)

@@ -7,7 +7,7 @@ use mathlib.Core.Path.{_≡_}
 use Rattle.lists.specs.Four.{at}
 use Rattle.model.specs.Header.{span}
 use Rattle.blocks.specs.Rows.{Inner}
-use Rattle.product_general.specs.Index.{inRow}
+use Rattle.shape_words.specs.InRow.{inRow}
 use Rattle.product_general.specs.Rows.{Strided}
 
 pub record Shaped (lx sx r sr : List ℕ) : Type 0 where

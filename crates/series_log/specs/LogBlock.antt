@@ -31,8 +31,9 @@ use Rattle.model.specs.Quotient.{recurred, quotientOf, quotientShape}
 use Rattle.model.specs.Series.{after, timesWhole, overWhole, logGathered, logRow, logRows}
 use Rattle.shape_words.specs.Lengths.{Lengths, lengths-pos}
 use Rattle.shape_words.specs.Spans.{ones-of-span, span-ones}
-use Rattle.product_general.specs.Index.{inRow}
-use Rattle.product_general.specs.Product.{row-in, span-more, span-none, stride-at, alone-one, first-in}
+use Rattle.shape_words.specs.InRow.{inRow}
+use Rattle.shape_words.specs.Strides.{row-in, span-more, span-none, stride-at, first-in}
+use Rattle.product_general.specs.Product.{alone-one}
 use Rattle.series_gathering.specs.Reach.{Shaped}
 use Rattle.series_gathering.specs.Gather.{rowAt}
 use Rattle.series_log_line.specs.Line.{firstTurn, nextPlace, next-is, LineRoom}

@@ -17,8 +17,8 @@ use Rattle.model.specs.Quotient.{recurred}
 use Rattle.model.specs.Series.{after, timesWhole, overWhole}
 use Rattle.shape_words.specs.Lengths.{Lengths}
 use Rattle.blocks.specs.Rows.{Inner, count-inner}
-use Rattle.product_general.specs.Index.{inRow}
-use Rattle.product_general.specs.Product.{stride-at}
+use Rattle.shape_words.specs.InRow.{inRow}
+use Rattle.shape_words.specs.Strides.{stride-at}
 use Rattle.quotient.specs.Room.{Recurring}
 use Rattle.series_gathering.specs.Reach.{Shaped}
 use Rattle.series_gathering.specs.Gather.{rowAt}

@@ -24,8 +24,8 @@ use Rattle.model.specs.Add.{joinAt}
 use Rattle.model.specs.Series.{after}
 use Rattle.shape_words.specs.Lengths.{Lengths, lengths-pos}
 use Rattle.blocks.specs.Rows.{Inner, Joining}
-use Rattle.product_general.specs.Index.{inRow}
-use Rattle.product_general.specs.Product.{row-in, stride-at}
+use Rattle.shape_words.specs.InRow.{inRow}
+use Rattle.shape_words.specs.Strides.{row-in, stride-at}
 use Rattle.series_gathering.specs.Reach.{Reach, Shaped, Gathering}
 use Rattle.series_gathering.specs.Gather.{rowAt, pairAt, gathered}
 use Rattle.series_log_line.specs.Line.{firstTurn}

@@ -25,8 +25,8 @@ use Rattle.model.specs.General.{productAt}
 use Rattle.model.specs.Quotient.{recurred}
 use Rattle.model.specs.Series.{after, timesWhole, overWhole}
 use Rattle.lists.specs.Fill.{part-table}
-use Rattle.product_general.specs.Index.{inRow}
-use Rattle.product_general.specs.Product.{span-more}
+use Rattle.shape_words.specs.InRow.{inRow}
+use Rattle.shape_words.specs.Strides.{span-more}
 use Rattle.series_gathering.specs.Gather.{rowAt, pairAt}
 use Rattle.series_log_line.specs.Line.{firstTurn}
 use Rattle.series_log.specs.LogRow.{multipliedBy, leftRow}

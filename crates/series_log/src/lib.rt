@@ -18,7 +18,7 @@ ghost use Rattle.model.specs.Poly.{block};
 ghost use Rattle.model.specs.Add.{joinAt};
 ghost use Rattle.model.specs.Series.{after, logRows};
 ghost use Rattle.blocks.specs.Rows.{Joining};
-ghost use Rattle.product_general.specs.Index.{inRow};
+ghost use Rattle.shape_words.specs.InRow.{inRow};
 ghost use Rattle.series_gathering.specs.Reach.{Shaped};
 ghost use Rattle.series_gathering.specs.Whole.{Whole};
 ghost use Rattle.model.specs.Quotient.{recurred};

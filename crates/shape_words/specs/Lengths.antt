@@ -49,6 +49,13 @@ lengths-of g =
 pub lengths-pos : {n : List ℕ} → Lengths n → (k : ℕ) → k < 4 → 0 < at n k
 lengths-pos {n} g = each (λ k. 0 < at n k) (g .p0) (g .p1) (g .p2) (g .p3)
 
+pub lengths-most : {n : List ℕ} → Lengths n → (k : ℕ) → k < 4 → at n k ≤ 64
+lengths-most {n} g = each (λ k. at n k ≤ 64) (g .m0) (g .m1) (g .m2) (g .m3)
+
+-- a row that is stored has a number below 64
+pub row-small : {n : List ℕ} {v k : ℕ} → Lengths n → v < 4 → k < at n v → k < 64
+row-small {v = v} g h l = omega (arith, lengths-most g v h)
+
 -- the count as a product of four numbers
 pub count-is : (n : List ℕ) → count n ≡ at n 0 * (at n 1 * (at n 2 * at n 3))
 unfolding span

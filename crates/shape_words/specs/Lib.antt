@@ -3,3 +3,5 @@ pub mod Lengths
 pub mod Words
 pub mod Places
 pub mod Spans
+pub mod InRow
+pub mod Strides

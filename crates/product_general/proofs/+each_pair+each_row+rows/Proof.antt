@@ -9,11 +9,12 @@ use Prim.Native.Nat.{ℕ, _+_, _-_, _*_, _≤_, _<_}
 use Rattle.lists.specs.Four.{at}
 use Rattle.model.specs.Places.{index}
 use Rattle.model.specs.General.{lo, steps, alone}
-use Rattle.shape_words.specs.Lengths.{lengths-pos}
-use Rattle.product_general.specs.Index.{inRow}
-use Rattle.product_general.specs.Product.{stepAt, stride-at, alone-by, span-pos, first-in}
+use Rattle.shape_words.specs.Lengths.{lengths-pos, row-small}
+use Rattle.shape_words.specs.InRow.{inRow}
+use Rattle.shape_words.specs.Strides.{stride-at, span-pos, first-in}
+use Rattle.product_general.specs.Product.{stepAt, alone-by}
 use Rattle.product_general.specs.Pairs.{Paired, paired-none, paired-more, rows-step, pairs-end, row-none, row-next, rows-end, rows-none, rows-length}
-use Rattle.product_general.specs.Bounds.{in-array, row-small, line-size, Turn, turn, left-in, right-in, rowing-next, result-in, pairing-of}
+use Rattle.product_general.specs.Bounds.{in-array, line-size, Turn, turn, left-in, right-in, rowing-next, result-in, pairing-of}
 use borrow.Fn.Kinds.{In}
 use borrow.Fn.PlainCycle.{Measures, is, falls, and}
 use Rattle.product_general.proofs.each_pair.Reads as each-pair

@@ -4,7 +4,7 @@ use Prim.Native.Nat.{ℕ, _+_, _-_, _*_, _≤_, _<_}
 use lib.ListN.{length, length-append, length-drop, drop}
 use lib.Seq.{length-take-le}
 use mathlib.Core.List.{_++_}
-use Rattle.product_general.specs.Bounds.{row-small}
+use Rattle.shape_words.specs.Lengths.{row-small}
 use Rattle.lists.specs.Four.{at}
 use Rattle.quotient_lessening.specs.Laid.{Laid}
 use Rattle.quotient_levels.specs.Room.{Room}

@@ -2,7 +2,7 @@ use native.Mathlib.Omega.{arith}
 use Prim.Native.Nat.{_+_, _-_, _≤_, _<_}
 use lib.ListN.{length}
 use Rattle.lists.specs.Four.{at}
-use Rattle.product_general.specs.Bounds.{row-small}
+use Rattle.shape_words.specs.Lengths.{row-small}
 use Rattle.quotient_lessening.specs.Laid.{Laid}
 use Rattle.quotient_levels.specs.Line.{lineLaid, line-none, line-in, line-summing, line-more, line-all}
 use Rattle.quotient_levels.proofs.line.Statement.{statement}

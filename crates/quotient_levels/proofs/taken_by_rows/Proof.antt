@@ -7,10 +7,11 @@ use Rattle.lists.specs.Four.{at}
 use Rattle.lists.specs.Table.{length-table}
 use Rattle.model.specs.Places.{index}
 use Rattle.model.specs.General.{lo}
-use Rattle.product_general.specs.Index.{inRow}
-use Rattle.product_general.specs.Product.{stepAt, stride-at}
+use Rattle.shape_words.specs.InRow.{inRow}
+use Rattle.shape_words.specs.Strides.{stride-at}
+use Rattle.product_general.specs.Product.{stepAt}
 use Rattle.product_general.specs.Pairs.{Paired, paired-none, paired-more, rows-step}
-use Rattle.product_general.specs.Bounds.{row-small}
+use Rattle.shape_words.specs.Lengths.{row-small}
 use Rattle.quotient_levels.specs.Taken.{done-in, divisor-in, taking-rows, taken-end}
 use Rattle.quotient_levels.proofs.taken_by_rows.Statement.{statement}
 use Rattle.quotient_levels.proofs.taken_by_rows.Tie as tie

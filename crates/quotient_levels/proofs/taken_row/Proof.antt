@@ -2,8 +2,8 @@ use lib.ListN.{length-set}
 use Prim.Native.Nat.{_+_}
 use mathlib.Core.Path.{refl}
 use native.Mathlib.Omega.{arith}
-use Rattle.product_general.specs.Bounds.{row-small}
-use Rattle.product_general.specs.Product.{span-pos}
+use Rattle.shape_words.specs.Lengths.{row-small}
+use Rattle.shape_words.specs.Strides.{span-pos}
 use Rattle.quotient_levels.specs.Taken.{one-summing, one-taken}
 use Rattle.quotient_levels.proofs.taken_row.Statement.{statement}
 use Rattle.quotient_levels.proofs.taken_row.Tie as tie

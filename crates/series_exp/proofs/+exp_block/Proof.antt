@@ -3,7 +3,7 @@ use Prim.Native.Nat.{ℕ, _+_, _-_, _<_, ℕ, _<_}
 use mathlib.Core.Path.{_≡_}
 use lib.ListN.{length, length-set}
 use borrow.Author.Needs.{needs}
-use Rattle.product_general.specs.Product.{span-none}
+use Rattle.shape_words.specs.Strides.{span-none}
 use Rattle.series_exp.specs.Stacked.{room-same, room-next, block-none, block-more}
 use borrow.Fn.Kinds.{In}
 use borrow.Fn.PlainCycle.{Measures, is, falls, and}

@@ -5,9 +5,9 @@ use lib.ListN.{length}
 use Rattle.lists.specs.Four.{at}
 use Rattle.lists.specs.Table.{length-table}
 use Rattle.lists.specs.Part.{length-part}
-use Rattle.product_general.specs.Bounds.{row-small}
-use Rattle.product_general.specs.Product.{stride-at}
-use Rattle.product_general.specs.Index.{inRow}
+use Rattle.shape_words.specs.Lengths.{row-small}
+use Rattle.shape_words.specs.Strides.{stride-at}
+use Rattle.shape_words.specs.InRow.{inRow}
 use Rattle.series_gathering.specs.Gather.{gathered}
 use Rattle.series_exp.specs.Stacked.{row-kept, row-fits, row-gathers}
 use borrow.Author.Needs.{needs}

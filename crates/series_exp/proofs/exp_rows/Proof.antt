@@ -8,14 +8,12 @@ use borrow.Rule.Slice.PartMut.{putMid}
 use Rattle.lists.specs.Four.{at}
 use Rattle.lists.specs.Part.{length-part, Kept, below-less}
 use Rattle.lists.specs.Stack.{stack}
-use Rattle.shape_words.specs.Lengths.{lengths-pos}
-use Rattle.product_general.specs.Index.{inRow}
-use Rattle.product_general.specs.Bounds.{row-small}
+use Rattle.shape_words.specs.Lengths.{lengths-pos, row-small}
+use Rattle.shape_words.specs.InRow.{inRow}
 use Rattle.series_exp.specs.Room.{RowRoom}
 use Rattle.series_exp.specs.NextRow.{weighed, nextRow}
-use Rattle.series_exp.specs.Stacked.{Stacked, stacked-one, row-more, stacked-all, rows-end, rows-fit}
+use Rattle.series_exp.specs.Stacked.{Stacked, stacked-one, row-more, stacked-all, rows-end, rows-fit, row-room, row-fits}
 use Rattle.series_exp.specs.Stacked.{operand-fits, some-width, few-rows, weigh-kept, first-under, width-in}
-use Rattle.series_exp.specs.Stacked.{row-room, row-fits}
 use Rattle.series_exp.proofs.exp_rows.Statement.{statement}
 use Rattle.series_exp.proofs.exp_rows.Tie as tie
 

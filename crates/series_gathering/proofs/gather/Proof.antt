@@ -2,7 +2,7 @@ use native.Mathlib.Omega.{arith}
 use mathlib.Core.Bool.{false}
 use mathlib.Core.Path.{refl, ap, _∙_}
 use Prim.Native.Nat.{ℕ}
-use Rattle.product_general.specs.Bounds.{row-small}
+use Rattle.shape_words.specs.Lengths.{row-small}
 use Rattle.series_gathering.specs.Gather.{gathered, row-one, sums, sum-is, exp-reach}
 use borrow.Author.Needs.{needs}
 use Rattle.series_gathering.proofs.gather.Statement.{statement}

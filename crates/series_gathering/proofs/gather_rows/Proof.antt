@@ -5,9 +5,9 @@ use Prim.Native.Nat.{_+_, _-_, _*_, _≤_}
 use lib.ListN.{length}
 use Rattle.lists.specs.Four.{at}
 use Rattle.lists.specs.Table.{length-table}
-use Rattle.product_general.specs.Index.{inRow}
+use Rattle.shape_words.specs.InRow.{inRow}
 use Rattle.product_general.specs.Pairs.{Paired, paired-none, paired-more}
-use Rattle.product_general.specs.Bounds.{row-small}
+use Rattle.shape_words.specs.Lengths.{row-small}
 use Rattle.series_gathering.specs.Gather.{pairAt, left-in, right-in, below, gathers, gather-step, gather-end}
 use Rattle.series_gathering.proofs.gather_rows.Statement.{statement}
 use Rattle.series_gathering.proofs.gather_rows.Tie as tie

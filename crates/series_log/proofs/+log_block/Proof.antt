@@ -6,7 +6,8 @@ use lib.Seq.{length-take-le}
 use borrow.Author.Needs.{needs}
 use borrow.Table.Elements.{same-len}
 use Rattle.lists.specs.Four.{at}
-use Rattle.product_general.specs.Product.{span-none, alone-by, first-in}
+use Rattle.shape_words.specs.Strides.{span-none, first-in}
+use Rattle.product_general.specs.Product.{alone-by}
 use Rattle.series_log.specs.LogBlock.{rows-same, rows-next, line-room, log-none, log-alone, log-others, not-one}
 use borrow.Fn.Kinds.{In}
 use borrow.Fn.PlainCycle.{Measures, is, falls, and}

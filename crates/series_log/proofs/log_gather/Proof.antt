@@ -5,8 +5,8 @@ use lib.ListN.{length}
 use Rattle.lists.specs.Four.{at}
 use Rattle.lists.specs.Table.{length-table}
 use Rattle.lists.specs.Part.{length-part, below-same}
-use Rattle.product_general.specs.Index.{inRow}
-use Rattle.product_general.specs.Bounds.{row-small}
+use Rattle.shape_words.specs.InRow.{inRow}
+use Rattle.shape_words.specs.Lengths.{row-small}
 use Rattle.series_gathering.specs.Gather.{gathered}
 use Rattle.series_gathering.specs.Kept.{kept-put}
 use Rattle.series_log.specs.LogRow.{log-fits, log-gathers, log-reach, some-rows, operand-in, operand-less, operand-row, joins, left-short, left-long}

@@ -5,9 +5,9 @@ use lib.ListN.{length}
 use borrow.Rule.Slice.PartMut.{putMid, same-len-mid}
 use Rattle.lists.specs.Four.{at}
 use Rattle.lists.specs.Part.{length-part}
-use Rattle.product_general.specs.Index.{inRow}
-use Rattle.product_general.specs.Bounds.{row-small}
-use Rattle.product_general.specs.Product.{stride-at}
+use Rattle.shape_words.specs.InRow.{inRow}
+use Rattle.shape_words.specs.Lengths.{row-small}
+use Rattle.shape_words.specs.Strides.{stride-at}
 use Rattle.series_log.specs.LogRow.{log-fits}
 use Rattle.series_log.specs.LogDone.{log-half, first-in-operand, row-divisor, log-rowed}
 use borrow.Author.Needs.{needs}

@@ -5,9 +5,8 @@ use lib.ListN.{length, take}
 use lib.Seq.{length-take-le}
 use borrow.Table.Elements.{same-len}
 use Rattle.lists.specs.Four.{at}
-use Rattle.shape_words.specs.Lengths.{lengths-pos}
-use Rattle.product_general.specs.Index.{inRow}
-use Rattle.product_general.specs.Bounds.{row-small}
+use Rattle.shape_words.specs.Lengths.{lengths-pos, row-small}
+use Rattle.shape_words.specs.InRow.{inRow}
 use Rattle.series_log.specs.LogRow.{LogRoom, log-under}
 use Rattle.series_log.specs.LogRows.{logStep, LogStacked, log-one, log-more, log-all}
 use Rattle.series_log.specs.LogBlock.{log-width, log-room}

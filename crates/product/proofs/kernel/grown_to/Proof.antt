@@ -1,4 +1,4 @@
-use Rattle.product.specs.Ways.{lengths-most}
+use Rattle.shape_words.specs.Lengths.{lengths-most}
 use native.Mathlib.Omega.{arith}
 use Rattle.model.specs.Product.{grown}
 use borrow.Author.Needs.{needs}

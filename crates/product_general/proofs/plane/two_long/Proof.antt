@@ -2,7 +2,7 @@ use native.Mathlib.Omega.{arith}
 use mathlib.Core.Path.{ap, _∙_}
 use lib.ListN.{length}
 use Rattle.lists.specs.Table.{length-table}
-use Rattle.product_general.specs.Product.{stride-at}
+use Rattle.shape_words.specs.Strides.{stride-at}
 use Rattle.product_general.specs.Bounds.{in-array}
 use Rattle.product_general.specs.Plane.{planeOf, planing-of, rows-plane}
 use Rattle.product_general.proofs.plane.two_long.Statement.{statement}

@@ -6,7 +6,7 @@ use lib.ListN.{length, drop, length-append, length-drop}
 use lib.Seq.{length-take-le}
 use Rattle.lists.specs.Four.{at}
 use Rattle.model.specs.Header.{count}
-use Rattle.product_general.specs.Bounds.{row-small}
+use Rattle.shape_words.specs.Lengths.{row-small}
 use Rattle.quotient_lessening.specs.Laid.{Laid}
 use Rattle.quotient_levels.specs.Room.{Room}
 use Rattle.quotient_levels.specs.Levels.{level-row, level-top, level-in, level-gather}
