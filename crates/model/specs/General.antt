@@ -1,6 +1,8 @@
 -- REFERENCE 4.7. Document 01, port order 4, 'General': recursion on the first variable, j ascending; where the result
 -- has exactly one length above 1, each place sums from +0.0 and is then added. One place of the result is the source's
 -- `mul` seen from that place: an accumulator that goes through the variables.
+-- A missing variable is padded with length 1 on every side: its walk takes the one step j = 0 and hands the accumulator
+-- on as it is, and it is never the long one. So padding changes no rounded step.
 -- lx, ly and r are the lengths of the left, the right and the result, k the index of the place; n variables are left,
 -- from v on.
 use Prim.Native.Nat.{ℕ, zero, suc, _+_, _-_, _*_, min}

@@ -3,6 +3,8 @@
 -- 6.
 -- One place of the result is `div` seen from that place: a number that goes through the variables, and at each is
 -- lessened by what the rows before give.
+-- A missing variable is padded with length 1: no rows lie before, so the number is lessened by +0.0, negated and then
+-- added: -0.0 leaves every number as it is. So padding changes no rounded step.
 -- ly and r are the lengths of the divisor and of the result, k the index of the place; n variables are left, from v on.
 -- q has the places of the result before this one that agree with k in the variables before v.
 use Prim.Native.Nat.{ℕ, zero, suc, _+_, _-_, _*_}
