@@ -2,7 +2,7 @@
 -- chosen: one, constant, linear, general, from either side.
 -- The product by a constant that a line asks for is the product again, one stage lower.
 use mathlib.Core.Path.{_≡_, refl, sym, ap, _∙_}
-use mathlib.Core.Bool.{true, cond, true≢false}
+use mathlib.Core.Bool.{true}
 use mathlib.Core.List.{List}
 use Prim.Native.Nat.{ℕ, zero, suc, _+_, _*_, _≤_, _<_}
 use native.Mathlib.Nat.{le-trans, le-refl}
@@ -18,7 +18,7 @@ use Rattle.model_textbook.specs.Box.{degree}
 use Rattle.model.specs.Poly.{Block}
 use Rattle.model.specs.Readings.{oneF, first}
 use Rattle.model.specs.Linear.{linear}
-use Rattle.model.specs.Product.{isConstant, isOne, constantBlock, scaled, plainProduct, linearProduct, productOf}
+use Rattle.model.specs.Product.{isConstant, isOne, constantBlock, scaled, linearProduct, productOf}
 use Rattle.model_textbook.specs.Textbook.{Series, seriesOf, weight, times, origin}
 use Rattle.laws_whole.specs.Int.{*ℤ-unit}
 use Rattle.laws_whole.specs.Compare.{eq-one}
@@ -34,7 +34,7 @@ use Rattle.laws_exact.specs.Factors.{sizes-comm, sizes-less, constantOf}
 use Rattle.laws_exact.specs.Generals.{Fits, general-is}
 use Rattle.laws_exact.specs.Wholes.{Is, is-same}
 use Rattle.laws_exact.specs.Firsts.{first-whole}
-use Rattle.laws_keeps.specs.Ways.{by-way, Line, linear-is}
+use Rattle.laws_keeps.specs.Ways.{Shortcuts, by-way, by-way-or-line, Line, linear-is}
 use Rattle.laws_exact.specs.Constants.{scaled-is, constant-is, constant-times}
 use Rattle.laws_exact.specs.Lines.{line-constant, linear-product}
 
@@ -91,39 +91,27 @@ line-way stage {l} {a} {x} {A} s t p q r i given =
     linear-product (λ y. productOf stage l y (constantBlock (linear a .c))) (linear a) i s t p q r
     (sits-more (shape-under l _ _) (product-sits stage t (constant-sits (linear a .c) t))) given
 
+-- the shortcuts
+shortcut-is : {l : List ℕ} {a b : Block} {A B : Series} → Sits l a → Sits l b → Is l a A → Is l b B → Fits l A B → Shortcuts a b (λ x. Is l x (times A B))
+shortcut-is {A = A} {B = B} s t p q r = record {
+  left-one = one-is s p q;
+  right-one = λ e. swapped A B (one-is t q p e);
+  left-constant = by-constant s p q r;
+  right-constant = λ e. swapped A B (by-constant t q p (fits-comm r) e);
+}
+
 pub product-is : (stage : ℕ) {l : List ℕ} {a b : Block} {A B : Series} → Sits l a → Sits l b → Is l a A → Is l b B
     → Fits l A B → Is l (productOf stage l a b) (times A B)
-unfolding productOf plainProduct
-product-is zero {l} {a} {b} {A} {B} s t p q r =
-    by-way {P = λ w. Is l (plainProduct l (w .kind) (w .line .c) a b) (times A B)}
-    (record {
-      left-one = one-is s p q;
-      right-one = λ e. swapped A B (one-is t q p e);
-      left-constant = by-constant s p q r;
-      right-constant = λ e. swapped A B (by-constant t q p (fits-comm r) e);
-      left-linear = λ o e. absurd (true≢false o);
-      right-linear = λ o e. absurd (true≢false o);
-      rest = general-is s t p q r;
-    })
+product-is zero {l} s t p q r = by-way l (shortcut-is s t p q r) (general-is s t p q r)
 product-is (suc stage) {l} {a} {b} {A} {B} s t p q r =
-    by-way {P = λ w.
-    Is l
-    (cond (eqb (w .kind) 4) (linearProduct (λ x. productOf stage l x (constantBlock (w .line .c))) l (w .line) b)
-    (cond (eqb (w .kind) 5) (linearProduct (λ x. productOf stage l x (constantBlock (w .line .c))) l (w .line) a)
-    (plainProduct l (w .kind) (w .line .c) a b)))
-    (times A B)}
+    by-way-or-line l (shortcut-is s t p q r) (general-is s t p q r)
     (record {
-      left-one = one-is s p q;
-      right-one = λ e. swapped A B (one-is t q p e);
-      left-constant = by-constant s p q r;
-      right-constant = λ e. swapped A B (by-constant t q p (fits-comm r) e);
-      left-linear = λ _ e.
+      left-linear = λ e.
           let i = linear-is a e in
           line-way stage s t p q r i (product-is stage t (constant-sits _ t) q (constant-is A (line-constant i s p)) (fits-constant r));
-      right-linear = λ _ e.
+      right-linear = λ e.
           let i = linear-is b e in
           swapped A B (line-way stage t s q p (fits-comm r) i
           (product-is stage s (constant-sits _ s) p (constant-is B (line-constant i t q))
           (fits-constant (fits-comm r))));
-      rest = general-is s t p q r;
     })

@@ -32,7 +32,7 @@ use Rattle.model.specs.Tail.{tailOf, tailAnswer}
 use Rattle.model.specs.Linear.{zerosBut, linearIn, lineOf, linearFrom}
 use Rattle.model.specs.Add.{joinAt, joined, joinedBlock}
 use Rattle.model.specs.General.{line, alone, productAt, general}
-use Rattle.model.specs.Product.{grown, raisedAt, raised, chosen, plainProduct, linearProduct, productOf, multiplied, productPoly, productAnswer, productOut}
+use Rattle.model.specs.Product.{grown, raisedAt, raised, linearProduct, shortcut, productOf, multiplied, productPoly, productAnswer, productOut}
 use Rattle.model.specs.Quotient.{taken, lessened, quotientAt, recurred, quotientShape, quotientOf, divided, quotientPoly, quotientAnswer, quotientOut}
 use Rattle.model.specs.Series.{expRow, expRows, logNext, logGathered, logRow, logRows, seriesShape, expOf, logOf}
 use Rattle.model.specs.Series.{expPoly, logPoly, expAnswer, expOut, logAnswer, logOut}
@@ -216,7 +216,7 @@ rows =
 
 pub examples-hold : hold rows ≡ true
 unfolding hold equal same rows tailAnswer tailGate readBy tailOf sumTo productAnswer productOut pairGate answerBy leaves
-    written goodWord goodHeader goodVars goodVar productPoly multiplied productOf chosen plainProduct linearProduct
+    written goodWord goodHeader goodVars goodVar productPoly multiplied productOf shortcut linearProduct
     linearFrom lineOf linearIn zerosBut grown raised raisedAt joinedBlock joined joinAt general productAt line alone
     walk table cut cutTo maxShape sumShape minDegreesP1 minLimit announced paired headerOf wordOf fields strides offset
     index inside span quotientAnswer quotientOut quotientPoly divided quotientOf quotientShape recurred quotientAt

@@ -21,13 +21,13 @@ use Rattle.model.specs.Refusals.{zeroF}
 use Rattle.model.specs.Poly.{Poly, Block, block, blockOf, cut}
 use Rattle.model.specs.Linear.{linear}
 use Rattle.model.specs.General.{general}
-use Rattle.model.specs.Product.{isZero, constantBlock, scaled, scaledAt, grown, raised, plainProduct, linearProduct, productOf, multiplied, productPoly}
+use Rattle.model.specs.Product.{isZero, constantBlock, scaled, scaledAt, grown, raised, linearProduct, productOf, multiplied, productPoly}
 use Rattle.shape_words.specs.Rules.{Regular}
 use Rattle.shape.specs.Announced.{announced-regular}
 use Rattle.shape.specs.Keeps.{Keeps}
 use Rattle.laws_keeps.specs.Sits.{Sits, sits-more, sum-at}
 use Rattle.laws_keeps.specs.Keeps.{sits-keeps, joined-under, left-sits, right-sits}
-use Rattle.laws_keeps.specs.Ways.{by-way, linear-is, line-two}
+use Rattle.laws_keeps.specs.Ways.{Shortcuts, by-way, by-way-or-line, linear-is, line-two}
 
 -- ---- lengths
 
@@ -102,15 +102,13 @@ raised-sits {l} {r} {x} v m h s t e =
 
 -- ---- the ways
 
-plain-fits : (l : List ℕ) (k : ℕ) (c : Float) {a b : Block} → Sits l a → Sits l b → Sits (sumShape l (a .lengths) (b .lengths)) (plainProduct l k c a b)
-unfolding plainProduct
-plain-fits l k c {a} {b} s t =
-    let P : Block → Type 0 = Sits (sumShape l (a .lengths) (b .lengths)) in
-    of-both P (eqb k 0) (right-fits s t)
-    (of-both P (eqb k 1) (left-fits s t)
-    (of-both P (eqb k 2) (scaled-sits c (right-fits s t))
-    (of-both P (eqb k 3) (scaled-sits c (left-fits s t))
-    (general-fits s t))))
+shortcut-fits : {l : List ℕ} {a b : Block} → Sits l a → Sits l b → Shortcuts a b (Sits (sumShape l (a .lengths) (b .lengths)))
+shortcut-fits s t = record {
+  left-one = λ e. right-fits s t;
+  right-one = λ e. left-fits s t;
+  left-constant = λ e. scaled-sits _ (right-fits s t);
+  right-constant = λ e. scaled-sits _ (left-fits s t);
+}
 
 -- a line in v times x, r the lengths that the result may have
 linear-fits : (byC : Block → Block) (l : List ℕ) (line : Linear) {r : List ℕ} {x : Block} → line .variable < 4 → Sits l x → Sits r x
@@ -122,32 +120,22 @@ linear-fits byC l line {r} h s t e q =
     of-both (Sits r) (eq (line .c) zeroF) up (joined-under false up (sits-more (λ k g. le-trans (one-more s k g) (t .hi k g)) q))
 
 pub product-sits : (stage : ℕ) {l : List ℕ} {a b : Block} → Sits l a → Sits l b → Sits (sumShape l (a .lengths) (b .lengths)) (productOf stage l a b)
-unfolding productOf
-product-sits zero {l} s t = plain-fits l _ _ s t
+product-sits zero {l} s t = by-way l (shortcut-fits s t) (general-fits s t)
 product-sits (suc stage) {l} {a} {b} s t =
-    by-way {P = λ w.
-    Sits (sumShape l (a .lengths) (b .lengths))
-    (cond (eqb (w .kind) 4) (linearProduct (λ x. productOf stage l x (constantBlock (w .line .c))) l (w .line) b)
-    (cond (eqb (w .kind) 5) (linearProduct (λ x. productOf stage l x (constantBlock (w .line .c))) l (w .line) a)
-    (plainProduct l (w .kind) (w .line .c) a b)))}
+    by-way-or-line l (shortcut-fits s t) (general-fits s t)
     (record {
-      left-one = λ e. plain-fits l 0 _ s t;
-      right-one = λ e. plain-fits l 1 _ s t;
-      left-constant = λ e. plain-fits l 2 _ s t;
-      right-constant = λ e. plain-fits l 3 _ s t;
-      left-linear = λ _ e.
+      left-linear = λ e.
           let i = linear-is a e in
           let v = linear a .variable in
           linear-fits _ l (linear a) (i .var) t (right-fits s t)
           (rw (sum-at l (a .lengths) (b .lengths) v (i .var)) (omega (arith, line-two a v (i .fits))))
           (product-sits stage t (constant-sits _ t));
-      right-linear = λ _ e.
+      right-linear = λ e.
           let i = linear-is b e in
           let v = linear b .variable in
           linear-fits _ l (linear b) (i .var) s (left-fits s t)
           (rw (sum-at l (a .lengths) (b .lengths) v (i .var)) (omega (arith, line-two b v (i .fits))))
           (product-sits stage s (constant-sits _ s));
-      rest = plain-fits l 6 _ s t;
     })
 
 -- ---- the whole product

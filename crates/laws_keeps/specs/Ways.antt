@@ -1,48 +1,63 @@
--- The ways of a product (document 01, port order 4), one after the other: what holds on each way holds of the way
--- chosen. And what a linear factor is.
+-- The ways of a product (document 01, port order 4), one after the other: what holds on each way holds of the product.
+-- And what a linear factor is.
 use mathlib.Core.Path.{_≡_, refl, sym}
 use mathlib.Core.Bool.{Bool, true, false, cond, true≢false}
 use Prim.Native.Nat.{ℕ, zero, suc, _+_, _≤_, _<_}
+use mathlib.Core.List.{List}
 use native.Mathlib.Omega.{arith}
 use lib.Dec.{eqb, leb, ltb}
 use borrow.Author.Tests.{leb-true, ltb-true, ltb-false}
 use Rattle.lists.specs.Test.{decide, and-left, and-right}
 use Rattle.lists.specs.Four.{at}
 use Rattle.model.specs.declared.Linear.{Linear}
-use Rattle.model.specs.declared.Way.{Way}
 use Rattle.model.specs.Header.{count}
 use Rattle.model.specs.Poly.{Block}
 use Rattle.model.specs.Readings.{first}
-use Rattle.model.specs.Linear.{noLinear, linearPlace, zerosBut, rowOne, linearIn, lineOf, linearFrom, linear}
-use Rattle.model.specs.Product.{isConstant, isOne, way, justC, chosen}
+use Rattle.model.specs.Linear.{linearPlace, zerosBut, rowOne, linearIn, lineOf, linearFrom, linear}
+use Rattle.model.specs.Product.{isConstant, isOne, constantBlock, scaled, linearProduct, generalBlock, shortcut, productOf}
 
--- ---- the way chosen
-
--- P on each way, with what the way's test says
-pub record Ways (stage : ℕ) (a b : Block) (P : Way → Type 0) : Type 0 where
-  pub left-one : isOne a ≡ true → P (way 0 noLinear)
-  pub right-one : isOne b ≡ true → P (way 1 noLinear)
-  pub left-constant : isConstant a ≡ true → P (way 2 (justC (first (a .places))))
-  pub right-constant : isConstant b ≡ true → P (way 3 (justC (first (b .places))))
-  pub left-linear : eqb stage 0 ≡ false → linear a .yes ≡ true → P (way 4 (linear a))
-  pub right-linear : eqb stage 0 ≡ false → linear b .yes ≡ true → P (way 5 (linear b))
-  pub rest : P (way 6 noLinear)
+-- ---- the way taken
 
 -- by the two cases of a test
 choice : {A : Type 0} (P : A → Type 0) (t : Bool) {x y : A} → (t ≡ true → P x) → (t ≡ false → P y) → P (cond t x y)
 choice P true f g = f refl
 choice P false f g = g refl
 
-pub by-way : {stage : ℕ} {a b : Block} {P : Way → Type 0} → Ways stage a b P → P (chosen stage a b)
-unfolding chosen
-by-way {stage} {a} {b} {P} w =
+-- P of what each shortcut gives, with what its test says
+pub record Shortcuts (a b : Block) (P : Block → Type 0) : Type 0 where
+  pub left-one : isOne a ≡ true → P b
+  pub right-one : isOne b ≡ true → P a
+  pub left-constant : isConstant a ≡ true → P (scaled (first (a .places)) b)
+  pub right-constant : isConstant b ≡ true → P (scaled (first (b .places)) a)
+
+by-shortcut : {a b rest : Block} {P : Block → Type 0} → Shortcuts a b P → P rest → P (shortcut a b rest)
+unfolding shortcut
+by-shortcut {a} {b} {rest} {P} w r =
     choice P (isOne a) (w .left-one) (λ _.
     choice P (isOne b) (w .right-one) (λ _.
     choice P (isConstant a) (w .left-constant) (λ _.
-    choice P (isConstant b) (w .right-constant) (λ _.
-    choice P (eqb stage 0) (λ _. w .rest) (λ s.
-    choice P (linear a .yes) (w .left-linear s) (λ _.
-    choice P (linear b .yes) (w .right-linear s) (λ _. w .rest)))))))
+    choice P (isConstant b) (w .right-constant) (λ _. r))))
+
+-- x times the constant of a line, one stage lower
+abbrev pub byConstant : ℕ → List ℕ → Linear → Block → Block
+byConstant stage l line x = productOf stage l x (constantBlock (line .c))
+
+-- P of what a linear factor gives
+pub record LineWays (stage : ℕ) (l : List ℕ) (a b : Block) (P : Block → Type 0) : Type 0 where
+  pub left-linear : linear a .yes ≡ true → P (linearProduct (byConstant stage l (linear a)) l (linear a) b)
+  pub right-linear : linear b .yes ≡ true → P (linearProduct (byConstant stage l (linear b)) l (linear b) a)
+
+module _ (l : List ℕ) {a b : Block} {P : Block → Type 0} (w : Shortcuts a b P) (g : P (generalBlock l a b)) where
+  pub by-way : P (productOf 0 l a b)
+  unfolding productOf
+  by-way = by-shortcut {P = P} w g
+
+  pub by-way-or-line : {stage : ℕ} → LineWays stage l a b P → P (productOf (suc stage) l a b)
+  unfolding productOf
+  by-way-or-line f =
+      by-shortcut {P = P} w
+      (choice P (linear a .yes) (f .left-linear) (λ _.
+      choice P (linear b .yes) (f .right-linear) (λ _. g)))
 
 -- ---- a linear factor
 

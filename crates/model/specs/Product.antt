@@ -11,7 +11,6 @@ use lib.Ieee.{Float, nan, mul, eq, binary64}
 use Rattle.lists.specs.Table.{table}
 use Rattle.lists.specs.Four.{at}
 use Rattle.model.specs.declared.Linear.{Linear}
-use Rattle.model.specs.declared.Way.{Way}
 use Rattle.model.specs.declared.Refusal.{Refusal}
 use Rattle.model.specs.declared.Answer.{Answer}
 use Rattle.model.specs.declared.Family.the-variants.{Product}
@@ -23,7 +22,7 @@ use Rattle.model.specs.Refusals.{zeroF}
 use Rattle.model.specs.Gates.{pairGate, announcedPair}
 use Rattle.model.specs.Poly.{Poly, Block, block, blockOf, polyOf, held, readAt, cut}
 use Rattle.model.specs.Answers.{answered, outAfter, scratchAfter}
-use Rattle.model.specs.Linear.{noLinear, linear}
+use Rattle.model.specs.Linear.{linear}
 use Rattle.model.specs.Readings.{oneF, first}
 use Rattle.model.specs.Add.{joinedBlock}
 use Rattle.model.specs.General.{general}
@@ -59,50 +58,35 @@ raisedAt v m b i = cond (eqb (at i v) 0) zeroF (mul binary64 (readAt b (set i v 
 unfoldable pub raised : List ℕ → ℕ → Float → Block → Block
 raised l v m b = let n = grown l v (b .lengths) in block n (table (count n) (λ k. raisedAt v m b (index n k)))
 
--- Which way: 0 left one, 1 right one, 2 left constant, 3 right constant, 4 left linear, 5 right linear, 6 general; with
--- the constant or the line.
--- A line is looked for above stage 0 only: the product by a constant that a line asks for is one of stage 0.
-
-abbrev pub way : ℕ → Linear → Way
-way k l = record { kind = k; line = l }
-
-abbrev pub justC : Float → Linear
-justC c = record { yes = false; c = c; m = zeroF; variable = 0 }
-
-unfoldable pub chosen : ℕ → Block → Block → Way
-chosen stage a b =
-    cond (isOne a) (way 0 noLinear)
-    (cond (isOne b) (way 1 noLinear)
-    (cond (isConstant a) (way 2 (justC (first (a .places))))
-    (cond (isConstant b) (way 3 (justC (first (b .places))))
-    (cond (eqb stage 0) (way 6 noLinear)
-    (cond (linear a .yes) (way 4 (linear a))
-    (cond (linear b .yes) (way 5 (linear b))
-    (way 6 noLinear)))))))
-
--- the ways that ask for no other product; l the limits
-unfoldable pub plainProduct : List ℕ → ℕ → Float → Block → Block → Block
-plainProduct l k c a b =
-    cond (eqb k 0) b
-    (cond (eqb k 1) a
-    (cond (eqb k 2) (scaled c b)
-    (cond (eqb k 3) (scaled c a)
-    (let r = sumShape l (a .lengths) (b .lengths) in block r (general (a .lengths) (b .lengths) r (a .places) (b .places))))))
-
--- a linear factor times x, given the product by a constant
+-- a linear factor times x, given the product by a constant; l the limits
 unfoldable pub linearProduct : (Block → Block) → List ℕ → Linear → Block → Block
 linearProduct byC l line x =
     let up = raised l (line .variable) (line .m) x in
     cond (eq (line .c) zeroF) up (joinedBlock false up (byC x))
 
--- blocks that are cut already
+abbrev pub generalBlock : List ℕ → Block → Block → Block
+generalBlock l a b = let r = sumShape l (a .lengths) (b .lengths) in block r (general (a .lengths) (b .lengths) r (a .places) (b .places))
+
+-- The shortcuts in their order, and what follows where a factor is neither one nor a constant.
+unfoldable pub shortcut : Block → Block → Block → Block
+shortcut a b rest =
+    cond (isOne a) b
+    (cond (isOne b) a
+    (cond (isConstant a) (scaled (first (a .places)) b)
+    (cond (isConstant b) (scaled (first (b .places)) a)
+    rest)))
+
+-- Blocks that are cut already. The product by a constant that a linear factor asks for is the product again; it finds a
+-- constant on the right, so that it asks for no other, and the first argument, how often a line may still be asked for,
+-- is one in a product and none in that.
 unfoldable pub productOf : ℕ → List ℕ → Block → Block → Block
-productOf zero l a b = let w = chosen 0 a b in plainProduct l (w .kind) (w .line .c) a b
+productOf zero l a b = shortcut a b (generalBlock l a b)
 productOf (suc s) l a b =
-    let w = chosen (suc s) a b in
-    cond (eqb (w .kind) 4) (linearProduct (λ x. productOf s l x (constantBlock (w .line .c))) l (w .line) b)
-    (cond (eqb (w .kind) 5) (linearProduct (λ x. productOf s l x (constantBlock (w .line .c))) l (w .line) a)
-    (plainProduct l (w .kind) (w .line .c) a b))
+    let byC : Linear → Block → Block = λ line x. productOf s l x (constantBlock (line .c)) in
+    shortcut a b
+    (cond (linear a .yes) (linearProduct (byC (linear a)) l (linear a) b)
+    (cond (linear b .yes) (linearProduct (byC (linear b)) l (linear b) a)
+    (generalBlock l a b)))
 
 -- zero is tested before the cut, the rest after it
 unfoldable pub multiplied : List ℕ → Block → Block → Block

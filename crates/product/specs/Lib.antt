@@ -1,3 +1,4 @@
+pub mod Chosen
 pub mod Room
 pub mod Ways
 pub mod Line

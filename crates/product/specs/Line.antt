@@ -18,7 +18,8 @@ use Rattle.model.specs.Refusals.{zeroF}
 use Rattle.model.specs.Poly.{Block, block}
 use Rattle.model.specs.Linear.{linear}
 use Rattle.model.specs.Add.{joinedBlock}
-use Rattle.model.specs.Product.{chosen, constantBlock, grown, raised, plainProduct, linearProduct, productOf}
+use Rattle.model.specs.Product.{constantBlock, grown, raised, linearProduct, productOf}
+use Rattle.product.specs.Chosen.{chosen, plainProduct}
 use Rattle.shape_words.specs.Lengths.{Lengths, count-pos}
 use Rattle.laws_keeps.specs.Sits.{Sits, sits-more, sum-at, max-at}
 use Rattle.laws_keeps.specs.Ways.{linear-is, line-two}

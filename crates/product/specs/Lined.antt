@@ -18,7 +18,7 @@ use Rattle.model.specs.Refusals.{zeroF}
 use Rattle.model.specs.Readings.{oneF}
 use Rattle.model.specs.Poly.{Block, block, readAt}
 use Rattle.model.specs.Add.{joinAt, placeJoined, joined, joinedBlock}
-use Rattle.model.specs.Product.{constantBlock, scaled, scaledAt, grown, raised, raisedAt, chosen, plainProduct, linearProduct, productOf}
+use Rattle.model.specs.Product.{constantBlock, scaled, scaledAt, grown, raised, raisedAt, linearProduct, shortcut, productOf}
 use Rattle.shape_words.specs.Lengths.{inside-is, is-inside}
 use Rattle.shape_words.specs.Places.{place-lt, place-index, index-inside}
 use Rattle.blocks.specs.Combine.{way-both}
@@ -83,7 +83,7 @@ neither false b h = (refl, h)
 -- more than one place times a constant that is not one
 pub by-scale : (limits : List ℕ) (c : Float) (x : Block) → (count (x .lengths) ≡ 1 → ⊥) → eq c oneF ≡ false
     → productOf 0 limits x (constantBlock c) ≡ scaled c x
-unfolding productOf chosen plainProduct span
+unfolding productOf shortcut span
 by-scale limits c x n o = simp (ne-eqb _ _ n, o)
 
 module _ (limits : List ℕ) (line : Linear) (x : Block) {d out : List Float} {r : List ℕ} where

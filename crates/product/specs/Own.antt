@@ -18,7 +18,8 @@ use Rattle.model.specs.Refusals.{zeroF, noRefusal}
 use Rattle.model.specs.Readings.{oneF}
 use Rattle.model.specs.Gates.{pairGate, announcedPair}
 use Rattle.model.specs.Poly.{Block, block}
-use Rattle.model.specs.Product.{scaledAt, chosen}
+use Rattle.model.specs.Product.{scaledAt}
+use Rattle.product.specs.Chosen.{chosen}
 use Rattle.shape_words.specs.Rules.{Good}
 use Rattle.shape_words.specs.Lengths.{Lengths}
 use Rattle.product_kept.specs.Kept.{Keeps}

@@ -12,7 +12,8 @@ use Rattle.model.specs.Header.{count}
 use Rattle.model.specs.Limits.{cutTo, sumShape, maxShape}
 use Rattle.model.specs.Poly.{Block}
 use Rattle.model.specs.Linear.{noLinear, linear}
-use Rattle.model.specs.Product.{way, grown}
+use Rattle.model.specs.Product.{grown}
+use Rattle.product.specs.Chosen.{way}
 use Rattle.shape_words.specs.Lengths.{Lengths}
 
 -- which way, where neither is a constant and a line is looked for

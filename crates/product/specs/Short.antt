@@ -21,7 +21,8 @@ use Rattle.model.specs.Gates.{full}
 use Rattle.model.specs.Poly.{Block, block}
 use Rattle.model.specs.Add.{joinedBlock}
 use Rattle.model.specs.Linear.{linear}
-use Rattle.model.specs.Product.{isConstant, isZero, constantBlock, scaled, scaledAt, grown, raised, chosen, linearProduct, productOf, multiplied}
+use Rattle.model.specs.Product.{isConstant, isZero, constantBlock, scaled, scaledAt, grown, raised, linearProduct, productOf, multiplied}
+use Rattle.product.specs.Chosen.{chosen}
 use Rattle.product_kept.specs.Kept.{KeepsLength}
 use Rattle.laws_keeps.specs.Sits.{Sits}
 use Rattle.laws_keeps.specs.Ways.{linear-is, line-two}

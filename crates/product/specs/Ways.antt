@@ -24,7 +24,8 @@ use Rattle.model.specs.Readings.{first, oneF}
 use Rattle.model.specs.Linear.{noLinear, linear}
 use Rattle.model.specs.Add.{joined, joinedBlock}
 use Rattle.model.specs.General.{general}
-use Rattle.model.specs.Product.{isConstant, isOne, way, justC, chosen, scaled, grown, raised, raisedAt, constantBlock, plainProduct, linearProduct, productOf}
+use Rattle.model.specs.Product.{isConstant, isOne, scaled, grown, raised, raisedAt, constantBlock, linearProduct, productOf}
+use Rattle.product.specs.Chosen.{way, justC, chosen, plainProduct, product-plainly, product-chosen}
 use Rattle.shape_words.specs.Lengths.{Lengths}
 use Rattle.blocks.specs.Rows.{count-inner, inner-of}
 use Rattle.product_general.specs.Rows.{Multiplying}
@@ -48,9 +49,6 @@ under-lengths {l} {n} u c =
       m2 = m 2 (lit< tt);
       m3 = m 3 (lit< tt);
     }
-
-pub lengths-most : {n : List ℕ} → Lengths n → (k : ℕ) → k < 4 → at n k ≤ 64
-lengths-most {n} g = each (λ k. at n k ≤ 64) (g .m0) (g .m1) (g .m2) (g .m3)
 
 pub count-less : (n c : List ℕ) → ((k : ℕ) → k < 4 → at c k ≤ at n k) → count c ≤ count n
 count-less n c h = count-inner (inner-of h)
@@ -236,27 +234,24 @@ module _ (limits : List ℕ) (a b : Block) where
   pub product-four : (stage : ℕ) → chosen stage a b .kind ≡ 4
       → productOf stage limits a b ≡ linearProduct (byC (stage - 1) (chosen stage a b .line .c)) limits
       (chosen stage a b .line) b
-  unfolding productOf
   product-four zero h = absurd (omega (arith, chosen-four 0 a b h .some))
   product-four (suc s) h =
       let e : suc s - 1 ≡ s = omega arith in
-      rw (e, eq-eqb _ _ h)
+      product-chosen limits a b s ∙ rw (e, eq-eqb _ _ h)
 
   pub product-five : (stage : ℕ) → chosen stage a b .kind ≡ 5
       → productOf stage limits a b ≡ linearProduct (byC (stage - 1) (chosen stage a b .line .c)) limits
       (chosen stage a b .line) a
-  unfolding productOf
   product-five zero h = absurd (omega (arith, chosen-five 0 a b h .some))
   product-five (suc s) h =
       let e : suc s - 1 ≡ s = omega arith in
       let n : eqb (chosen (suc s) a b .kind) 4 ≡ false = ap (λ (k : ℕ). eqb k 4) h in
-      rw (e, n, eq-eqb _ _ h)
+      product-chosen limits a b s ∙ rw (e, n, eq-eqb _ _ h)
 
   pub product-plain : (stage : ℕ) → (chosen stage a b .kind ≡ 4 → ⊥) → (chosen stage a b .kind ≡ 5 → ⊥)
       → productOf stage limits a b ≡ plainProduct limits (chosen stage a b .kind) (chosen stage a b .line .c) a b
-  unfolding productOf
-  product-plain zero h k = refl
-  product-plain (suc s) h k = rw (ne-eqb _ _ h, ne-eqb _ _ k)
+  product-plain zero h k = product-plainly limits a b
+  product-plain (suc s) h k = product-chosen limits a b s ∙ rw (ne-eqb _ _ h, ne-eqb _ _ k)
 
 module _ (limits : List ℕ) (c : Float) (a b : Block) where
   pub plain-0 : (k : ℕ) → k ≡ 0 → plainProduct limits k c a b ≡ b

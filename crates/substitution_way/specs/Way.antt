@@ -8,7 +8,8 @@ use Rattle.model.specs.declared.Way.{Way}
 use Rattle.model.specs.Refusals.{zeroF}
 use Rattle.model.specs.Poly.{Block}
 use Rattle.model.specs.Linear.{noLinear, linear}
-use Rattle.model.specs.Product.{isZero, way}
+use Rattle.model.specs.Product.{isZero}
+use Rattle.product.specs.Chosen.{way}
 use Rattle.model.specs.Substitute.{substituted}
 
 -- Which way b goes for v, of `vars` variables: 0 the variable is not there, 1 b is zero, 2 b is linear in v with c

@@ -13,7 +13,8 @@ use Rattle.model.specs.declared.Way.{Way}
 use Rattle.model.specs.Refusals.{zeroF}
 use Rattle.model.specs.Poly.{Block}
 use Rattle.model.specs.Linear.{noLinear, linear}
-use Rattle.model.specs.Product.{isZero, constantBlock, way}
+use Rattle.model.specs.Product.{isZero, constantBlock}
+use Rattle.product.specs.Chosen.{way}
 use Rattle.model.specs.Substitute.{rowAt, powered, horner, substituted}
 use Rattle.substitution_way.specs.Way.{wayOf, putFor}
 
