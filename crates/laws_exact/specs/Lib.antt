@@ -1,4 +1,5 @@
 pub mod Windows
+pub mod Weights
 pub mod Wholes
 pub mod Cuts
 pub mod Firsts

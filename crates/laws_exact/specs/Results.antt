@@ -1,7 +1,7 @@
 -- The results are polynomials with whole coefficients again, so that the laws of this crate apply to them (document 01,
 -- 'Where the result is exact', of what is made in several steps): their series are the exact ones under the limits, |A
 -- + B| is at most |A| + |B|, and |A B| at most |A| |B|.
-use mathlib.Core.Path.{_≡_, refl, ap}
+use mathlib.Core.Path.{_≡_, ap}
 use mathlib.Core.Bool.{true, false}
 use mathlib.Core.List.{List}
 use Prim.Native.Nat.{ℕ, _+_, _*_, _^_, _≤_}
@@ -9,7 +9,6 @@ use native.Mathlib.Nat.{le-trans, le-of-eq, mul-le-mul}
 use native.Mathlib.Omega.{arith}
 use lib.ListN.{length}
 use lib.IntN.{ℤ, natAbs}
-use Rattle.lists.specs.Four.{at, four, each}
 use Rattle.model.specs.declared.Header.{Header}
 use Rattle.model.specs.declared.Family.the-variants.{Sum, Product}
 use Rattle.model.specs.Announced.{announced}
@@ -17,12 +16,10 @@ use Rattle.model_textbook.specs.Sum.{addN}
 use Rattle.model.specs.Poly.{Poly, blockOf}
 use Rattle.model.specs.Add.{combined}
 use Rattle.model.specs.Product.{productPoly}
-use Rattle.model_textbook.specs.Textbook.{Series, seriesOf, weight, plus, less, times}
+use Rattle.model_textbook.specs.Textbook.{Series, weight, plus, less, times}
 use Rattle.laws_whole.specs.Int.{abs-sub}
-use Rattle.laws_whole.specs.Index.{Within}
 use Rattle.laws_whole.specs.BoxLaws.{box-plus}
-use Rattle.laws_whole.specs.BoxSizes.{boxN-le, boxN-part}
-use Rattle.laws_whole.specs.StoredLaws.{weight-wider}
+use Rattle.laws_whole.specs.BoxSizes.{boxN-le}
 use Rattle.laws_whole.specs.SeriesSizes.{weight-plus, weight-times}
 use Rattle.shape_words.specs.Rules.{Regular, ruled-at}
 use Rattle.shape_words.specs.Lengths.{Inside}
@@ -30,7 +27,7 @@ use Rattle.shape.specs.Keeps.{Keeps}
 use Rattle.laws_keeps.specs.Sits.{Sits}
 use Rattle.laws_keeps.specs.Keeps.{combined-keeps}
 use Rattle.laws_keeps.specs.ProductKeeps.{product-keeps}
-use Rattle.laws_exact.specs.Windows.{at-within}
+use Rattle.laws_exact.specs.Weights.{weight-any}
 use Rattle.laws_exact.specs.Wholes.{Wholes, Is}
 use Rattle.laws_exact.specs.Cuts.{numbersOf, is-wholes, wholes-agree, wholes-weight}
 use Rattle.laws_exact.specs.Sums.{seriesIn, weightIn, sum-exact, difference-exact}
@@ -54,16 +51,6 @@ keeps-sits k = record {
 pub result : {h : Header} {p : Poly} {Z : Series} {n : ℕ} → Keeps h p → Is (h .limits) (blockOf p) Z
     → weight (p .head .lengths) Z ≤ n → Result (h .limits) p Z n
 result k w b = let s = keeps-sits k in record { wholes = is-wholes s w; agrees = wholes-agree s w; light = le-trans (wholes-weight s w) b }
-
--- ---- weights over other lengths
-
-pub weight-any : (n : List ℕ) → length n ≡ 4 → (a : ℕ → ℤ) (m : List ℕ) → length m ≡ 4 → weight m (seriesOf n a) ≤ weight n (seriesOf n a)
-unfolding weight
-weight-any n e a m f =
-    let r = four (λ v. at n v + at m v) in
-    let x : Within n r = at-within n r e (each (λ v. at n v ≤ at r v) (omega arith) (omega arith) (omega arith) (omega arith)) in
-    let y : Within m r = at-within m r f (each (λ v. at m v ≤ at r v) (omega arith) (omega arith) (omega arith) (omega arith)) in
-    le-trans (boxN-part (λ k. natAbs (seriesOf n a k)) y) (le-of-eq (weight-wider n e a x refl))
 
 weight-less : (A B : Series) (n : List ℕ) → weight n (less A B) ≤ weight n A + weight n B
 unfolding weight less

@@ -1,35 +1,29 @@
 -- The product of two blocks that are cut already (document 01, port order 4) is the exact one on whichever way is
 -- chosen: one, constant, linear, general, from either side.
 -- The product by a constant that a line asks for is the product again, one stage lower.
-use mathlib.Core.Path.{_≡_, refl, sym, ap, _∙_}
+use mathlib.Core.Path.{_≡_, sym, ap, _∙_}
 use mathlib.Core.Bool.{true}
 use mathlib.Core.List.{List}
-use Prim.Native.Nat.{ℕ, zero, suc, _+_, _*_, _≤_, _<_}
+use Prim.Native.Nat.{ℕ, zero, suc, _*_, _≤_}
 use native.Mathlib.Nat.{le-trans, le-refl}
 use native.Mathlib.Omega.{arith}
 use lib.Dec.{eqb}
-use lib.ListN.{length}
 use lib.IntN.{ℤ, pos, natAbs, _*ℤ_, *ℤ-comm}
 use lib.Ieee.{eq}
 use borrow.Author.Tests.{eqb-true}
 use Rattle.lists.specs.Test.{and-left, and-right, of-both}
-use Rattle.lists.specs.Four.{at, four, each}
 use Rattle.model_textbook.specs.Box.{degree}
 use Rattle.model.specs.Poly.{Block}
 use Rattle.model.specs.Readings.{oneF, first}
 use Rattle.model.specs.Linear.{linear}
 use Rattle.model.specs.Product.{isConstant, isOne, constantBlock, scaled, linearProduct, productOf}
-use Rattle.model_textbook.specs.Textbook.{Series, seriesOf, weight, times, origin}
+use Rattle.model_textbook.specs.Textbook.{Series, times, origin}
 use Rattle.laws_whole.specs.Int.{*ℤ-unit}
 use Rattle.laws_whole.specs.Compare.{eq-one}
-use Rattle.laws_whole.specs.Index.{InBox, Within}
-use Rattle.laws_whole.specs.IndexLaws.{at-in-box}
-use Rattle.laws_whole.specs.StoredLaws.{weight-wider}
 use Rattle.laws_whole.specs.SeriesLaws.{times-comm}
-use Rattle.laws_whole.specs.SeriesSizes.{sizes, abs-times, sizes-le}
+use Rattle.laws_whole.specs.SeriesSizes.{abs-times}
 use Rattle.laws_keeps.specs.Sits.{Sits, sits-more}
 use Rattle.laws_keeps.specs.ProductKeeps.{shape-under, constant-sits, product-sits}
-use Rattle.laws_exact.specs.Windows.{at-within}
 use Rattle.laws_exact.specs.Factors.{sizes-comm, sizes-less, constantOf}
 use Rattle.laws_exact.specs.Generals.{Fits, general-is}
 use Rattle.laws_exact.specs.Wholes.{Is, is-same}
@@ -39,16 +33,6 @@ use Rattle.laws_exact.specs.Constants.{scaled-is, constant-is, constant-
 use Rattle.laws_exact.specs.Lines.{line-constant, linear-product}
 
 -- ---- bounds
-
--- |A| |B| bounds the sizes of the terms at every index
-pub sizes-stored : (n m : List ℕ) → length n ≡ 4 → length m ≡ 4 → (a b : ℕ → ℤ) (k : List ℕ) → length k ≡ 4
-    → sizes (seriesOf n a) (seriesOf m b) k ≤ weight n (seriesOf n a) * weight m (seriesOf m b)
-sizes-stored n m e f a b k g =
-    let r = four (λ v. suc (at k v + (at n v + at m v))) in
-    let u : InBox k r = at-in-box k r g (each (λ v. at k v < at r v) (omega arith) (omega arith) (omega arith) (omega arith)) in
-    let x : Within n r = at-within n r e (each (λ v. at n v ≤ at r v) (omega arith) (omega arith) (omega arith) (omega arith)) in
-    let y : Within m r = at-within m r f (each (λ v. at m v ≤ at r v) (omega arith) (omega arith) (omega arith) (omega arith)) in
-    rw (← weight-wider n e a x refl, ← weight-wider m f b y refl) (sizes-le (seriesOf n a) (seriesOf m b) u)
 
 fits-comm : {l : List ℕ} {A B : Series} → Fits l A B → Fits l B A
 fits-comm {A = A} {B = B} r = record { at = λ k f i. rw (sizes-comm B A k) (r .at k f i) }

@@ -1,8 +1,8 @@
 -- Document 01, 'Where the result is exact' (port order 5): the quotient of polynomials with whole coefficients, the
 -- divisor's constant 1 or -1, is the exact truncated one where |A| + |Q| |B| is at most 2 ^ 53, at every index under
 -- the announced limits and on every shortcut, in 0 to 4 variables.
--- |A| and |B| are of the operands as they are stored, before the cut; Q is their exact quotient, a series without end,
--- and |Q| its sum under the announced limits.
+-- Q is the exact quotient, a series without end, and |Q| its sum under the announced limits. |A| and |B| are of what the
+-- cut to the smaller limits leaves, or of the operands as they are stored: the second follows from the first.
 use mathlib.Core.Path.{_≡_, refl, sym, ap, _∙_}
 use mathlib.Core.List.{List}
 use Prim.Native.Nat.{ℕ, _+_, _*_, _^_, _≤_}
@@ -11,6 +11,7 @@ use native.Mathlib.Omega.{arith}
 use lib.ListN.{length}
 use lib.IntN.{ℤ, natAbs}
 use Rattle.model.specs.declared.Family.the-variants.{Quotient}
+use Rattle.model.specs.Header.{stored}
 use Rattle.model.specs.Limits.{minDegreesP1}
 use Rattle.model.specs.Announced.{announced, paired}
 use Rattle.model.specs.Poly.{Poly, blockOf, coefficientAt}
@@ -26,11 +27,11 @@ use Rattle.shape.specs.Limits.{min-limit-pos}
 use Rattle.shape.specs.Announced.{announced-regular}
 use Rattle.laws_exact.specs.Windows.{at-within}
 use Rattle.laws_keeps.specs.Keeps.{limitsOf}
-use Rattle.laws_exact.specs.Sums.{seriesIn, weightIn}
+use Rattle.laws_exact.specs.Sums.{seriesIn, weightIn, weight-in}
 use Rattle.laws_exact.specs.Generals.{Fits}
-use Rattle.laws_exact.specs.Wholes.{Wholes, wholes-is}
+use Rattle.laws_exact.specs.Wholes.{Wholes, Is, wholes-is}
 use Rattle.laws_exact.specs.Products.{own-sits}
-use Rattle.laws_exact.specs.Results.{Result, keeps-sits, result, weight-any}
+use Rattle.laws_exact.specs.Results.{Result, keeps-sits, result}
 use Rattle.laws_keeps.specs.QuotientKeeps.{quotient-keeps}
 use Rattle.laws_exact_quotient.specs.Divided.{divided-is}
 
@@ -41,24 +42,30 @@ quotientIn p a q b = quotient (seriesIn p a) (seriesIn q b)
 abbrev pub weightOver : Poly → (ℕ → ℤ) → Poly → (ℕ → ℤ) → ℕ
 weightOver p a q b = weight (announced Quotient (p .head) (q .head) .limits) (quotientIn p a q b)
 
+-- Only what the cut leaves has to be whole, and |B| is of that. |Q| |B| alone is enough: A is Q B under the limits, so no
+-- coefficient of A there is more.
+module _ (p q : Poly) (g : Regular (p .head)) (h : Regular (q .head)) (s : length (p .coeffs) ≡ stored (p .head)) (t : length (q .coeffs) ≡ stored (q .head))
+    {A B : Series} (u : Is (limitsOf p q) (blockOf p) A) (v : Is (limitsOf p q) (blockOf q) B) (unit : natAbs (B origin) ≡ 1)
+    (bound : weight (limitsOf p q) (quotient A B) * weight (limitsOf p q) B ≤ 2 ^ 53) where
+  room : Fits (limitsOf p q) (quotient A B) B
+  unfolding minDegreesP1
+  room = record { at = λ k f i. le-trans (sizes-le (quotient A B) B (inside-in-box (limitsOf p q) refl k f (is-inside i))) bound }
+
+  pub quotient-exact-cut : (k : List ℕ) → length k ≡ 4 → Inside (announced Quotient (p .head) (q .head) .limits) k
+      → Whole (coefficientAt (blockOf (quotientPoly p q)) k) (quotient A B k)
+  unfolding quotientPoly announced paired
+  quotient-exact-cut = divided-is (min-limit-pos (p .head) (q .head) (g .rules) (h .rules)) (own-sits p g s) (own-sits q h t) u v unit room .at
+
+-- so too where every coefficient is whole, |A| and |B| of the operands as they are stored
 module _ (p q : Poly) (g : Regular (p .head)) (h : Regular (q .head)) (a b : ℕ → ℤ) (u : Wholes (blockOf p) a) (v : Wholes (blockOf q) b)
     (unit : natAbs (seriesIn q b origin) ≡ 1) (bound : weightIn p a + weightOver p a q b * weightIn q b ≤ 2 ^ 53) where
-  -- |Q| |B| alone is enough: A is Q B under the limits, so no coefficient of A there is more
-  room : Fits (limitsOf p q) (quotientIn p a q b) (seriesIn q b)
+  bound-cut : weight (limitsOf p q) (quotientIn p a q b) * weight (limitsOf p q) (seriesIn q b) ≤ 2 ^ 53
   unfolding announced paired minDegreesP1
-  room = record {
-    at = λ k f i.
-        let l = limitsOf p q in
-        let few = mul-le-mul-left (weightOver p a q b) (weight-any (q .head .lengths) (ap length (h .ns)) b l refl) in
-        le-trans (sizes-le (quotientIn p a q b) (seriesIn q b) (inside-in-box l refl k f (is-inside i))) (omega (arith, few));
-  }
+  bound-cut = omega (arith, mul-le-mul-left (weightOver p a q b) (weight-in q h b (limitsOf p q) refl))
 
   pub quotient-exact : (k : List ℕ) → length k ≡ 4 → Inside (announced Quotient (p .head) (q .head) .limits) k
       → Whole (coefficientAt (blockOf (quotientPoly p q)) k) (quotient (seriesIn p a) (seriesIn q b) k)
-  unfolding quotientPoly announced paired
-  quotient-exact =
-      divided-is (min-limit-pos (p .head) (q .head) (g .rules) (h .rules)) (own-sits p g u) (own-sits q h v)
-      (wholes-is u (limitsOf p q)) (wholes-is v (limitsOf p q)) unit room .at
+  quotient-exact = quotient-exact-cut p q g h (u .full) (v .full) (wholes-is u (limitsOf p q)) (wholes-is v (limitsOf p q)) unit bound-cut
 
   -- the result is a polynomial with whole coefficients again, and no heavier than Q
   pub quotient-result : Result (announced Quotient (p .head) (q .head) .limits) (quotientPoly p q) (quotientIn p a q b) (weightOver p a q b)

@@ -26,7 +26,7 @@ use Rattle.laws_exact.specs.Wholes.{Wholes, Is, is-same, wholes-is}
 use Rattle.laws_exact.specs.Joins.{Room, joined-is}
 use Rattle.laws_exact.specs.Multiplied.{zero-is, multiplied-is}
 use Rattle.laws_keeps.specs.ProductKeeps.{constant-sits}
-use Rattle.laws_exact.specs.Results.{weight-any}
+use Rattle.laws_exact.specs.Weights.{weight-any}
 use Rattle.laws_keeps.specs.Running.{multiplied-sits}
 use Rattle.laws_keeps.specs.SubstituteKeeps.{row-sits}
 use Rattle.laws_exact_substitution.specs.Rowed.{row-is}

@@ -71,8 +71,8 @@ module _ (v : ℕ) (p q : Poly) (g : Regular (p .head)) (h : Regular (q .head)) 
     puts = record {
       var = i;
       pos-l = min-limit-pos (p .head) (q .head) (g .rules) (h .rules);
-      left = own-sits p g u;
-      right = own-sits q h w;
+      left = own-sits p g (u .full);
+      right = own-sits q h (w .full);
       wholes-left = u;
       wholes-right = w;
       bound = rw powers at bound;
