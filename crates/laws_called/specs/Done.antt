@@ -71,9 +71,9 @@ module _ (g : Refusal) (p : Poly) {r : ℕ} (done : answered g p ≡ Done r) whe
 
 -- ---- in the caller's terms
 
--- h is the announced header, r the word answered, out the buffer as it was left, Z the exact result. The word is one that
--- can be lent again with the buffer; at an index that it stores, the float there is the exact number; past the stored
--- lengths, under the limits, the exact number is zero.
+-- h is the announced header, r the word answered, out the buffer as it was left, Z the exact result. The word is one
+-- that can be lent again with the buffer; at an index that it stores, the float there is the exact number; past the
+-- stored lengths, under the limits, the exact number is zero.
 pub record Holds (h : Header) (r : ℕ) (out : List Float) (Z : Series) : Type 0 where
   pub good : goodWord r ≡ true
   pub limits : headerOf r .limits ≡ h .limits

@@ -1,5 +1,5 @@
--- What a caller lends: a header word that is good and a buffer that is long enough are a polynomial to which the laws of
--- exactness apply. Said of the buffer itself: which float stands at which place.
+-- What a caller lends: a header word that is good and a buffer that is long enough are a polynomial to which the laws
+-- of exactness apply. Said of the buffer itself: which float stands at which place.
 use mathlib.Core.Path.{_≡_, _∙_}
 use mathlib.Core.Bool.{true}
 use mathlib.Core.List.{List}
@@ -50,8 +50,8 @@ held-regular w x g = good-word w g .regular
 pub held-full : (w : ℕ) (x : List Float) → stored (headerOf w) ≤ length x → length (held w x .coeffs) ≡ stored (held w x .head)
 held-full w x h = length-take (stored (headerOf w)) x ∙ omega arith
 
-pub held-wholes : {w : ℕ} {x : List Float} {a : ℕ → ℤ} → AllWhole w x a → stored (headerOf w) ≤ length x → Wholes (blockOf (held w x)) a
-held-wholes {w} {x} s h = record { full = held-full w x h; at = λ p l. rw (getD-take (stored (headerOf w)) x p nan l) (s .at p l) }
+pub held-wholes : {w : ℕ} {x : List Float} {a : ℕ → ℤ} → AllWhole w x a → length (held w x .coeffs) ≡ stored (held w x .head) → Wholes (blockOf (held w x)) a
+held-wholes {w} {x} s f = record { full = f; at = λ p l. rw (getD-take (stored (headerOf w)) x p nan l) (s .at p l) }
 
 pub held-is : {l : List ℕ} {w : ℕ} {x : List Float} {a : ℕ → ℤ} → WholeUnder l w x a → Is l (blockOf (held w x)) (seriesUnder w a)
 unfolding seriesOf truncated

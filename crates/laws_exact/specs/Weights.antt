@@ -1,5 +1,5 @@
--- |A| of a stored polynomial over other lengths (document 01, 'Where the result is exact'): whatever is cut away, no more
--- is left. So a bound on |A| as the operand is stored is one on what a cut leaves of it.
+-- |A| of a stored polynomial over other lengths (document 01, 'Where the result is exact'): whatever is cut away, no
+-- more is left. So a bound on |A| as the operand is stored is one on what a cut leaves of it.
 use mathlib.Core.Path.{_≡_, refl}
 use mathlib.Core.List.{List}
 use Prim.Native.Nat.{ℕ, _+_, _≤_}

@@ -1,8 +1,8 @@
 -- Document 01, 'Where the result is exact' (port order 5): the quotient of polynomials with whole coefficients, the
 -- divisor's constant 1 or -1, is the exact truncated one where |A| + |Q| |B| is at most 2 ^ 53, at every index under
 -- the announced limits and on every shortcut, in 0 to 4 variables.
--- Q is the exact quotient, a series without end, and |Q| its sum under the announced limits. |A| and |B| are of what the
--- cut to the smaller limits leaves, or of the operands as they are stored: the second follows from the first.
+-- Q is the exact quotient, a series without end, and |Q| its sum under the announced limits. |A| and |B| are of what
+-- the cut to the smaller limits leaves, or of the operands as they are stored: the second follows from the first.
 use mathlib.Core.Path.{_≡_, refl, sym, ap, _∙_}
 use mathlib.Core.List.{List}
 use Prim.Native.Nat.{ℕ, _+_, _*_, _^_, _≤_}
@@ -42,8 +42,8 @@ quotientIn p a q b = quotient (seriesIn p a) (seriesIn q b)
 abbrev pub weightOver : Poly → (ℕ → ℤ) → Poly → (ℕ → ℤ) → ℕ
 weightOver p a q b = weight (announced Quotient (p .head) (q .head) .limits) (quotientIn p a q b)
 
--- Only what the cut leaves has to be whole, and |B| is of that. |Q| |B| alone is enough: A is Q B under the limits, so no
--- coefficient of A there is more.
+-- Only what the cut leaves has to be whole, and |B| is of that. |Q| |B| alone is enough: A is Q B under the limits, so
+-- no coefficient of A there is more.
 module _ (p q : Poly) (g : Regular (p .head)) (h : Regular (q .head)) (s : length (p .coeffs) ≡ stored (p .head)) (t : length (q .coeffs) ≡ stored (q .head))
     {A B : Series} (u : Is (limitsOf p q) (blockOf p) A) (v : Is (limitsOf p q) (blockOf q) B) (unit : natAbs (B origin) ≡ 1)
     (bound : weight (limitsOf p q) (quotient A B) * weight (limitsOf p q) B ≤ 2 ^ 53) where

@@ -1,7 +1,6 @@
--- Document 01, 'Examples to hold', those marked P, as far as the operations stand: one table, one statement, by
--- computation from the definitions that the functions promise. A row names an operation, its operands and what is
--- wanted; an operand is a header word and the bits of its coefficients. A number that is read has no header: its word
--- is 0. A further operation is a further case of `Operation` and of `answer`.
+-- Document 01, 'Examples to hold', all that are marked P: one table, one statement, by computation from the definitions
+-- that the functions promise. A row names an operation, its operands and what is wanted; an operand is a header word
+-- and the bits of its coefficients. A number that is read has no header: its word is 0.
 use mathlib.Core.Path.{_≡_, refl}
 use mathlib.Core.Bool.{Bool, true, false, _&&_}
 use mathlib.Core.List.{List, [], _∷_, map}
@@ -140,10 +139,10 @@ hold (r ∷ rs) = equal (answer (r .operation) (r .left) (r .right)) (r .wanted)
 abbrev two : List ℕ → Operand
 two = operand 0x2082000000000000
 
-abbrev three : List ℕ → Operand
+abbrev pub three : List ℕ → Operand
 three = operand 0x2104000000000000
 
-abbrev square : List ℕ → Operand
+abbrev pub square : List ℕ → Operand
 square = operand 0x4082082000000000
 
 unfoldable pub rows : List Row

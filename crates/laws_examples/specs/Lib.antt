@@ -1,4 +1,3 @@
 pub mod Examples
-pub mod Held
+pub mod Called
 pub mod Instances
-pub mod ChangeInstances
