@@ -1,3 +1,4 @@
+pub mod Kinds
 pub mod Steps
 pub mod Recipe
 pub mod Check

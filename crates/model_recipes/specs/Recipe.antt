@@ -8,27 +8,16 @@ use Rattle.lists.specs.Chain.{chain}
 use Rattle.model.specs.declared.Header.{Header}
 use Rattle.model_recipes.specs.declared.Step.{Step}
 use Rattle.model.specs.declared.Family.{Family}
-use Rattle.model.specs.declared.Family.the-variants.{Constant, Same, Sum, Product, Quotient, Power, Shift, Substitution}
+use Rattle.model.specs.declared.Family.the-variants.{Constant}
 use Rattle.model.specs.Header.{noHeader, stored}
 use Rattle.model.specs.Word.{headerOf}
 use Rattle.model.specs.Announced.{announced}
+use Rattle.model_recipes.specs.Kinds.{kinds}
 use Rattle.model_recipes.specs.Steps.{stepOf}
 
--- what each kind announces by, row by row
+-- what each kind announces by
 unfoldable pub families : Step → List Family
-families s =
-    Constant
-    ∷ Same
-    ∷ Sum
-    ∷ Sum
-    ∷ Product
-    ∷ Quotient
-    ∷ Power (s .n)
-    ∷ Shift (s .variable) (s .n)
-    ∷ Shift (s .variable) (s .n)
-    ∷ Shift (s .variable) (s .n)
-    ∷ Substitution (s .variable)
-    ∷ []
+families s = map (λ k. k .family s) kinds
 
 abbrev pub familyOf : Step → Family
 familyOf s = getD (families s) (s .kind) Constant

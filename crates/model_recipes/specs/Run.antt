@@ -5,7 +5,7 @@
 -- buffer.
 use Prim.Native.Nat.{ℕ, _*_}
 use mathlib.Core.List.{List, [], _∷_, _++_, map}
-use mathlib.Core.Bool.{true, false, _&&_, cond}
+use mathlib.Core.Bool.{_&&_, cond}
 use lib.Dec.{leb}
 use lib.ListN.{length, drop, getD}
 use lib.Ieee.{Float}
@@ -15,20 +15,12 @@ use Rattle.model.specs.declared.Refusal.{Refusal}
 use Rattle.model_recipes.specs.declared.Step.{Step}
 use Rattle.model_recipes.specs.declared.RunAnswer.{RunAnswer}
 use Rattle.model_recipes.specs.declared.RunAnswer.the-variants.{Done, Refused}
-use Rattle.model.specs.declared.Family.the-variants.{Same, Sum, Product, Quotient, Power, Shift, Substitution}
-use Rattle.model.specs.Header.{noHeader, ones, stored}
+use Rattle.model.specs.Header.{noHeader, stored}
 use Rattle.model.specs.Word.{headerOf, wordOf}
 use Rattle.model.specs.Refusals.{ask, noRefusal, isNone, zeroF, leaves, padded, cleared}
-use Rattle.model.specs.Gates.{oneGate, workGate, inGate, pairGate, withGate}
 use Rattle.model.specs.Poly.{Poly, held}
-use Rattle.model.specs.Constructed.{constant, wholeF}
-use Rattle.model.specs.Negate.{negated}
-use Rattle.model.specs.Add.{combined}
-use Rattle.model.specs.Product.{productPoly}
-use Rattle.model.specs.Quotient.{quotientPoly}
-use Rattle.model.specs.Power.{powerPoly}
-use Rattle.model.specs.Shifts.{derivativePoly, expansionPoly, shiftDownPoly}
-use Rattle.model.specs.Substitute.{substitutePoly}
+use Rattle.model.specs.Constructed.{constant}
+use Rattle.model_recipes.specs.Kinds.{kinds}
 use Rattle.model_recipes.specs.Steps.{stepOf}
 use Rattle.model_recipes.specs.Recipe.{announcedStep, inputHeads, announcedSteps, total, largest}
 use Rattle.model_recipes.specs.Check.{askAt, orElse, checkRefusal}
@@ -38,21 +30,9 @@ unfoldable pub inputValues : List ℕ → List Float → List Poly
 inputValues [] cs = []
 inputValues (w ∷ ws) cs = held w cs ∷ inputValues ws (drop (stored (headerOf w)) cs)
 
--- what each kind computes, row by row
+-- what each kind computes
 unfoldable pub operations : Step → Poly → Poly → List Poly
-operations s a b =
-    constant noHeader (wholeF (s .n))
-    ∷ negated a
-    ∷ combined false a b
-    ∷ combined true a b
-    ∷ productPoly a b
-    ∷ quotientPoly a b
-    ∷ powerPoly (s .n) a
-    ∷ derivativePoly (s .variable) (s .n) a
-    ∷ expansionPoly (s .variable) (s .n) a
-    ∷ shiftDownPoly (s .variable) (s .n) a
-    ∷ substitutePoly (s .variable) a b
-    ∷ []
+operations s a b = map (λ k. k .value s a b) kinds
 
 abbrev pub noValue : Poly
 noValue = constant noHeader zeroF
@@ -71,26 +51,9 @@ values hs cs ss = chain stepValue (inputValues hs cs) ss
 unfoldable pub stepValues : List ℕ → List Float → List ℕ → List Poly
 stepValues hs cs ss = drop (length hs) (values hs cs ss)
 
--- Whether an operation refuses its operands: each kind's own gate, row by row, with the operands' true header words, n
--- places for the result and m of scratch.
+-- whether an operation refuses its operands, with n places for the result and m of scratch
 unfoldable pub gates : Step → Poly → Poly → ℕ → ℕ → List Refusal
-gates s a b n m =
-    let w = wordOf (a .head) in
-    let x = length (a .coeffs) in
-    let u = wordOf (b .head) in
-    let y = length (b .coeffs) in
-    withGate 0 ones n
-    ∷ oneGate Same w x n
-    ∷ pairGate Sum w x u y n m
-    ∷ pairGate Sum w x u y n m
-    ∷ pairGate Product w x u y n m
-    ∷ pairGate Quotient w x u y n m
-    ∷ workGate (Power (s .n)) w x n m
-    ∷ inGate (Shift (s .variable) (s .n)) (s .variable) (s .n) w x n
-    ∷ inGate (Shift (s .variable) (s .n)) (s .variable) (s .n) w x n
-    ∷ inGate (Shift (s .variable) (s .n)) (s .variable) (s .n) w x n
-    ∷ pairGate (Substitution (s .variable)) w x u y n m
-    ∷ []
+gates s a b n m = map (λ k. k .gate s a b n m) kinds
 
 unfoldable pub stepGate : ℕ → List Poly → ℕ → ℕ → Refusal
 stepGate w vs n m = let s = stepOf w in getD (gates s (valueAt vs (s .a)) (valueAt vs (s .b)) n m) (s .kind) noRefusal

@@ -5,12 +5,13 @@
 use Prim.Native.Nat.{ℕ, zero, suc, _+_, _-_}
 use Prim.Native.String.{String}
 use mathlib.Core.Bool.{Bool, _&&_, _||_, cond}
-use mathlib.Core.List.{List, [], _∷_, _++_}
+use mathlib.Core.List.{List, [], _++_, map}
 use lib.Dec.{ltb, eqb}
 use lib.ListN.{length, getD}
 use Rattle.lists.specs.Bytes.{bytes}
 use Rattle.model.specs.declared.Header.{Header}
 use Rattle.model.specs.Header.{limit, len}
+use Rattle.model_recipes.specs.Kinds.{kinds}
 use Rattle.model_recipes.specs.Steps.{stepOf}
 use Rattle.model_recipes.specs.Recipe.{headAt}
 use Rattle.model_texts.specs.Printed.{decimal}
@@ -40,19 +41,7 @@ unfoldable pub shapeText : Header → List ℕ
 shapeText h = tell "; vars " (h .vars) ++ (when (ltb 0 (h .vars)) (bytes ":") ++ (joined (pairText h) 4 ++ bytes "\n"))
 
 unfoldable pub kindNames : List String
-kindNames =
-    "constant"
-    ∷ "negate"
-    ∷ "add"
-    ∷ "subtract"
-    ∷ "multiply"
-    ∷ "divide"
-    ∷ "power"
-    ∷ "derivative"
-    ∷ "taylor_expansion_of_coeff"
-    ∷ "shift_down"
-    ∷ "subst_var"
-    ∷ []
+kindNames = map (λ k. k .name) kinds
 
 unfoldable pub kindText : ℕ → List ℕ
 kindText k = bytes (getD kindNames k "")
