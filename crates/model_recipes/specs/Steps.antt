@@ -1,7 +1,7 @@
 -- REFERENCE 2.2, 6.2. Document 01, 'Recipes': the step word, most significant first: kind (4 bits), operand a (6),
 -- operand b (6), variable (2), number n (32), 14 zero bits; and which fields each of the sixteen kinds that a word can
 -- name uses.
-use Prim.Native.Nat.{ℕ, _/_, _%_, _^_}
+use Prim.Native.Nat.{ℕ, _+_, _*_, _/_, _%_, _^_}
 use mathlib.Core.List.{List, [], _∷_, _++_, map}
 use mathlib.Core.Bool.{false}
 use lib.ListN.{getD}
@@ -16,6 +16,13 @@ stepOf w = record { kind = w / 2 ^ 60 % 2 ^ 4; a = w / 2 ^ 54 % 2 ^ 6; b = w / 2
 -- the word's last bits
 abbrev pub spareOf : ℕ → ℕ
 spareOf w = w % 2 ^ 14
+
+-- the word of a step, its last bits zero
+unfoldable pub stepFields : Step → ℕ
+stepFields s = (((s .kind * 2 ^ 6 + s .a) * 2 ^ 6 + s .b) * 2 ^ 2 + s .variable) * 2 ^ 32 + s .n
+
+unfoldable pub wordOfStep : Step → ℕ
+wordOfStep s = stepFields s * 2 ^ 14
 
 abbrev pub noKind : Uses
 noKind = record { kind = false; a = false; b = false; variable = false; n = false }

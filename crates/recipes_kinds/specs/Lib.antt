@@ -1,3 +1,4 @@
 pub mod Known
 pub mod Gated
 pub mod Arms
+pub mod Packed

@@ -1,12 +1,13 @@
-// Step words, unpacked by shifts and masks, and the table of kinds.
+// Step words, packed and unpacked by shifts and masks, and the table of kinds.
 use model::Family;
 use model_recipes::Step;
 use model_recipes::Uses;
 ghost use mathlib.Core.Path.{_≡_};
 ghost use Prim.Native.Nat.{_<_};
-ghost use Rattle.model_recipes.specs.Steps.{stepOf, usesOf};
+ghost use Rattle.model_recipes.specs.Steps.{stepOf, wordOfStep, usesOf};
 ghost use Rattle.model_recipes.specs.Recipe.{familyOf};
 ghost use Rattle.model_recipes.specs.Check.{namedBefore, zeroUnless, formed};
+ghost use Rattle.recipes_kinds.specs.Packed.{Fields};
 
 // What the fields of a word say, well formed or not.
 pub fn step_of(word: u64) -> Step
@@ -19,6 +20,18 @@ pub fn step_of(word: u64) -> Step
         variable: ((word >> 46) & 3) as usize,
         n: ((word >> 14) & 4294967295) as u32,
     }
+}
+
+// The word of a step, its last bits zero.
+pub fn pack(s: Step) -> u64
+    requires { ⌜ Fields s ⌝ }
+    ensures { λ r. ⌜ r ≡ wordOfStep s ⌝ }
+{
+    ((s.kind as u64) << 60)
+        | ((s.a as u64) << 54)
+        | ((s.b as u64) << 48)
+        | ((s.variable as u64) << 46)
+        | ((s.n as u64) << 14)
 }
 
 // Constant n.
