@@ -10,6 +10,31 @@ pub struct Step {
     pub n: u32,
 }
 
+// The kinds, by their numbers in a step word.
+impl Step {
+    pub const CONSTANT: usize = 0;
+
+    pub const NEGATE: usize = 1;
+
+    pub const ADD: usize = 2;
+
+    pub const SUBTRACT: usize = 3;
+
+    pub const MULTIPLY: usize = 4;
+
+    pub const DIVIDE: usize = 5;
+
+    pub const POWER: usize = 6;
+
+    pub const DERIVATIVE: usize = 7;
+
+    pub const EXPANSION: usize = 8;
+
+    pub const SHIFT_DOWN: usize = 9;
+
+    pub const SUBSTITUTION: usize = 10;
+}
+
 // Which fields a kind of step uses, where there is such a kind.
 pub struct Uses {
     pub kind: bool,

@@ -45,7 +45,7 @@ pub fn announce(word: u64, known: &[u64]) -> Header
 pub fn is_shift(s: Step) -> bool
     ensures { λ r. ⌜ r ≡ lowers s ⌝ }
 {
-    (7 <= s.kind) & (s.kind <= 9)
+    (Step::DERIVATIVE <= s.kind) & (s.kind <= Step::SHIFT_DOWN)
 }
 
 // Test 3: a shift's variable is one of its operand's.

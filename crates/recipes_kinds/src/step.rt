@@ -159,16 +159,16 @@ pub fn family_of(s: Step) -> Family
 {
     let kind = s.kind;
     match kind {
-        1 => Family::Same,
-        2 => Family::Sum,
-        3 => Family::Sum,
-        4 => Family::Product,
-        5 => Family::Quotient,
-        6 => Family::Power(s.n),
-        7 => Family::Shift(s.variable, s.n as usize),
-        8 => Family::Shift(s.variable, s.n as usize),
-        9 => Family::Shift(s.variable, s.n as usize),
-        10 => Family::Substitution(s.variable),
+        Step::NEGATE => Family::Same,
+        Step::ADD => Family::Sum,
+        Step::SUBTRACT => Family::Sum,
+        Step::MULTIPLY => Family::Product,
+        Step::DIVIDE => Family::Quotient,
+        Step::POWER => Family::Power(s.n),
+        Step::DERIVATIVE => Family::Shift(s.variable, s.n as usize),
+        Step::EXPANSION => Family::Shift(s.variable, s.n as usize),
+        Step::SHIFT_DOWN => Family::Shift(s.variable, s.n as usize),
+        Step::SUBSTITUTION => Family::Substitution(s.variable),
         _ => Family::Constant,
     }
 }

@@ -53,10 +53,10 @@ fn value_to(
         (now (pool .entry)) (now (pool .exit)) ⌝ }
 {
     let kind = s.kind;
-    if kind == 6 {
+    if kind == Step::POWER {
         return recipes_singles::power_to(s.n, x, xi, xf, h, n, coefficients, pool, at, scratch);
     }
-    if (kind != 1) & (kind <= 5) {
+    if (kind != Step::NEGATE) & (kind <= Step::DIVIDE) {
         return recipes_pairs::pair_to(
             kind,
             x,
@@ -73,7 +73,7 @@ fn value_to(
             scratch,
         );
     }
-    if kind == 10 {
+    if kind == Step::SUBSTITUTION {
         return crate::substitute::substitute_to(
             s.variable,
             x,

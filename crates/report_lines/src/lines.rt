@@ -4,6 +4,7 @@ use crate::put::put_if;
 use crate::put::tell;
 use crate::put::tell_if;
 use model::Header;
+use model_recipes::Step;
 use recipes_kinds::gate::head_at;
 use recipes_kinds::step::step_of;
 use report_trace::cut::uses_in;
@@ -53,17 +54,17 @@ fn put_kind(kind: usize, at: usize, to: &mut [u8]) -> usize
     ensures { λ r. ⌜ Puts (kindText kind) at (now (to .entry)) (now (to .exit)) r ⌝ }
 {
     match kind {
-        0 => put(b"constant", at, to),
-        1 => put(b"negate", at, to),
-        2 => put(b"add", at, to),
-        3 => put(b"subtract", at, to),
-        4 => put(b"multiply", at, to),
-        5 => put(b"divide", at, to),
-        6 => put(b"power", at, to),
-        7 => put(b"derivative", at, to),
-        8 => put(b"taylor_expansion_of_coeff", at, to),
-        9 => put(b"shift_down", at, to),
-        10 => put(b"subst_var", at, to),
+        Step::CONSTANT => put(b"constant", at, to),
+        Step::NEGATE => put(b"negate", at, to),
+        Step::ADD => put(b"add", at, to),
+        Step::SUBTRACT => put(b"subtract", at, to),
+        Step::MULTIPLY => put(b"multiply", at, to),
+        Step::DIVIDE => put(b"divide", at, to),
+        Step::POWER => put(b"power", at, to),
+        Step::DERIVATIVE => put(b"derivative", at, to),
+        Step::EXPANSION => put(b"taylor_expansion_of_coeff", at, to),
+        Step::SHIFT_DOWN => put(b"shift_down", at, to),
+        Step::SUBSTITUTION => put(b"subst_var", at, to),
         _ => at,
     }
 }
