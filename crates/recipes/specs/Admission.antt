@@ -5,7 +5,7 @@ use mathlib.Core.List.{List, [], _∷_, _++_}
 use mathlib.Core.Path.{_≡_, refl, sym, ap, _∙_}
 use native.Mathlib.Omega.{arith}
 use lib.Dec.{leb}
-use lib.ListN.{length, take, drop, length-drop}
+use lib.ListN.{length, getD, take, drop, length-drop, length-map}
 use lib.Seq.{drop-at, length-take-le}
 use lib.Ieee.{Float}
 use borrow.Author.Tests.{le-leb, lt-leb}
@@ -13,6 +13,7 @@ use Rattle.lists.specs.Grow.{over}
 use Rattle.lists.specs.Part.{part}
 use Rattle.model.specs.declared.Header.{Header}
 use Rattle.model.specs.declared.Refusal.{Refusal}
+use Rattle.model.specs.Word.{headerOf}
 use Rattle.model.specs.Refusals.{refusedBy, noRefusal, zeros, cleared}
 use Rattle.model_recipes.specs.Recipe.{inputHeads, announcedPlaces, announcedSteps, total, largest}
 use Rattle.model_recipes.specs.Check.{orElse, checkRefusal}
@@ -21,8 +22,10 @@ use Rattle.shape_words.specs.Lengths.{lengths-of, count-most}
 use Rattle.recipes_kinds.specs.Known.{Known}
 use Rattle.recipes_check.specs.Asks.{or-first, or-next}
 use Rattle.recipes_check.specs.Judging.{heads}
-use Rattle.recipes_check.specs.Judged.{Judged}
+use Rattle.recipes_check.specs.Judged.{Judged, accepts}
 use Rattle.recipes_check.specs.Answered.{Passed, passed}
+use Rattle.recipes_laws.specs.Ahead.{length-announced}
+use Rattle.recipes.specs.Standing.{Placing}
 use Rattle.recipes.specs.Running.{Admitted}
 
 -- c, p, w and s the lengths of coefficients, pool, words and scratch
@@ -72,6 +75,16 @@ largest-most (h ∷ known) g = omega (arith, count-most (lengths-of (g .at 0 .ru
 module _ {hs : List ℕ} {cs : List Float} {ss known : List ℕ} {mp ms : ℕ} (g : Admitted hs cs ss known mp ms) where
   pub run-passed : Passed hs ss known
   run-passed = let j : Judged hs ss known known (checkRefusal hs ss) = record { answer = refl; len = refl; noted = λ z. g .noted } in passed j (g .none)
+
+  pub run-some : 1 ≤ length ss
+  run-some = accepts hs ss (g .none) .sizes .some
+
+  -- where the last value begins
+  pub last-start : {starts : List ℕ} → Placing (inputHeads hs) (announcedSteps hs ss) starts
+      → getD starts (length hs + length ss - 1) 0 ≡ total (take (length ss - 1) (announcedSteps hs ss))
+  last-start {starts} p =
+      let e : length hs + length ss - 1 ≡ length (inputHeads hs) + (length ss - 1) = omega (arith, length-map hs headerOf, run-some) in
+      ap (λ (x : ℕ). getD starts x 0) e ∙ p .steps (length ss - 1) (omega (arith, length-announced hs ss, run-some))
 
   -- it needs no more scratch than the largest count asks for
   pub admitted-exactly : {m : ℕ} → m ≡ 8 * largest (announcedSteps hs ss) → Admitted hs cs ss known mp m

@@ -41,7 +41,7 @@ use Rattle.recipes_laws.specs.EachKind.{by-kind}
 use Rattle.recipes_laws.specs.Follows.{length-inputs, follows-known}
 use Rattle.recipes_laws.specs.Ahead.{Clear, ahead-at, clear-at, ready-at, keeps-at, announced-at, length-announced, step-largest}
 use Rattle.recipes_laws.specs.Passed.{StepReady}
-use Rattle.recipes.specs.Standing.{lyingAt, Named, StepIn, constant-value, Begun, total-more, At, at-lying, at-lies, at-later, at-new, input-at}
+use Rattle.recipes.specs.Standing.{lyingAt, Named, StepIn, constant-value, Placing, total-more, At, at-lying, at-lies, at-later, at-new, input-at}
 
 -- ---- operands of a step that is right
 
@@ -136,6 +136,7 @@ pub record Running (hs : List ℕ) (cs : List Float) (ss old-known : List ℕ) (
   pub true-heads : (q : ℕ) → q < length hs + i → headerOf (getD known q 0) ≡ valueAt (values hs cs (take i ss)) q .head
   pub written : (j : ℕ) → j < i → getD known (length hs + j) 0 ≡ wordOf (valueAt (values hs cs (take i ss)) (length hs + j) .head)
   pub later : (q : ℕ) → length hs + i ≤ q → getD known q 0 ≡ getD old-known q 0
+  pub placed : (j : ℕ) → j < length ss → getD starts (length hs + j) 0 ≡ total (take j (announcedSteps hs ss))
   pub stands : (q : ℕ) → q < length hs + i → At (ltb q (length hs)) (getD starts q 0) cs (take at pool) (valueAt (values hs cs (take i ss)) q)
   pub lies : take at pool ≡ laid (take i (announcedSteps hs ss)) (drop (length hs) (values hs cs (take i ss)))
   pub rest : drop at pool ≡ drop at old-pool
@@ -169,23 +170,36 @@ module _ {hs : List ℕ} {cs : List Float} {ss old-known : List ℕ} {mp ms : �
       sym (getD-take k (chain announcedStep (inputHeads hs) ss) q noHeader l) ∙ (ap (λ (x : List Header). headAt x q) e ∙ input-head hs cs q)
 
   -- ---- at the beginning
-  pub running-none : {starts : List ℕ} (pool : List Float) {old : List ℕ} → Begun hs k old starts → 64 ≤ length old
-      → Running hs cs ss old-known pool 0 0 old-known starts pool
+  pub running-none : {starts : List ℕ} (pool : List Float) → Placing (inputHeads hs) (announcedSteps hs ss) starts → 64 ≤ length starts
+      → Running hs cs ss old-known pool 0 (total (take 0 (announcedSteps hs ss))) old-known starts pool
   unfolding total values chain laid
-  running-none {starts} pool b l =
+  running-none {starts} pool p l =
+      let n : length (inputHeads hs) ≡ k = length-map hs headerOf in
       record {
         most = omega arith;
         offset = refl;
         len-known = refl;
-        len-starts = omega (arith, b .len);
+        len-starts = l;
         len-pool = refl;
         true-heads = λ q h. noted-at q (omega arith) ∙ first-head q (omega arith);
         written = λ j h. absurd (omega arith);
         later = λ q h. refl;
-        stands = λ q h. rw (lt-ltb q k (omega arith), b .from q (omega arith)) (input-at hs cs q (omega arith) (g .full));
+        placed = λ j h. rw (← n) (p .steps j (omega (arith, length-announced hs ss)));
+        stands = λ q h. rw (lt-ltb q k (omega arith), p .inputs q (omega (arith, n))) (input-at hs cs q (omega arith) (g .full));
         lies = refl;
         rest = refl;
       }
+
+  -- where the next value begins: as it is placed, and as it lies
+  pub running-from : {old-pool : List Float} {i : ℕ} {known starts : List ℕ} {pool : List Float}
+      → Running hs cs ss old-known old-pool i (total (take i (announcedSteps hs ss))) known starts pool → i < length ss
+      → Running hs cs ss old-known old-pool i (getD starts (k + i) 0) known starts pool
+  running-from {i = i} r l = rw (r .placed i l) r
+
+  pub running-at : {old-pool : List Float} {i at : ℕ} {known starts : List ℕ} {pool : List Float}
+      → Running hs cs ss old-known old-pool i at known starts pool
+      → Running hs cs ss old-known old-pool i (total (take i (announcedSteps hs ss))) known starts pool
+  running-at r = rw (r .offset) at r
 
   -- ---- one step more
   module _ {old-pool : List Float} {i at : ℕ} {known starts : List ℕ} {pool : List Float}
@@ -328,9 +342,6 @@ module _ {hs : List ℕ} {cs : List Float} {ss old-known : List ℕ} {mp ms : �
         abbrev known' : List ℕ
         known' = set known (k + i) word
 
-        abbrev starts' : List ℕ
-        starts' = set starts (k + i) at
-
         abbrev after : List Float
         after = take (at + room) pool'
 
@@ -373,14 +384,14 @@ module _ {hs : List ℕ} {cs : List Float} {ss old-known : List ℕ} {mp ms : �
         front-same : take at after ≡ take at pool
         front-same = take-take at (at + room) pool' (omega arith) ∙ kept .below .head
 
-        stands-more : (q : ℕ) → q < k + (i + 1) → At (ltb q k) (getD starts' q 0) cs after (valueAt (vs ++ (v ∷ [])) q)
+        stands-more : (q : ℕ) → q < k + (i + 1) → At (ltb q k) (getD starts q 0) cs after (valueAt (vs ++ (v ∷ [])) q)
         stands-more q h =
             decide (eqb q (k + i))
             (λ t. let z : q ≡ k + i = eqb-true q (k + i) t in
-            rw (z, le-ltb (k + i) k (omega arith), getD-set-same starts (k + i) at 0 (omega (arith, fit, r .len-starts)), new-value)
+            rw (z, le-ltb (k + i) k (omega arith), r .placed i l ∙ sym (r .offset), new-value)
             (at-new cs kept (keeps-now .full) (omega (arith, count-under (keeps-now .under), er)) longer))
             (λ t. let n = eqb-false q (k + i) t in let o = at-place q h n in
-            rw (getD-set-other starts (k + i) q at 0 n, old-value q o)
+            rw (old-value q o)
             (at-later (ltb q k) (r .stands q o) (length-before e) front-same (omega (arith, length-take-le (at + room) pool' longer))))
 
         lies-more : after ≡ laid (take (i + 1) (announcedSteps hs ss)) (drop k (vs ++ (v ∷ [])))
@@ -404,17 +415,18 @@ module _ {hs : List ℕ} {cs : List Float} {ss old-known : List ℕ} {mp ms : �
         rest-more : drop (at + room) pool' ≡ drop (at + room) old-pool
         rest-more = kept .above ∙ (sym (drop-drop room at pool) ∙ (ap (drop room) (r .rest) ∙ drop-drop room at old-pool))
 
-        pub running-more : Running hs cs ss old-known old-pool (i + 1) (at + room) (set known (k + i) word) (set starts (k + i) at) pool'
+        pub running-more : Running hs cs ss old-known old-pool (i + 1) (at + room) (set known (k + i) word) starts pool'
         running-more =
             record {
               most = omega arith;
               offset = omega (arith, sum-next, er);
               len-known = length-set known (k + i) word ∙ r .len-known;
-              len-starts = omega (arith, length-set starts (k + i) at, r .len-starts);
+              len-starts = r .len-starts;
               len-pool = len-pool' ∙ r .len-pool;
               true-heads = λ q h. rw next-values (heads-more q h);
               written = λ j h. rw next-values (written-more j h);
               later = later-more;
+              placed = r .placed;
               stands = λ q h. rw next-values (stands-more q h);
               lies = rw next-values lies-more;
               rest = rest-more;

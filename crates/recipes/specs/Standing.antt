@@ -2,13 +2,13 @@
 -- start on.
 use Prim.Native.Nat.{ℕ, zero, suc, _+_, _-_, _*_, _^_, _≤_, _<_}
 use mathlib.Core.Bool.{Bool, true, false}
-use mathlib.Core.List.{List, [], _∷_, _++_}
+use mathlib.Core.List.{List, [], _∷_, _++_, map}
 use mathlib.Core.Path.{_≡_, refl, sym, ap, _∙_}
 use native.Mathlib.Omega.{arith}
 use native.Mathlib.Numerals.{add-one}
 use lib.Dec.{ltb, eqb}
-use lib.ListN.{length, getD, set, take, drop, length-drop, length-set, length-map}
-use lib.Seq.{take-at, take-take, drop-drop, length-take-le, getD-set-same, getD-set-other, take-suc}
+use lib.ListN.{length, getD, set, take, drop, length-append, length-drop, length-set, length-map, List·getD-append}
+use lib.Seq.{take-at, take-take, drop-at, drop-drop, length-take-le, getD-drop, getD-take, getD-set-same, getD-set-other, take-suc}
 use lib.Ieee.{Float}
 use borrow.Author.Tests.{eqb-true, eqb-false}
 use Rattle.lists.specs.Test.{decide}
@@ -104,6 +104,34 @@ module _ {hs old starts : List ℕ} {f i : ℕ} (s : Starting hs old starts f i)
         most = omega arith;
         small = omega (arith, s .small, count-most (lengths-of (word-ruled hs g i)));
       }
+
+-- ---- where each value begins
+
+-- is: what the inputs announce; js: what the steps do
+pub record Placing (is js : List Header) (starts : List ℕ) : Type 0 where
+  pub many : length is + length js ≤ length starts
+  pub inputs : (q : ℕ) → q < length is → getD starts q 0 ≡ total (take q is)
+  pub steps : (j : ℕ) → j < length js → getD starts (length is + j) 0 ≡ total (take j js)
+
+getD-past : (xs ys : List ℕ) {k : ℕ} → length xs ≡ k → (j : ℕ) → getD (xs ++ ys) (k + j) 0 ≡ getD ys j 0
+getD-past xs ys {k} e j = sym (getD-drop k (xs ++ ys) j 0) ∙ ap (λ (z : List ℕ). getD z j 0) (drop-at xs ys k e)
+
+-- the inputs' starts, then the steps' in the part from k on; rest: what lies behind that
+pub placed-both : {hs ws old front mid back : List ℕ} (rest : List ℕ) → Begun hs (length hs) old front → length hs ≤ length front
+    → Begun ws (length ws) mid back → length ws ≤ length mid → Placing (inputHeads hs) (map headerOf ws) (take (length hs) front ++ (back ++ rest))
+placed-both {hs} {ws} {front = front} {back = back} rest b l d m =
+    let n : length (inputHeads hs) ≡ length hs = length-map hs headerOf in
+    let j : length (map headerOf ws) ≡ length ws = length-map ws headerOf in
+    let f : length (take (length hs) front) ≡ length hs = length-take-le (length hs) front l in
+    record {
+      many = omega (arith, n, j, f, length-append (take (length hs) front) (back ++ rest), length-append back rest, d .len);
+      inputs = λ q h.
+          let p : q < length hs = omega (arith, n) in
+          List·getD-append (take (length hs) front) (back ++ rest) 0 q (omega (arith, f)) ∙ (getD-take (length hs) front q 0 p ∙ b .from q p);
+      steps = λ i h.
+          let p : i < length ws = omega (arith, j) in
+          rw n (getD-past (take (length hs) front) (back ++ rest) f i ∙ (List·getD-append back rest 0 i (omega (arith, d .len)) ∙ d .from i p));
+    }
 
 -- ---- values where they stand
 

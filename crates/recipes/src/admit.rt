@@ -1,5 +1,5 @@
 // Whether a recipe is run, and the run of one that is admitted.
-use crate::running::note_starts;
+use crate::running::place;
 use crate::running::run_steps;
 use model::Refusal;
 use recipes_check::judge;
@@ -8,8 +8,8 @@ use recipes_check::note_inputs;
 use recipes_check::total_of;
 ghost use mathlib.Core.Path.{_≡_};
 ghost use mathlib.Core.List.{map, _++_};
-ghost use Prim.Native.Nat.{_≤_};
-ghost use lib.ListN.{length, drop};
+ghost use Prim.Native.Nat.{_-_, _≤_};
+ghost use lib.ListN.{length, take, drop};
 ghost use Rattle.model.specs.Word.{wordOf};
 ghost use Rattle.model.specs.Refusals.{cleared};
 ghost use Rattle.model_recipes.specs.Recipe.{announcedSteps, total, largest};
@@ -50,8 +50,9 @@ pub fn admit(
     Refusal::none()
 }
 
-// The run: step values end to end in the pool, true header words one a step, the scratch's first 8 times the largest
-// count at +0.0.
+// The run of a recipe that was judged, `known` the words that its places announce: step values end to end in the pool,
+// true header words one a step, the scratch's first 8 times the largest count at +0.0. Answers where the last value
+// begins.
 pub fn run_admitted(
     headers: &[u64],
     coefficients: &[f64],
@@ -60,7 +61,7 @@ pub fn run_admitted(
     pool: &mut [f64],
     words: &mut [u64],
     scratch: &mut [f64],
-)
+) -> usize
     requires { ⌜ Admitted (now headers) (now coefficients) (now steps) (now known) (length (now pool))
         (length (now scratch)) ⌝ ∗ ⌜ length (now steps) ≤ length (now words) ⌝ }
     ensures values { λ _. ⌜ now (pool .exit) ≡ laid (announcedSteps (now (headers .entry)) (now (steps .entry)))
@@ -70,21 +71,23 @@ pub fn run_admitted(
         (stepValues (now (headers .entry)) (now (coefficients .entry)) (now (steps .entry)))
         ++ drop (length (now (steps .entry))) (now (words .entry)) ⌝ }
     ensures cleared { λ _. ⌜ now (scratch .exit) ≡ cleared (largest (announcedSteps (now (headers .entry)) (now (steps .entry)))) (now (scratch .entry)) ⌝ }
+    ensures last { λ r. ⌜ r ≡ total (take (length (now (steps .entry)) - 1) (announcedSteps (now (headers .entry)) (now (steps .entry)))) ⌝ }
 {
     let from = headers.len();
     let to = from + steps.len();
     let room = 8 * largest_of(&known[from..to]);
     let mut starts = [0usize; 64];
-    note_starts(headers, &mut starts);
+    place(headers, &known[from..to], &mut starts);
     run_steps(
         headers,
         coefficients,
         steps,
         known,
-        &mut starts,
+        &starts,
         pool,
         &mut scratch[..room],
     );
     note_inputs(&known[from..to], words);
     blocks::clear(&mut scratch[..room]);
+    starts[to - 1]
 }

@@ -1,5 +1,5 @@
 // Recipes (document 01): the check and the run. They take any words, any number of them, and any buffers.
-mod admit;
+pub mod admit;
 mod running;
 
 use admit::admit;

@@ -14,18 +14,18 @@ ghost use mathlib.Core.List.{map, _++_};
 ghost use Prim.Native.Nat.{_+_, _≤_};
 ghost use lib.ListN.{length, take, drop};
 ghost use Rattle.lists.specs.Part.{Kept};
-ghost use Rattle.model.specs.Word.{wordOf};
+ghost use Rattle.model.specs.Word.{headerOf, wordOf};
 ghost use Rattle.model.specs.Refusals.{padded};
 ghost use Rattle.model_recipes.specs.Recipe.{inputHeads, announcedSteps, total};
 ghost use Rattle.model_recipes.specs.Run.{stepValues, laid};
 ghost use Rattle.recipes_kinds.specs.Known.{Known};
 ghost use Rattle.recipes_operands.specs.Lent.{Lent};
 ghost use Rattle.recipes_steps.specs.Ready.{valueOf};
-ghost use Rattle.recipes.specs.Standing.{lyingAt, StepIn, Begun};
-ghost use Rattle.recipes.specs.Running.{Admitted, Running};
+ghost use Rattle.recipes.specs.Standing.{lyingAt, StepIn, Begun, Placing};
+ghost use Rattle.recipes.specs.Running.{Admitted};
 
-// Where each input begins.
-pub fn note_starts(headers: &[u64], starts: &mut [usize])
+// Where each of these values begins, end to end.
+fn note_starts(headers: &[u64], starts: &mut [usize])
     requires { ⌜ Known (inputHeads (now headers)) ⌝ ∗ ⌜ (length (now headers) ≤ length (now starts)) × (length (now headers) ≤ 64) ⌝ }
     ensures { λ _. ⌜ Begun (now (headers .entry)) (length (now (headers .entry))) (now (starts .entry)) (now (starts .exit)) ⌝ }
 {
@@ -36,6 +36,18 @@ pub fn note_starts(headers: &[u64], starts: &mut [usize])
         from += stored_of(header_of(headers[i]));
         i += 1;
     }
+}
+
+// Where each value begins: an input's among the coefficients, a step's in the pool; `announced` are the words that the
+// steps announce. No other function places a value.
+pub fn place(headers: &[u64], announced: &[u64], starts: &mut [usize])
+    requires { ⌜ Known (inputHeads (now headers)) ⌝ ∗ ⌜ Known (map headerOf (now announced)) ⌝
+        ∗ ⌜ (length (now headers) + length (now announced) ≤ length (now starts)) × (length (now headers) + length (now announced) ≤ 64) ⌝ }
+    ensures { λ _. ⌜ Placing (inputHeads (now (headers .entry))) (map headerOf (now (announced .entry))) (now (starts .exit)) ⌝ }
+{
+    let inputs = headers.len();
+    note_starts(headers, starts);
+    note_starts(announced, &mut starts[inputs..]);
 }
 
 // The value of a step to the pool from `at` on, with +0.0 up to `room` places; answers its header word.
@@ -61,7 +73,7 @@ fn step_word(
         (now (coefficients .entry)) (take at (now (pool .entry))) (s .b)) .coeffs))
         (now (pool .entry)) (now (pool .exit)) ⌝ }
 {
-    if s.kind == 0 {
+    if s.kind == Step::CONSTANT {
         constant_to(s.n, pool, at, room);
         return pack(Header::none());
     }
@@ -83,20 +95,20 @@ fn step_word(
     )
 }
 
-// Every step in order. `known` holds the words that all places announce, `starts` where the inputs begin.
+// Every step in order. `known` holds the words that all places announce, `starts` where each value begins.
 pub fn run_steps(
     headers: &[u64],
     coefficients: &[f64],
     steps: &[u64],
     known: &mut [u64],
-    starts: &mut [usize],
+    starts: &[usize],
     pool: &mut [f64],
     scratch: &mut [f64],
 )
     requires { ⌜ Admitted (now headers) (now coefficients) (now steps) (now known) (length (now pool))
         (length (now scratch)) ⌝
-        ∗ ⌜ Running (now headers) (now coefficients) (now steps) (now known) (now pool) 0 0 (now known)
-        (now starts) (now pool) ⌝ }
+        ∗ ⌜ Placing (inputHeads (now headers)) (announcedSteps (now headers) (now steps)) (now starts) ⌝
+        ∗ ⌜ 64 ≤ length (now starts) ⌝ }
     ensures words { λ _. ⌜ take (length (now (steps .entry))) (drop (length (now (headers .entry))) (now (known .exit)))
         ≡ map (λ v. wordOf (v .head)) (stepValues (now (headers .entry)) (now (coefficients .entry))
         (now (steps .entry))) ⌝ }
@@ -105,11 +117,11 @@ pub fn run_steps(
         ++ drop (total (announcedSteps (now (headers .entry)) (now (steps .entry)))) (now (pool .entry)) ⌝ }
 {
     let inputs = headers.len();
-    let mut at = 0;
     let mut i = 0;
     while i < steps.len() {
         let s = step_of(steps[i]);
         let p = inputs + i;
+        let at = starts[p];
         let room = stored_of(header_of(known[p]));
         let word = step_word(
             s,
@@ -123,8 +135,6 @@ pub fn run_steps(
             scratch,
         );
         known[p] = word;
-        starts[p] = at;
-        at += room;
         i += 1;
     }
 }

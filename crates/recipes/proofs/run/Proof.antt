@@ -56,7 +56,7 @@ returns-2 c =
               (c12 .if1 .left) (c7 .run-admitted .ensures .1 .0),
           yes-scratch (start .args .headers .now) (start .args .coefficients .now) (start .args .steps .now)
               (start .args .pool .now) (start .args .words .now) (start .args .scratch .now) (c15 .admit .ensures)
-              (c12 .if1 .left) (c7 .run-admitted .ensures .1 .1),
+              (c12 .if1 .left) (c7 .run-admitted .ensures .1 .1 .0),
         ),
       ),
     )
