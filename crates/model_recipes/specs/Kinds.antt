@@ -1,5 +1,6 @@
--- REFERENCE 6.2. Document 01, 'Recipes': the table of kinds, a row each. What a kind is called, which fields of the step
--- word it uses, the family by which it announces, its operation on the operands' values, and that operation's own gate.
+-- REFERENCE 6.2. Document 01, 'Recipes': the table of kinds, a row each. What a kind is called, which fields of the
+-- step word it uses, the family by which it announces, its operation on the operands' values, and that operation's own
+-- gate.
 use Prim.Native.Nat.{ℕ}
 use Prim.Native.String.{String}
 use mathlib.Core.List.{List, [], _∷_}
