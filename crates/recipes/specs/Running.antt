@@ -31,7 +31,7 @@ use Rattle.shape_words.specs.Lengths.{lengths-of, count-pos}
 use Rattle.shape.specs.Keeps.{Keeps}
 use Rattle.shape.specs.Under.{count-under}
 use Rattle.recipes_kinds.specs.Known.{head-at, small-variable, step-regular}
-use Rattle.recipes_operands.specs.Lent.{Lent}
+use Rattle.shape_operands.specs.Lent.{Lent}
 use Rattle.recipes_steps.specs.Ready.{valueOf}
 use Rattle.recipes_check.specs.Judging.{heads}
 use Rattle.recipes_check.specs.Judged.{accepts}

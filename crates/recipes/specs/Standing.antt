@@ -25,7 +25,7 @@ use Rattle.model_recipes.specs.Run.{inputValues, operations, valueAt}
 use Rattle.shape_words.specs.Lengths.{lengths-of, count-most}
 use Rattle.recipes_kinds.specs.Known.{Known, head-at}
 use Rattle.recipes_check.specs.Counts.{word-ruled}
-use Rattle.recipes_operands.specs.Lent.{source, lying, Lies, length-source}
+use Rattle.shape_operands.specs.Lent.{source, lying, Lies, length-source}
 use Rattle.recipes_steps.specs.Ready.{valueOf, Placed, Ready}
 
 -- the value of the place q, by its word and its start; k inputs

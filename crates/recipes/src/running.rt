@@ -19,7 +19,7 @@ ghost use Rattle.model.specs.Refusals.{padded};
 ghost use Rattle.model_recipes.specs.Recipe.{inputHeads, announcedSteps, total};
 ghost use Rattle.model_recipes.specs.Run.{stepValues, laid};
 ghost use Rattle.recipes_kinds.specs.Known.{Known};
-ghost use Rattle.recipes_operands.specs.Lent.{Lent};
+ghost use Rattle.shape_operands.specs.Lent.{Lent};
 ghost use Rattle.recipes_steps.specs.Ready.{valueOf};
 ghost use Rattle.recipes.specs.Standing.{lyingAt, StepIn, Begun, Placing};
 ghost use Rattle.recipes.specs.Running.{Admitted};

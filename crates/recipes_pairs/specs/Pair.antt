@@ -45,7 +45,7 @@ use Rattle.quotient.specs.Into.{into-two, into-recur, same-count, loaded-is, lo
 use Rattle.laws_keeps.specs.Keeps.{combined-keeps}
 use Rattle.laws_keeps.specs.ProductKeeps.{product-keeps}
 use Rattle.laws_keeps.specs.QuotientKeeps.{quotient-keeps}
-use Rattle.recipes_operands.specs.Lent.{kept-as, kept-over}
+use Rattle.shape_operands.specs.Lent.{kept-as, kept-over}
 
 abbrev pub pairFamily : ℕ → Family
 pairFamily kind = cond (leb kind 3) Sum (cond (eqb kind 4) Product Quotient)

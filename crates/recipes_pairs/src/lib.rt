@@ -16,7 +16,7 @@ ghost use Rattle.model.specs.Product.{isZero};
 ghost use Rattle.shape_words.specs.Rules.{Ruled};
 ghost use Rattle.blocks.specs.Two.{Two, Holds, cutPlaces};
 ghost use Rattle.product.specs.Room.{Stands};
-ghost use Rattle.recipes_operands.specs.Lent.{source, lying, Lies, Lent};
+ghost use Rattle.shape_operands.specs.Lent.{source, lying, Lies, Lent};
 ghost use Rattle.recipes_pairs.specs.Pair.{pairOf, pairPoly, leftIn, rightIn, Pairing};
 
 // Both operands into the work, cut to the limits: one at its front, the other from n on. Answers whether one of them,
@@ -51,8 +51,8 @@ fn load_pair<'a>(
     let nb = stored_of(y);
     let la = x.lengths;
     let lb = y.lengths;
-    let a = recipes_operands::operand(xi, coefficients, pool, xf, na);
-    let b = recipes_operands::operand(yi, coefficients, pool, yf, nb);
+    let a = shape_operands::stretch(xi, coefficients, pool, xf, na);
+    let b = shape_operands::stretch(yi, coefficients, pool, yf, nb);
     let ca = cut_to(limits, la);
     let cb = cut_to(limits, lb);
     blocks::load_two(a, la, ca, b, lb, cb, n, work);
@@ -152,7 +152,7 @@ pub fn pair_to(
         &mut pool[at..end],
     );
     let z = count_of(r);
-    recipes_operands::pad(pool, at + z, end);
+    shape_operands::pad(pool, at + z, end);
     Header {
         vars: h.vars,
         limits,

@@ -12,7 +12,7 @@ ghost use Rattle.model.specs.Poly.{poly};
 ghost use Rattle.model.specs.Power.{powerPoly};
 ghost use Rattle.shape_words.specs.Rules.{Ruled};
 ghost use Rattle.power.specs.Room.{Loaded};
-ghost use Rattle.recipes_operands.specs.Lent.{source, lying, Lies, Lent};
+ghost use Rattle.shape_operands.specs.Lent.{source, lying, Lies, Lent};
 ghost use Rattle.recipes_singles.specs.Change.{changedPoly, Changing};
 ghost use Rattle.recipes_singles.specs.Power.{Powering};
 
@@ -61,7 +61,7 @@ fn change_from<'a>(
         (changedPoly kind v d (lying input (now (coefficients .entry)) (now (pool .entry)) from x) .coeffs) ⌝ }
 {
     let given = stored_of(x);
-    let a = recipes_operands::operand(input, coefficients, pool, from, given);
+    let a = shape_operands::stretch(input, coefficients, pool, from, given);
     changed(kind, v, d, a, x, h, to)
 }
 
@@ -118,7 +118,7 @@ fn load_base<'a>(
     ensures { λ _. ⌜ Loaded e (lying input (now (coefficients .entry)) (now (pool .entry)) from x .coeffs) (now (work .exit)) ⌝ }
 {
     let given = stored_of(x);
-    let a = recipes_operands::operand(input, coefficients, pool, from, given);
+    let a = shape_operands::stretch(input, coefficients, pool, from, given);
     power::kernel::load_base(a, e, work);
 }
 

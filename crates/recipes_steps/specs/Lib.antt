@@ -1,2 +1,1 @@
-pub mod Substitute
 pub mod Ready

@@ -33,11 +33,11 @@ use Rattle.laws_keeps.specs.QuotientKeeps.{quotient-keeps}
 use Rattle.laws_keeps.specs.PowerKeeps.{power-keeps}
 use Rattle.laws_keeps.specs.ShiftKeeps.{derivative-keeps, expansion-keeps, shift-down-keeps}
 use Rattle.laws_keeps.specs.SubstituteKeeps.{substitute-keeps}
-use Rattle.recipes_operands.specs.Lent.{Lies, Lent, kept-as, kept-then, padded-on}
+use Rattle.shape_operands.specs.Lent.{Lies, Lent, kept-as, kept-then, padded-on}
 use Rattle.recipes_singles.specs.Change.{changeFamily, changedPoly, Changing}
 use Rattle.recipes_pairs.specs.Pair.{pairFamily, pairPoly, Pairing, pair-sum, pair-product, pair-quotient}
 use Rattle.recipes_singles.specs.Power.{Powering}
-use Rattle.recipes_steps.specs.Substitute.{Substituting}
+use Rattle.shape_operands.specs.Announces.{Announces}
 
 -- the kind's operation
 unfoldable pub valueOf : Step → Poly → Poly → Poly
@@ -144,7 +144,7 @@ module _ {s : Step} {x y h : Header} {n : ℕ} (g : Making s x y h n) where
     unfolding families
     substitute-is = rw e
 
-    pub to-substitute : Substituting (s .variable) x y h n
+    pub to-substitute : Announces (Substitution (s .variable)) x y h n
     to-substitute = record { left = g .left; right = g .right; is = g .is ∙ substitute-is; most = g .most; all = g .all }
 
     pub substitute-value : (a b : Poly) → substitutePoly (s .variable) a b ≡ valueOf s a b

@@ -2,4 +2,3 @@
 // a later part of the pool.
 // A part of the pool is written only after the operands, which may lie in it too, were read into scratch.
 pub mod perform;
-pub mod substitute;

@@ -4,6 +4,7 @@ use model::Header;
 use model_recipes::Step;
 use recipes_kinds::step::family_of;
 use shape::announce::announced_of;
+use shape_operands::Operand;
 use shape_words::word::header_of;
 use shape_words::word::pack;
 ghost use mathlib.Core.Path.{_≡_};
@@ -14,7 +15,7 @@ ghost use Rattle.lists.specs.Part.{Kept};
 ghost use Rattle.model.specs.Word.{headerOf, wordOf};
 ghost use Rattle.model.specs.Constructed.{wholeF};
 ghost use Rattle.model.specs.Refusals.{padded};
-ghost use Rattle.recipes_operands.specs.Lent.{lying, Lent};
+ghost use Rattle.shape_operands.specs.Lent.{lying, Lent};
 ghost use Rattle.recipes_steps.specs.Ready.{valueOf, Placed, Ready, Making};
 
 // A constant to the pool at the place `at`, then +0.0 up to `room` places.
@@ -23,7 +24,7 @@ pub fn constant_to(n: u32, pool: &mut [f64], at: usize, room: usize)
     ensures { λ _. ⌜ Kept at (at + room) (padded room (wholeF n ∷ [])) (now (pool .entry)) (now (pool .exit)) ⌝ }
 {
     pool[at] = n as f64;
-    recipes_operands::pad(pool, at + 1, at + room);
+    shape_operands::pad(pool, at + 1, at + room);
 }
 
 // The value of a step of any other kind to the pool, n places from `at` on: x and y are the true headers of its
@@ -74,16 +75,25 @@ fn value_to(
         );
     }
     if kind == Step::SUBSTITUTION {
-        return crate::substitute::substitute_to(
+        let p = Operand {
+            head: x,
+            count: stored_of(x),
+            input: xi,
+            from: xf,
+        };
+        let q = Operand {
+            head: y,
+            count: stored_of(y),
+            input: yi,
+            from: yf,
+        };
+        return substitution::kernel::substitute_to(
             s.variable,
-            x,
-            xi,
-            xf,
-            y,
-            yi,
-            yf,
+            p,
+            q,
             h,
             n,
+            coefficients,
             coefficients,
             pool,
             at,
@@ -152,6 +162,6 @@ pub fn perform(
         at,
         scratch,
     );
-    recipes_operands::pad(pool, at + n, at + room);
+    shape_operands::pad(pool, at + n, at + room);
     pack(r)
 }

@@ -1,5 +1,5 @@
 -- What the entry hands on, and what it shows: the value is the definition's, its header keeps what an operation owes.
-use Prim.Native.Nat.{ℕ, _-_, _*_, _≤_, _<_}
+use Prim.Native.Nat.{ℕ, _-_, _≤_, _<_}
 use mathlib.Core.List.{List, []}
 use mathlib.Core.Bool.{true}
 use mathlib.Core.Path.{_≡_, refl, sym, ap, _∙_}
@@ -14,11 +14,10 @@ use Rattle.lists.specs.Table.{length-table}
 use Rattle.model.specs.declared.Header.{Header}
 use Rattle.model.specs.declared.Family.the-variants.{Substitution}
 use Rattle.model.specs.Header.{header, len, count, stored}
-use Rattle.model.specs.Word.{headerOf}
 use Rattle.model.specs.Limits.{minDegreesP1}
 use Rattle.model.specs.Announced.{announced, paired}
-use Rattle.model.specs.Refusals.{zeroF, zeros, padded}
-use Rattle.model.specs.Poly.{Poly, Block, poly, block, polyOf, held}
+use Rattle.model.specs.Refusals.{zeroF, zeros}
+use Rattle.model.specs.Poly.{Block, poly, block, polyOf, held}
 use Rattle.model.specs.Substitute.{substitutePoly}
 use Rattle.shape_words.specs.Rules.{Ruled, Regular, ruled-at}
 use Rattle.shape_words.specs.Lengths.{Lengths, lengths-of, count-most}
@@ -126,45 +125,8 @@ module _ {x y h : Header} {v n ma mb mo mw : ℕ} (g : Given x y h v n ma mb mo 
 -- ---- the entry
 
 module _ {v w u ma mb mo ms : ℕ} (g : PairReady (Substitution v) w ma u mb mo ms) where
-  -- what the kernel is lent
-  pub entry-given : {x y h : Header} {na nb n : ℕ} → x ≡ headerOf w → y ≡ headerOf u
-      → h ≡ announced (Substitution v) x y → na ≡ stored x → nb ≡ stored y → n ≡ stored h
-      → {ka kb ko kw : ℕ} → ka ≡ na → kb ≡ nb → ko ≡ n → kw ≡ 8 * n → Given x y h v n ka kb ko kw
-  entry-given ex ey eh ea eb en pa pb po pw = record {
-    left = rw ex (g .good-a .regular);
-    right = rw ey (g .good-b .regular);
-    is = eh;
-    all = en;
-    full-a = pa ∙ ea;
-    full-b = pb ∙ eb;
-    out = po;
-    work = pw;
-  }
-
   -- the true header keeps the rules
   pub entry-ruled : (a b : List Float) → ma ≡ length a → Ruled (substitutePoly v (held w a) (held u b) .head)
   entry-ruled a b e =
       substitute-keeps v (held w a) (held u b) (g .good-a .regular) (g .good-b .regular)
       (length-take-le _ a (omega (arith, e, g .full-a))) .regular .rules
-
--- the value
-module _ (v w : ℕ) (a : List Float) (u : ℕ) (b : List Float) {x y h : Header} (ex : x ≡ headerOf w)
-    (ey : y ≡ headerOf u) (eh : h ≡ announced (Substitution v) x y) {na nb : ℕ} (ea : na ≡ stored x)
-    (eb : nb ≡ stored y) where
-  entry-is : substitutePoly v (held w a) (held u b) ≡ polyOf h (value v x y (take na a) (take nb b) eh)
-  entry-is = let q = poly-is v x y (take na a) (take nb b) eh in
-      sym (ap (λ (z : Poly). substitutePoly v z (poly y (take nb b))) left ∙ ap (substitutePoly v (held w a)) right) ∙ q
-    where
-      left : poly x (take na a) ≡ held w a
-      left = rw (ea, ex)
-
-      right : poly y (take nb b) ≡ held u b
-      right = rw (eb, ey)
-
-  pub entry-head : {r : List ℕ} → r ≡ value v x y (take na a) (take nb b) eh .lengths
-      → header (h .vars) (h .limits) r ≡ substitutePoly v (held w a) (held u b) .head
-  entry-head e = ap (header (h .vars) (h .limits)) e ∙ ap (λ (z : Poly). z .head) (sym entry-is)
-
-  pub entry-out : (n : ℕ) {o : List Float} → o ≡ padded n (value v x y (take na a) (take nb b) eh .places)
-      → o ≡ padded n (substitutePoly v (held w a) (held u b) .coeffs)
-  entry-out n e = e ∙ ap (λ (z : Poly). padded n (z .coeffs)) (sym entry-is)

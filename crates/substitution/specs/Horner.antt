@@ -137,9 +137,6 @@ module _ {la : List ℕ} {v : ℕ} {a : List Float} {k : ℕ} {r b c l : List �
       length-part n (n + count r) w (omega arith) (omega (arith, s .room .work, value-small)) ∙ omega arith in
       rw (← q) (record { lengths = refl; front = ap (λ (j : ℕ). take j out) f ∙ s .front })
 
-  pub runs-less : (m : ℕ) → k ≡ suc m → Runs la v a (suc m) r b c l n ma p out w
-  runs-less m e = rw e at s
-
 -- what the next turn makes
 module _ {la : List ℕ} {v : ℕ} {a : List Float} {k : ℕ} {r b c l : List ℕ} {n ma : ℕ} {p : Block} {out w : List Float}
     (s : Runs la v a (suc k) r b c l n ma p out w) where

@@ -3,3 +3,4 @@ pub mod Powers
 pub mod Sizes
 pub mod Horner
 pub mod Entry
+pub mod Placed

@@ -1,30 +1,43 @@
-// What is put for a variable of a polynomial. Scratch is used in blocks of n places, n the announced count: first what
-// is put, cut to the limits, then the running value of Horner's rule, then one row of the polynomial, then what the
-// product needs.
+// What is put for a variable of a polynomial, from operands where they lie (crate shape_operands) to a part of `out`:
+// for a call and for a step of a run. A part of `out` cannot be lent beside another, so what is asked of the operands
+// is read before the result's part is lent, a row of Horner's rule at a time.
+// Scratch is used in blocks of n places, n the announced count: first what is put, cut to the limits, then the running
+// value of Horner's rule, then one row of the polynomial, then what the product needs.
 use model::Header;
+use model::Way;
 use readings_row::pick;
+use shape::limits::cut_to;
+use shape_operands::Operand;
 use shape_words::places::count_of;
 ghost use mathlib.Core.Path.{_≡_};
-ghost use mathlib.Core.Bool.{false};
+ghost use mathlib.Core.Bool.{true, false};
 ghost use Prim.Native.Nat.{suc, _+_, _*_, _≤_, _<_};
 ghost use lib.ListN.{length, take, set};
-ghost use Rattle.lists.specs.Four.{at};
+ghost use Rattle.lists.specs.Four.{at as lengthAt};
 ghost use Rattle.lists.specs.Table.{table};
 ghost use Rattle.lists.specs.Part.{part, Kept};
-ghost use Rattle.model.specs.Header.{count};
+ghost use Rattle.model.specs.declared.Family.the-variants.{Substitution};
+ghost use Rattle.model.specs.Header.{count, stored};
 ghost use Rattle.model.specs.Places.{index};
 ghost use Rattle.model.specs.Limits.{cutTo};
 ghost use Rattle.model.specs.Refusals.{zeroF, padded};
-ghost use Rattle.model.specs.Poly.{block, readAt};
+ghost use Rattle.model.specs.Poly.{block, blockOf, readAt};
 ghost use Rattle.model.specs.Product.{isZero, constantBlock};
-ghost use Rattle.model.specs.Substitute.{rowAt, powered, horner};
+ghost use Rattle.model.specs.Substitute.{rowAt, powered, horner, substitutePoly};
+ghost use Rattle.shape_words.specs.Rules.{Ruled};
+ghost use Rattle.blocks.specs.Rows.{Cutting};
+ghost use Rattle.blocks.specs.Two.{cutPlaces};
 ghost use Rattle.readings_row.specs.Rows.{Picking};
+ghost use Rattle.shape_operands.specs.Lent.{Lent};
+ghost use Rattle.shape_operands.specs.Operand.{taken, Within, LiesAt};
+ghost use Rattle.shape_operands.specs.Announces.{Announces};
 ghost use Rattle.product.specs.Room.{Put, Stands};
-ghost use Rattle.substitution_way.specs.Way.{putFor};
+ghost use Rattle.substitution_way.specs.Way.{wayOf, putFor};
 ghost use Rattle.substitution.specs.Room.{rowOf, Given, Puts, Cuts, turns, Hornering};
+ghost use Rattle.substitution.specs.Placed.{plainOf, Plain, Wrote};
 
 // The lengths of a row of v: 1 there, cut to the limits elsewhere.
-pub fn row_lengths(limits: [usize; 4], v: usize, n: [usize; 4]) -> [usize; 4]
+fn row_lengths(limits: [usize; 4], v: usize, n: [usize; 4]) -> [usize; 4]
     requires { ⌜ v < 4 ⌝ }
     ensures { λ r. ⌜ r ≡ rowOf limits v n ⌝ }
 {
@@ -34,15 +47,15 @@ pub fn row_lengths(limits: [usize; 4], v: usize, n: [usize; 4]) -> [usize; 4]
 }
 
 // The highest power of v that a block with the lengths n stores.
-pub fn highest(n: [usize; 4], v: usize) -> usize
-    requires { ⌜ v < 4 ⌝ ∗ ⌜ 0 < at n v ⌝ }
-    ensures { λ r. ⌜ at n v ≡ suc r ⌝ }
+fn highest(n: [usize; 4], v: usize) -> usize
+    requires { ⌜ v < 4 ⌝ ∗ ⌜ 0 < lengthAt n v ⌝ }
+    ensures { λ r. ⌜ lengthAt n v ≡ suc r ⌝ }
 {
     n[v] - 1
 }
 
 // The row k of v, whose lengths are c, to `work` from `at` on.
-pub fn load_row(
+fn load_row(
     a: &[f64],
     la: [usize; 4],
     c: [usize; 4],
@@ -61,13 +74,7 @@ pub fn load_row(
 }
 
 // b is zero: the row 0 of v.
-pub fn zero_put(
-    a: &[f64],
-    la: [usize; 4],
-    v: usize,
-    limits: [usize; 4],
-    out: &mut [f64],
-) -> [usize; 4]
+fn zero_put(a: &[f64], la: [usize; 4], v: usize, limits: [usize; 4], out: &mut [f64]) -> [usize; 4]
     requires { ⌜ Cuts la (rowOf limits v la) v (length (now a)) (length (now out)) ⌝ }
     ensures { λ r. ⌜ Put (rowAt limits v (block la (now (a .entry))) 0) (now (out .entry)) (now (out .exit)) r ⌝ }
 {
@@ -78,7 +85,7 @@ pub fn zero_put(
 }
 
 // b is m times v: row k times m to the k.
-pub fn line_put(
+fn line_put(
     a: &[f64],
     la: [usize; 4],
     v: usize,
@@ -98,11 +105,148 @@ pub fn line_put(
     c
 }
 
-// Horner's rule over the rows below k, the highest first: r the lengths of the running value, b those of what is put, c
-// those of a row.
-fn horner_rows(
+// The value of every way but Horner's rule, to the front of `out`.
+fn plain_put(
+    w: Way,
     a: &[f64],
     la: [usize; 4],
+    v: usize,
+    limits: [usize; 4],
+    out: &mut [f64],
+) -> [usize; 4]
+    requires { ⌜ Plain w la limits v (length (now a)) (length (now out)) ⌝ }
+    ensures { λ r. ⌜ Stands (plainOf w limits v (block la (now (a .entry)))) (now (out .exit)) r ⌝ }
+{
+    let kind = w.kind;
+    if kind == 0 {
+        blocks::copy(a, out);
+        return la;
+    }
+    if kind == 1 {
+        return zero_put(a, la, v, limits, out);
+    }
+    let line = w.line;
+    line_put(a, la, v, line.m, limits, out)
+}
+
+// Which way what is put goes for v, from where it lies.
+fn way_from<'a>(vars: usize, v: usize, q: Operand, b: &'a [f64], earlier: &'a [f64]) -> Way
+    requires { ⌜ Ruled (q .head) ⌝ ∗ ⌜ Within q (now b) (now earlier) ⌝ }
+    ensures { λ r. ⌜ r ≡ wayOf vars v (blockOf (taken q (now (b .entry)) (now (earlier .entry)))) ⌝ }
+{
+    let y = q.head;
+    let lb = y.lengths;
+    let put = shape_operands::stretch(q.input, b, earlier, q.from, q.count);
+    substitution_way::choose(vars, v, put, lb)
+}
+
+// The value of every way but Horner's rule, of a polynomial where it lies.
+fn plain_from<'a>(
+    w: Way,
+    v: usize,
+    p: Operand,
+    limits: [usize; 4],
+    a: &'a [f64],
+    earlier: &'a [f64],
+    out: &mut [f64],
+) -> [usize; 4]
+    requires { ⌜ Plain w (p .head .lengths) limits v (stored (p .head)) (length (now out)) ⌝
+        ∗ ⌜ Within p (now a) (now earlier) ⌝ }
+    ensures { λ r. ⌜ Stands (plainOf w limits v (blockOf (taken p (now (a .entry)) (now (earlier .entry))))) (now (out .exit)) r ⌝ }
+{
+    let x = p.head;
+    let la = x.lengths;
+    let given = shape_operands::stretch(p.input, a, earlier, p.from, p.count);
+    plain_put(w, given, la, v, limits, out)
+}
+
+// The same of a polynomial that is given, straight to the front of the result's part of `out`.
+fn plain_given(
+    w: Way,
+    v: usize,
+    p: Operand,
+    limits: [usize; 4],
+    n: usize,
+    a: &[f64],
+    out: &mut [f64],
+    at: usize,
+) -> [usize; 4]
+    requires { ⌜ Plain w (p .head .lengths) limits v (stored (p .head)) n ⌝ ∗ ⌜ LiesAt p at (length (now a)) ⌝
+        ∗ ⌜ p .input ≡ true ⌝ ∗ ⌜ at + n ≤ length (now out) ⌝ }
+    ensures { λ r.
+        ⌜ Wrote at n (plainOf w limits v (blockOf (taken p (now (a .entry)) (take at (now (out .entry))))))
+        (now (out .entry)) (now (out .exit)) r ⌝ }
+{
+    let end = at + n;
+    plain_from(w, v, p, limits, a, a, &mut out[at..end])
+}
+
+// The same of one that lies in `out`, by way of the work.
+fn plain_earlier(
+    w: Way,
+    v: usize,
+    p: Operand,
+    limits: [usize; 4],
+    n: usize,
+    a: &[f64],
+    out: &mut [f64],
+    at: usize,
+    work: &mut [f64],
+) -> [usize; 4]
+    requires { ⌜ Plain w (p .head .lengths) limits v (stored (p .head)) n ⌝ ∗ ⌜ LiesAt p at (length (now a)) ⌝
+        ∗ ⌜ at + n ≤ length (now out) ⌝ ∗ ⌜ length (now work) ≡ 8 * n ⌝ }
+    ensures { λ r.
+        ⌜ Wrote at n (plainOf w limits v (blockOf (taken p (now (a .entry)) (take at (now (out .entry))))))
+        (now (out .entry)) (now (out .exit)) r ⌝ }
+{
+    let r = plain_from(w, v, p, limits, a, &out[..at], &mut work[..n]);
+    product::kernel::keep(work, n, out, at);
+    r
+}
+
+// The row k of v, whose lengths are c, to `work` from `to` on.
+fn row_from<'a>(
+    p: Operand,
+    c: [usize; 4],
+    v: usize,
+    k: usize,
+    a: &'a [f64],
+    earlier: &'a [f64],
+    to: usize,
+    work: &mut [f64],
+)
+    requires { ⌜ Picking (p .head .lengths) c v k (stored (p .head)) (count c) ⌝ ∗ ⌜ to + count c ≤ length (now work) ⌝
+        ∗ ⌜ Within p (now a) (now earlier) ⌝ }
+    ensures { λ _.
+        ⌜ Kept to (to + count c) (table (count c)
+        (λ i. readAt (blockOf (taken p (now (a .entry)) (now (earlier .entry)))) (set (index c i) v k)))
+        (now (work .entry)) (now (work .exit)) ⌝ }
+{
+    let x = p.head;
+    let la = x.lengths;
+    let given = shape_operands::stretch(p.input, a, earlier, p.from, p.count);
+    load_row(given, la, c, v, k, to, work);
+}
+
+// What is put, cut to the lengths c, to the front of `work`.
+fn put_from<'a>(q: Operand, c: [usize; 4], b: &'a [f64], earlier: &'a [f64], work: &mut [f64])
+    requires { ⌜ Cutting (q .head .lengths) c (stored (q .head)) (count c) ⌝ ∗ ⌜ count c ≤ length (now work) ⌝
+        ∗ ⌜ Within q (now b) (now earlier) ⌝ }
+    ensures { λ _.
+        ⌜ Kept 0 (count c) (cutPlaces (q .head .lengths) c (taken q (now (b .entry)) (now (earlier .entry)) .coeffs))
+        (now (work .entry)) (now (work .exit)) ⌝ }
+{
+    let y = q.head;
+    let lb = y.lengths;
+    let put = shape_operands::stretch(q.input, b, earlier, q.from, q.count);
+    let z = count_of(c);
+    blocks::load(put, lb, c, &mut work[..z]);
+}
+
+// Horner's rule over the rows below k, the highest first: r the lengths of the running value, b those of what is put, c
+// those of a row.
+fn rows_to(
+    p: Operand,
     v: usize,
     k: usize,
     r: [usize; 4],
@@ -110,108 +254,133 @@ fn horner_rows(
     c: [usize; 4],
     limits: [usize; 4],
     n: usize,
+    a: &[f64],
     out: &mut [f64],
+    at: usize,
     work: &mut [f64],
 ) -> [usize; 4]
-    requires { ⌜ Hornering la v k r b c limits n (length (now a)) (length (now out)) (length (now work)) ⌝
-        ∗ ⌜ take (count r) (now out) ≡ part n (n + count r) (now work) ⌝ }
-    ensures { λ x.
-        ⌜ Stands (turns limits v (block la (now (a .entry))) k (block b (part 0 (count b) (now (work .entry))))
-        (block r (part n (n + count r) (now (work .entry))))) (now (out .exit)) x ⌝ }
+    requires { ⌜ Hornering (p .head .lengths) v k r b c limits n (stored (p .head)) n (length (now work)) ⌝
+        ∗ ⌜ take (count r) (part at (at + n) (now out)) ≡ part n (n + count r) (now work) ⌝
+        ∗ ⌜ LiesAt p at (length (now a)) ⌝ ∗ ⌜ at + n ≤ length (now out) ⌝ }
+    ensures { λ q.
+        ⌜ Wrote at n (turns limits v (blockOf (taken p (now (a .entry)) (take at (now (out .entry))))) k
+        (block b (part 0 (count b) (now (work .entry)))) (block r (part n (n + count r) (now (work .entry)))))
+        (now (out .entry)) (now (out .exit)) q ⌝ }
 {
+    let row = 2 * n;
+    let end = at + n;
     let mut left = k;
     let mut value = r;
     while 0 < left {
         left -= 1;
-        load_row(a, la, c, v, left, 2 * n, work);
-        let next = substitution_turn::turn(work, n, value, b, c, limits, out);
+        row_from(p, c, v, left, a, &out[..at], row, work);
+        let next = substitution_turn::turn(work, n, value, b, c, limits, &mut out[at..end]);
         value = next;
     }
     value
 }
 
-// Neither: Horner's rule from the highest power of v, every power counted. Where there is one row alone, b is not
+// Horner's rule from the highest power of v, every power counted. Where there is one row alone, what is put is not
 // needed, and may be too large.
-fn horner_put(
-    a: &[f64],
-    la: [usize; 4],
+fn horner_to(
     v: usize,
-    b: &[f64],
-    lb: [usize; 4],
+    p: Operand,
+    q: Operand,
     limits: [usize; 4],
     n: usize,
+    a: &[f64],
+    b: &[f64],
     out: &mut [f64],
+    at: usize,
     work: &mut [f64],
 ) -> [usize; 4]
-    requires { ⌜ Puts la lb limits v n (length (now a)) (length (now b)) (length (now out)) (length (now work)) ⌝ ∗ ⌜ isZero (block lb (now b)) ≡ false ⌝ }
-    ensures { λ r. ⌜ Stands (horner limits v (block la (now (a .entry))) (at la v) (block lb (now (b .entry))) (constantBlock zeroF)) (now (out .exit)) r ⌝ }
+    requires { ⌜ Puts (p .head .lengths) (q .head .lengths) limits v n (stored (p .head)) (stored (q .head)) n (length (now work)) ⌝
+        ∗ ⌜ isZero (blockOf (taken q (now b) (take at (now out)))) ≡ false ⌝
+        ∗ ⌜ LiesAt p at (length (now a)) × LiesAt q at (length (now b)) ⌝ ∗ ⌜ at + n ≤ length (now out) ⌝ }
+    ensures { λ r.
+        ⌜ Wrote at n (horner limits v (blockOf (taken p (now (a .entry)) (take at (now (out .entry)))))
+        (lengthAt (p .head .lengths) v) (blockOf (taken q (now (b .entry)) (take at (now (out .entry)))))
+        (constantBlock zeroF)) (now (out .entry)) (now (out .exit)) r ⌝ }
 {
+    let x = p.head;
+    let y = q.head;
+    let la = x.lengths;
     let c = row_lengths(limits, v, la);
     let last = highest(la, v);
-    load_row(a, la, c, v, last, 2 * n, work);
-    let r = substitution_turn::first_turn(work, n, c, out);
+    let row = 2 * n;
+    let end = at + n;
+    row_from(p, c, v, last, a, &out[..at], row, work);
+    let r = substitution_turn::first_turn(work, n, c, &mut out[at..end]);
     if last == 0 {
         return r;
     }
-    let cb = shape::limits::cut_to(limits, lb);
-    let z = count_of(cb);
-    blocks::load(b, lb, cb, &mut work[..z]);
-    horner_rows(a, la, v, last, r, cb, c, limits, n, out, work)
-}
-
-// The value, to the front of `out`: x and y are the operands' headers, h the announced one, n its count.
-fn substitute_front(
-    a: &[f64],
-    x: Header,
-    b: &[f64],
-    y: Header,
-    v: usize,
-    h: Header,
-    n: usize,
-    out: &mut [f64],
-    work: &mut [f64],
-) -> [usize; 4]
-    requires { ⌜ Given x y h v n (length (now a)) (length (now b)) (length (now out)) (length (now work)) ⌝ }
-    ensures { λ r. ⌜ Stands (putFor (x .vars) (h .limits) v (block (x .lengths) (now (a .entry))) (block (y .lengths) (now (b .entry)))) (now (out .exit)) r ⌝ }
-{
-    let la = x.lengths;
     let lb = y.lengths;
-    let l = h.limits;
-    let w = substitution_way::choose(x.vars, v, b, lb);
-    let kind = w.kind;
-    if kind == 0 {
-        blocks::copy(a, out);
-        return la;
-    }
-    if kind == 1 {
-        return zero_put(a, la, v, l, out);
-    }
-    if kind == 2 {
-        let line = w.line;
-        return line_put(a, la, v, line.m, l, out);
-    }
-    horner_put(a, la, v, b, lb, l, n, out, work)
+    let lengths = cut_to(limits, lb);
+    put_from(q, lengths, b, &out[..at], work);
+    rows_to(p, v, last, r, lengths, c, limits, n, a, out, at, work)
 }
 
-// The value, then +0.0 to the end of `out`.
-pub fn substitute_into(
-    a: &[f64],
-    x: Header,
-    b: &[f64],
-    y: Header,
+// The value to the front of its part of `out`.
+fn front_to(
     v: usize,
+    p: Operand,
+    q: Operand,
     h: Header,
     n: usize,
+    a: &[f64],
+    b: &[f64],
     out: &mut [f64],
+    at: usize,
     work: &mut [f64],
 ) -> [usize; 4]
-    requires { ⌜ Given x y h v n (length (now a)) (length (now b)) (length (now out)) (length (now work)) ⌝ }
-    ensures lengths { λ r. ⌜ r ≡ putFor (x .vars) (h .limits) v (block (x .lengths) (now (a .entry))) (block (y .lengths) (now (b .entry))) .lengths ⌝ }
-    ensures written { λ r. ⌜ now (out .exit) ≡ padded n (putFor (x .vars) (h .limits) v (block (x .lengths) (now (a .entry)))
-        (block (y .lengths) (now (b .entry))) .places) ⌝ }
+    requires { ⌜ Given (p .head) (q .head) h v n (stored (p .head)) (stored (q .head)) n (length (now work)) ⌝
+        ∗ ⌜ LiesAt p at (length (now a)) ⌝ ∗ ⌜ LiesAt q at (length (now b)) ⌝ ∗ ⌜ at + n ≤ length (now out) ⌝ }
+    ensures { λ r.
+        ⌜ Wrote at n (putFor (p .head .vars) (h .limits) v (blockOf (taken p (now (a .entry)) (take at (now (out .entry)))))
+        (blockOf (taken q (now (b .entry)) (take at (now (out .entry)))))) (now (out .entry)) (now (out .exit)) r ⌝ }
 {
-    let r = substitute_front(a, x, b, y, v, h, n, out, work);
+    let x = p.head;
+    let limits = h.limits;
+    let w = way_from(x.vars, v, q, b, &out[..at]);
+    if 2 < w.kind {
+        return horner_to(v, p, q, limits, n, a, b, out, at, work);
+    }
+    if p.input {
+        return plain_given(w, v, p, limits, n, a, out, at);
+    }
+    plain_earlier(w, v, p, limits, n, a, out, at, work)
+}
+
+// The value, then +0.0, to the n places of `out` from `at` on, n the announced count; answers its header. h is the
+// announced one.
+pub fn substitute_to(
+    v: usize,
+    p: Operand,
+    q: Operand,
+    h: Header,
+    n: usize,
+    a: &[f64],
+    b: &[f64],
+    out: &mut [f64],
+    at: usize,
+    scratch: &mut [f64],
+) -> Header
+    requires { ⌜ Announces (Substitution v) (p .head) (q .head) h n ⌝ ∗ ⌜ LiesAt p at (length (now a)) ⌝
+        ∗ ⌜ LiesAt q at (length (now b)) ⌝ ∗ ⌜ Lent n at (length (now out)) (length (now scratch)) ⌝ }
+    ensures head { λ r. ⌜ r ≡ substitutePoly v (taken p (now (a .entry)) (take at (now (out .entry))))
+        (taken q (now (b .entry)) (take at (now (out .entry)))) .head ⌝ }
+    ensures kept { λ r.
+        ⌜ Kept at (at + n) (padded n (substitutePoly v (taken p (now (a .entry)) (take at (now (out .entry))))
+        (taken q (now (b .entry)) (take at (now (out .entry)))) .coeffs)) (now (out .entry)) (now (out .exit)) ⌝ }
+{
+    let limits = h.limits;
+    let room = 8 * n;
+    let r = front_to(v, p, q, h, n, a, b, out, at, &mut scratch[..room]);
     let z = count_of(r);
-    blocks::clear(&mut out[z..n]);
-    r
+    shape_operands::pad(out, at + z, at + n);
+    Header {
+        vars: h.vars,
+        limits,
+        lengths: r,
+    }
 }

@@ -4,7 +4,7 @@ pub mod kernel;
 
 use model::Answer;
 use model::Family;
-use model::Header;
+use shape_operands::Operand;
 use shape_words::word::pack;
 ghost use mathlib.Core.Path.{_≡_};
 ghost use Rattle.model.specs.Substitute.{substituteAnswer, substituteOut, substituteScratch};
@@ -39,26 +39,21 @@ pub fn subst_var(
     let x = o.a;
     let y = o.b;
     let h = o.told;
-    let l = h.limits;
-    let na = o.na;
-    let nb = o.nb;
     let n = o.n;
     let room = 8 * n;
-    let r = kernel::substitute_into(
-        &a[..na],
-        x,
-        &b[..nb],
-        y,
-        v,
-        h,
-        n,
-        &mut out[..n],
-        &mut scratch[..room],
-    );
+    let p = Operand {
+        head: x,
+        count: o.na,
+        input: true,
+        from: 0,
+    };
+    let q = Operand {
+        head: y,
+        count: o.nb,
+        input: true,
+        from: 0,
+    };
+    let r = kernel::substitute_to(v, p, q, h, n, a, b, out, 0, &mut scratch[..room]);
     blocks::clear(&mut scratch[..room]);
-    Answer::Done(pack(Header {
-        vars: h.vars,
-        limits: l,
-        lengths: r,
-    }))
+    Answer::Done(pack(r))
 }

@@ -4,7 +4,7 @@ use Prim.Native.Nat.{ℕ, _-_}
 use lib.ListN.{length, take, drop}
 use lib.Ieee.{Float}
 use Rattle.model.specs.Header.{stored}
-use Rattle.recipes_operands.specs.Lent.{source, length-operand}
+use Rattle.shape_operands.specs.Lent.{source, length-operand}
 use Rattle.model.specs.Poly.{block}
 use Rattle.model.specs.Product.{isZero}
 use Rattle.shape_words.specs.Lengths.{count-pos}
@@ -13,38 +13,38 @@ use borrow.Author.Needs.{needs}
 use Rattle.recipes_pairs.proofs.load_pair.Statement.{statement}
 use Rattle.recipes_pairs.proofs.load_pair.Tie as tie
 
-left-is : (c : tie.After-operand2) →
+left-is : (c : tie.After-stretch2) →
     let start = c .before .before .before .before .before .before .before .before .before in
-    c .before .operand .result .now ≡ take (stored (start .args .x))
+    c .before .stretch .result .now ≡ take (stored (start .args .x))
     (drop (start .args .xf) (source (start .args .xi) (start .args .coefficients .now) (start .args .pool .now)))
 left-is c =
     let start = c .before .before .before .before .before .before .before .before .before in
-    c .before .operand .ensures ∙ ap (λ (k : ℕ).
+    c .before .stretch .ensures ∙ ap (λ (k : ℕ).
     take k (drop (start .args .xf) (source (start .args .xi) (start .args .coefficients .now)
     (start .args .pool .now)))) (c .before .before .before .before .before .stored-of .ensures)
 
-left-full : (c : tie.After-operand2) →
+left-full : (c : tie.After-stretch2) →
     let start = c .before .before .before .before .before .before .before .before .before in
-    length (c .before .operand .result .now) ≡ stored (start .args .x)
+    length (c .before .stretch .result .now) ≡ stored (start .args .x)
 left-full c =
     let start = c .before .before .before .before .before .before .before .before .before in
     ap length (left-is c) ∙ length-operand (start .args .xf) (stored (start .args .x))
     (source (start .args .xi) (start .args .coefficients .now) (start .args .pool .now)) (start .pre .1 .1 .1 .0)
 
-right-is : (c : tie.After-operand2) →
+right-is : (c : tie.After-stretch2) →
     let start = c .before .before .before .before .before .before .before .before .before in
-    c .operand2 .result .now ≡ take (stored (start .args .y))
+    c .stretch2 .result .now ≡ take (stored (start .args .y))
     (drop (start .args .yf) (source (start .args .yi) (start .args .coefficients .now) (start .args .pool .now)))
 right-is c =
     let start = c .before .before .before .before .before .before .before .before .before in
-    c .operand2 .ensures
+    c .stretch2 .ensures
     ∙ ap (λ (k : ℕ). take k (drop (start .args .yf)
     (source (start .args .yi) (start .args .coefficients .now) (start .args .pool .now))))
     (c .before .before .before .before .stored-of2 .ensures)
 
-right-full : (c : tie.After-operand2) →
+right-full : (c : tie.After-stretch2) →
     let start = c .before .before .before .before .before .before .before .before .before in
-    length (c .operand2 .result .now) ≡ stored (start .args .y)
+    length (c .stretch2 .result .now) ≡ stored (start .args .y)
 right-full c =
     let start = c .before .before .before .before .before .before .before .before .before in
     ap length (right-is c) ∙ length-operand (start .args .yf) (stored (start .args .y))

@@ -4,7 +4,7 @@ use mathlib.Core.List.{_++_}
 use Prim.Native.Nat.{_+_, _-_, _*_, _≤_}
 use lib.ListN.{length, take, drop, length-take, length-drop, length-append}
 use lib.Seq.{length-take-le, take-at}
-use Rattle.recipes_operands.specs.Lent.{lying, lies-source, part-kept}
+use Rattle.shape_operands.specs.Lent.{lying, lies-source, part-kept}
 use Rattle.recipes_pairs.specs.Pair.{pairOf, leftIn, rightIn, pair-two, value-head, value-lengths, value-count, value-kept}
 use Rattle.product.specs.Room.{Stands}
 use borrow.Author.Needs.{needs}

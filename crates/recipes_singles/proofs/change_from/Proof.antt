@@ -3,7 +3,7 @@ use mathlib.Core.List.{List}
 use Prim.Native.Nat.{ℕ, _-_}
 use lib.ListN.{length, take, drop}
 use lib.Ieee.{Float}
-use Rattle.recipes_operands.specs.Lent.{source, length-operand}
+use Rattle.shape_operands.specs.Lent.{source, length-operand}
 use Rattle.recipes_singles.specs.Change.{changedPoly}
 use Rattle.model.specs.Refusals.{padded}
 use Rattle.model.specs.Header.{stored}
@@ -12,19 +12,19 @@ use borrow.Author.Needs.{needs}
 use Rattle.recipes_singles.proofs.change_from.Statement.{statement}
 use Rattle.recipes_singles.proofs.change_from.Tie as tie
 
-part-is : (c : tie.After-operand) →
+part-is : (c : tie.After-stretch) →
     let start = c .before .before .before .before .before in
-    c .operand .result .now ≡ take (stored (start .args .x))
+    c .stretch .result .now ≡ take (stored (start .args .x))
     (drop (start .args .from) (source (start .args .input) (start .args .coefficients .now)
     (start .args .pool .now)))
 part-is c =
     let start = c .before .before .before .before .before in
-    c .operand .ensures
+    c .stretch .ensures
     ∙ ap (λ (k : ℕ). take k (drop (start .args .from)
     (source (start .args .input) (start .args .coefficients .now) (start .args .pool .now))))
     (c .before .stored-of .ensures)
 
-part-full : (c : tie.After-operand) → length (c .operand .result .now) ≡ stored (c .before .before .before .before .before .args .x)
+part-full : (c : tie.After-stretch) → length (c .stretch .result .now) ≡ stored (c .before .before .before .before .before .args .x)
 part-full c =
     let start = c .before .before .before .before .before in
     ap length (part-is c) ∙ length-operand (start .args .from) (stored (start .args .x))
@@ -33,8 +33,8 @@ part-full c =
 stored-of-requires : tie.Need-stored-of-requires
 stored-of-requires c κs = search needs
 
-operand-requires : tie.Need-operand-requires
-operand-requires c κs = search needs
+stretch-requires : tie.Need-stretch-requires
+stretch-requires c κs = search needs
 
 changed-requires : tie.Need-changed-requires
 changed-requires c κs = rw (part-full (c .before)) (c .before .before .before .before .before .before .pre .0)
@@ -56,4 +56,4 @@ returns c =
     )
 
 pub change-from-spec : {M : Type 1} → statement M
-change-from-spec = tie.close (tie.spec stored-of-requires operand-requires changed-requires same-length returns)
+change-from-spec = tie.close (tie.spec stored-of-requires stretch-requires changed-requires same-length returns)

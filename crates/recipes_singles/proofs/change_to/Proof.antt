@@ -3,7 +3,7 @@ use mathlib.Core.Path.{sym, ap, _∙_}
 use Prim.Native.Nat.{ℕ, _-_, _≤_}
 use lib.ListN.{length, take, drop}
 use lib.Seq.{length-take-le}
-use Rattle.recipes_operands.specs.Lent.{lying, lies-source, front-kept}
+use Rattle.shape_operands.specs.Lent.{lying, lies-source, front-kept}
 use Rattle.recipes_singles.specs.Change.{changedPoly}
 use Rattle.model.specs.Refusals.{padded}
 use borrow.Author.Needs.{needs}

@@ -5,7 +5,7 @@ use Prim.Native.Nat.{_+_, _-_, _*_, _≤_}
 use lib.ListN.{length, take, drop, length-take, length-drop, length-append}
 use lib.Seq.{length-take-le, take-at}
 use Rattle.model.specs.Header.{stored}
-use Rattle.recipes_operands.specs.Lent.{source, lying, lies-source, length-operand, kept-as, part-kept}
+use Rattle.shape_operands.specs.Lent.{source, lying, lies-source, length-operand, kept-as, part-kept}
 use Rattle.recipes_singles.specs.Power.{powering, base-fits, power-head, power-places}
 use Rattle.power.specs.Room.{Loaded}
 use borrow.Author.Needs.{needs}

@@ -5,7 +5,7 @@ use Rattle.model.specs.Word.{wordOf}
 use Rattle.model.specs.Refusals.{padded}
 use Rattle.model.specs.Poly.{Poly}
 use Rattle.shape_words.specs.Rules.{none-regular}
-use Rattle.recipes_operands.specs.Lent.{kept-as}
+use Rattle.shape_operands.specs.Lent.{kept-as}
 use Rattle.recipes.specs.Standing.{lyingAt, Named, constant-value}
 use borrow.Author.Needs.{needs}
 use Rattle.recipes.proofs.running.step_word.Statement.{statement}

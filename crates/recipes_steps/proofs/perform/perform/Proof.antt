@@ -7,7 +7,7 @@ use Rattle.model.specs.Header.{stored}
 use Rattle.model.specs.Word.{headerOf, wordOf}
 use Rattle.model.specs.Announced.{announced}
 use Rattle.model_recipes.specs.Recipe.{familyOf}
-use Rattle.recipes_operands.specs.Lent.{lying, source, lies-source, length-operand}
+use Rattle.shape_operands.specs.Lent.{lying, source, lies-source, length-operand}
 use Rattle.recipes_steps.specs.Ready.{valueOf, making, announced-fits, lent-fewer, announced-ruled, value-ruled, value-padded}
 use borrow.Author.Needs.{needs}
 use Rattle.recipes_steps.proofs.perform.perform.Statement.{statement}

@@ -3,7 +3,7 @@ use Prim.Native.Nat.{_-_}
 use lib.ListN.{take}
 use Rattle.model.specs.Refusals.{padded}
 use Rattle.model.specs.Poly.{Poly}
-use Rattle.recipes_operands.specs.Lent.{lying, kept-as}
+use Rattle.shape_operands.specs.Lent.{lying, kept-as}
 use Rattle.recipes_steps.specs.Ready.{to-power, power-value, to-pair, pair-value, to-substitute, substitute-value, to-change, change-value}
 use borrow.Author.Needs.{needs}
 use Rattle.recipes_steps.proofs.perform.value_to.Statement.{statement}
@@ -53,22 +53,33 @@ returns-2 c =
           (c4 .pair-to .ensures .1),
     )
 
+stored-of-requires : tie.Need-stored-of-requires
+stored-of-requires c κs = c .before .before .before .before .before .before .pre .0 .left .regular .rules
+
+stored-of-requires-2 : tie.Need-stored-of-requires-2
+stored-of-requires-2 c κs = c .before .before .before .before .before .before .before .pre .0 .right .regular .rules
+
 substitute-to-requires : tie.Need-substitute-to-requires
 substitute-to-requires c κs =
-    let start = c .before .before .before .before .before .before .before .before in
-    (to-substitute (start .pre .0) (c .before .before .if3 .taken), (start .pre .1 .0 .left, (start .pre .1 .0 .right, start .pre .1 .1)))
+    let c4 = c .before .before .before .before in let start = c4 .before .before .before .before .before .before in (
+      to-substitute (start .pre .0) (c4 .if3 .taken),
+      (
+        record { full = c .before .before .before .stored-of .ensures; lies = start .pre .1 .0 .left },
+        (record { full = c .before .before .stored-of2 .ensures; lies = start .pre .1 .0 .right }, start .pre .1 .1),
+      ),
+    )
 
 returns-3 : tie.Need-returns-3
 returns-3 c =
-    let c4 = c .before .before .before .before in let c7 = c4 .before .before .before in
-    let start = c7 .before .before .before .before .before .before in (
+    let c4 = c .before .before .before .before in let c9 = c4 .before .before .before .before .before in
+    let start = c9 .before .before .before .before .before .before in (
       c4 .substitute-to .ensures .0 ∙ ap (λ (p : Poly). p .head)
-          (substitute-value (start .pre .0) (c7 .if3 .taken)
+          (substitute-value (start .pre .0) (c9 .if3 .taken)
           (lying (start .args .xi) (start .args .coefficients .now) (take (start .args .at) (start .args .pool .now))
           (start .args .xf) (start .args .x)) (lying (start .args .yi) (start .args .coefficients .now)
           (take (start .args .at) (start .args .pool .now)) (start .args .yf) (start .args .y))),
       kept-as (ap (λ (p : Poly). padded (start .args .n) (p .coeffs))
-          (substitute-value (start .pre .0) (c7 .if3 .taken)
+          (substitute-value (start .pre .0) (c9 .if3 .taken)
           (lying (start .args .xi) (start .args .coefficients .now) (take (start .args .at) (start .args .pool .now))
           (start .args .xf) (start .args .x)) (lying (start .args .yi) (start .args .coefficients .now)
           (take (start .args .at) (start .args .pool .now)) (start .args .yf) (start .args .y))))
@@ -106,5 +117,5 @@ value-to-spec =
     tie.close
     (tie.spec
     power-to-requires (λ c. search needs) (λ c. search needs) returns pair-to-requires (λ c. search needs)
-    (λ c. search needs) returns-2 substitute-to-requires (λ c. search needs) (λ c. search needs) returns-3
+    (λ c. search needs) returns-2 stored-of-requires stored-of-requires-2 substitute-to-requires (λ c. search needs) (λ c. search needs) returns-3
     (λ c. search needs) change-to-requires (λ c. search needs) (λ c. search needs) returns-4)

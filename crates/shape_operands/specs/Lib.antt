@@ -1,0 +1,3 @@
+pub mod Lent
+pub mod Operand
+pub mod Announces
