@@ -1,17 +1,14 @@
 // The rows of one variable. All places that share the numbers of the variables before v are a part: rows of `s` places,
 // one after the other.
-use gates::stored_of;
 use model::Answer;
 use model::Family;
 use model::Header;
-use shape::announce::announced_of;
-use shape_words::word::header_of;
 use shape_words::word::pack;
 ghost use mathlib.Core.Path.{_≡_};
 ghost use Prim.Native.Nat.{_+_, _*_, _≤_};
 ghost use lib.ListN.{length};
 ghost use Rattle.lists.specs.Table.{table};
-ghost use Rattle.model.specs.Header.{header, stored, ones};
+ghost use Rattle.model.specs.Header.{stored};
 ghost use Rattle.model.specs.Refusals.{padded};
 ghost use Rattle.model.specs.declared.Family.the-variants.{Shift};
 ghost use Rattle.model.specs.Poly.{poly, held};
@@ -74,18 +71,6 @@ pub fn shift_rows(a: &[f64], h: Header, r: Header, v: usize, n: usize, to: &mut 
     drop_parts(false, a, s, n, l[v] * s, c[v] * s, to);
 }
 
-// The header with all lengths 1.
-fn shortest(h: Header) -> Header
-    ensures { λ r. ⌜ r ≡ header (h .vars) (h .limits) ones ⌝ }
-{
-    let l = h.limits;
-    Header {
-        vars: h.vars,
-        limits: l,
-        lengths: [1, 1, 1, 1],
-    }
-}
-
 // The derivative, or the expansion of the coefficient n where `plain`, with +0.0 past it: h is the header of `a`, r the
 // announced one; answers the true one.
 pub fn take_rows(
@@ -104,7 +89,7 @@ pub fn take_rows(
     let l = h.lengths;
     if l[v] <= n {
         blocks::clear(to);
-        return shortest(r);
+        return Header::with_lengths(r, [1, 1, 1, 1]);
     }
     let c = r.lengths;
     let strides = shape_words::places::strides_of(l);
@@ -128,14 +113,15 @@ pub fn scaled(plain: bool, head: u64, a: &[f64], v: usize, n: usize, out: &mut [
     ensures written { λ r. ⌜ now (out .exit) ≡ outAfter (shiftGate head (now (a .entry)) v n (now (out .entry)))
         (announcedOne (Shift v n) head) (scaledPoly plain v n (held head (now (a .entry)))) (now (out .entry)) ⌝ }
 {
-    let refusal = gates::in_gate(Family::Shift(v, n), v, n, head, a.len(), out.len());
+    let o = gates::open_in(Family::Shift(v, n), v, n, head, a.len(), out.len());
+    let refusal = o.refusal;
     if refusal.number != 0 {
         return Answer::Refused(refusal);
     }
-    let h = header_of(head);
-    let r = announced_of(Family::Shift(v, n), h, Header::none());
-    let given = stored_of(h);
-    let count = stored_of(r);
+    let h = o.a;
+    let r = o.told;
+    let given = o.na;
+    let count = o.n;
     let x = take_rows(plain, &a[..given], h, r, v, n, &mut out[..count]);
     Answer::Done(pack(x))
 }

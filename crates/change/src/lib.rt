@@ -1,12 +1,8 @@
 // What changes one variable (document 01, port order 7). Each entry takes any words, numbers and buffers.
 pub mod kernel;
 
-use gates::stored_of;
 use model::Answer;
 use model::Family;
-use model::Header;
-use shape::announce::announced_of;
-use shape_words::word::header_of;
 use shape_words::word::pack;
 ghost use mathlib.Core.Path.{_≡_};
 ghost use Rattle.model.specs.Shifts.{derivativeAnswer, derivativeOut, expansionAnswer, expansionOut, shiftDownAnswer, shiftDownOut};
@@ -38,14 +34,15 @@ pub fn shift_down(head: u64, a: &[f64], v: usize, n: usize, out: &mut [f64]) -> 
     ensures answer { λ r. ⌜ r ≡ shiftDownAnswer head (now (a .entry)) v n (now (out .entry)) ⌝ }
     ensures written { λ r. ⌜ now (out .exit) ≡ shiftDownOut head (now (a .entry)) v n (now (out .entry)) ⌝ }
 {
-    let refusal = gates::in_gate(Family::Shift(v, n), v, n, head, a.len(), out.len());
+    let o = gates::open_in(Family::Shift(v, n), v, n, head, a.len(), out.len());
+    let refusal = o.refusal;
     if refusal.number != 0 {
         return Answer::Refused(refusal);
     }
-    let h = header_of(head);
-    let r = announced_of(Family::Shift(v, n), h, Header::none());
-    let given = stored_of(h);
-    let count = stored_of(r);
+    let h = o.a;
+    let r = o.told;
+    let given = o.na;
+    let count = o.n;
     kernel::shift_rows(&a[..given], h, r, v, n, &mut out[..count]);
     Answer::Done(pack(r))
 }

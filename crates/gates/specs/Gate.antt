@@ -1,7 +1,7 @@
 -- Laws of gates: what follows from a gate that lets a call pass, and what a refusal leaves.
-use Prim.Native.Nat.{ℕ, suc, _-_, _*_, _≤_, _<_}
+use Prim.Native.Nat.{ℕ, _-_, _*_, _≤_, _<_}
 use mathlib.Core.List.{List, _++_, append-nil}
-use mathlib.Core.Bool.{Bool, true, false, _&&_}
+use mathlib.Core.Bool.{Bool, true, false, _&&_, cond}
 use mathlib.Core.Path.{_≡_, refl, sym, ap, _∙_}
 use native.Mathlib.Omega.{arith}
 use lib.Dec.{leb, ltb, eqb}
@@ -21,10 +21,10 @@ use Rattle.model.specs.declared.Family.{Family}
 use Rattle.model.specs.Header.{limit, stored, zeroWith, varWith}
 use Rattle.model.specs.Places.{inside}
 use Rattle.model.specs.Word.{headerOf, goodWord, wordOf}
-use Rattle.model.specs.Refusals.{ask, noRefusal, fits, roomy, answerBy, readBy, linearBy, leaves, written}
+use Rattle.model.specs.Refusals.{askFor, ask, noRefusal, refusedBy, fits, roomy, answerBy, readBy, linearBy, leaves, written}
 use Rattle.model.specs.Poly.{Poly}
 use Rattle.model.specs.Answers.{answered, outAfter}
-use Rattle.model.specs.Gates.{full, readGate, noMissing, indexGate, tailGate, oneGate, workGate, inGate, pairGate}
+use Rattle.model.specs.Gates.{badWord, askWord, full, readGate, noMissing, indexGate, tailGate, oneGate, workGate, inGate, pairGate}
 use Rattle.model.specs.Gates.{goodLimit, goodLimits, withGate, varWithGate, varHeader, varGate, announcedOne}
 use Rattle.model.specs.Gates.{announcedPair}
 use Rattle.shape_words.specs.Rules.{Good, Regular, none-regular}
@@ -42,73 +42,87 @@ pub record Passed (a b c d e f : Bool) : Type 0 where
   pub t5 : e ≡ true
   pub t6 : f ≡ true
 
-ask-test : (b : Bool) (k : ℕ) (r : Refusal) → ask b (suc k) r .number ≡ 0 → b ≡ true
-ask-test true k r e = refl
-ask-test false k r e = absurd (omega (arith, e))
+ask-test : (b : Bool) (q r : Refusal) → (q .number ≡ 0 → ⊥) → askFor b q r .number ≡ 0 → b ≡ true
+ask-test true q r n e = refl
+ask-test false q r n e = absurd (n e)
 
-ask-next : (b : Bool) (k : ℕ) (r : Refusal) → ask b (suc k) r .number ≡ 0 → r .number ≡ 0
-ask-next true k r e = e
-ask-next false k r e = absurd (omega (arith, e))
+ask-next : (b : Bool) (q r : Refusal) → (q .number ≡ 0 → ⊥) → askFor b q r .number ≡ 0 → r .number ≡ 0
+ask-next true q r n e = e
+ask-next false q r n e = absurd (n e)
 
 -- a chain that ends in no refusal passed every test
+module _ (a b c d e f : Bool) (q1 q2 q3 q4 q5 q6 : Refusal) (n1 : q1 .number ≡ 0 → ⊥) (n2 : q2 .number ≡ 0 → ⊥)
+    (n3 : q3 .number ≡ 0 → ⊥) (n4 : q4 .number ≡ 0 → ⊥) (n5 : q5 .number ≡ 0 → ⊥) (n6 : q6 .number ≡ 0 → ⊥) where
+  chain : askFor a q1 (askFor b q2 (askFor c q3 (askFor d q4 (askFor e q5 (askFor f q6 noRefusal))))) .number ≡ 0 → Passed a b c d e f
+  chain z1 =
+      let r6 : Refusal = askFor f q6 noRefusal in
+      let r5 : Refusal = askFor e q5 r6 in
+      let r4 : Refusal = askFor d q4 r5 in
+      let r3 : Refusal = askFor c q3 r4 in
+      let r2 : Refusal = askFor b q2 r3 in
+      let z2 = ask-next a q1 r2 n1 z1 in
+      let z3 = ask-next b q2 r3 n2 z2 in
+      let z4 = ask-next c q3 r4 n3 z3 in
+      let z5 = ask-next d q4 r5 n4 z4 in
+      let z6 = ask-next e q5 r6 n5 z5 in
+      record {
+        t1 = ask-test a q1 r2 n1 z1;
+        t2 = ask-test b q2 r3 n2 z2;
+        t3 = ask-test c q3 r4 n3 z3;
+        t4 = ask-test d q4 r5 n4 z4;
+        t5 = ask-test e q5 r6 n5 z5;
+        t6 = ask-test f q6 noRefusal n6 z6;
+      }
+
+-- the first refusal is any by 1
+passed-by : (q : Refusal) → q .number ≡ 1 → (a b c d e f : Bool)
+    → askFor a q (ask b 2 (ask c 3 (ask d 4 (ask e 5 (ask f 6 noRefusal))))) .number ≡ 0 → Passed a b c d e f
+passed-by q h a b c d e f =
+    chain a b c d e f q (refusedBy 2) (refusedBy 3) (refusedBy 4) (refusedBy 5) (refusedBy 6) (λ z. omega arith)
+    (λ z. omega (arith, z)) (λ z. omega (arith, z)) (λ z. omega (arith, z)) (λ z. omega (arith, z)) (λ z. omega (arith, z))
+
 pub passed : (a b c d e f : Bool) → ask a 1 (ask b 2 (ask c 3 (ask d 4 (ask e 5 (ask f 6 noRefusal))))) .number ≡ 0 → Passed a b c d e f
-passed a b c d e f n1 =
-    let r6 : Refusal = ask f 6 noRefusal in
-    let r5 : Refusal = ask e 5 r6 in
-    let r4 : Refusal = ask d 4 r5 in
-    let r3 : Refusal = ask c 3 r4 in
-    let r2 : Refusal = ask b 2 r3 in
-    let n2 = ask-next a 0 r2 n1 in
-    let n3 = ask-next b 1 r3 n2 in
-    let n4 = ask-next c 2 r4 n3 in
-    let n5 = ask-next d 3 r5 n4 in
-    let n6 = ask-next e 4 r6 n5 in
-    record {
-      t1 = ask-test a 0 r2 n1;
-      t2 = ask-test b 1 r3 n2;
-      t3 = ask-test c 2 r4 n3;
-      t4 = ask-test d 3 r5 n4;
-      t5 = ask-test e 4 r6 n5;
-      t6 = ask-test f 5 noRefusal n6;
-    }
+passed = passed-by (refusedBy 1) refl
+
+-- that of a header word
+word-passed : (w : ℕ) (b c d e f : Bool) → askWord w (ask b 2 (ask c 3 (ask d 4 (ask e 5 (ask f 6 noRefusal))))) .number ≡ 0
+    → Passed (goodWord w) b c d e f
+word-passed w = passed-by (badWord w 64) refl (goodWord w)
+
+-- and of two, one after the other
+words-passed : (w u : ℕ) (b c e f : Bool) → askWord w (askWord u (ask b 2 (ask c 2 (ask e 5 (ask f 6 noRefusal))))) .number ≡ 0
+    → Passed (goodWord w) (goodWord u) b c e f
+words-passed w u b c e f =
+    chain (goodWord w) (goodWord u) b c e f (badWord w 64) (badWord u 64) (refusedBy 2) (refusedBy 2) (refusedBy 5)
+    (refusedBy 6) (λ z. omega (arith, z)) (λ z. omega (arith, z)) (λ z. omega (arith, z)) (λ z. omega (arith, z))
+    (λ z. omega (arith, z)) (λ z. omega (arith, z))
+
+-- two tests with one refusal
+pub both-on : (a b : Bool) (q next : Refusal) → (a && b) ≡ true → next ≡ askFor a q (askFor b q next)
+both-on a b q next e = rw (and-left a b e, and-right a b e)
+
+pub both-stop : (a b : Bool) (q next : Refusal) → (a && b) ≡ false → q ≡ askFor a q (askFor b q next)
+both-stop true true q next e = sym (ap (λ (x : Bool). cond x next q) e)
+both-stop true false q next e = refl
+both-stop false b q next e = refl
 
 -- tests 1 and 2 of one operand, which stand before whatever comes next
-begin-stop : (a b : Bool) (next : Refusal) {r : Refusal} → r ≡ ask a 1 (ask b 2 noRefusal) → (r .number ≡ 0 → ⊥) → r ≡ ask a 1 (ask b 2 next)
-begin-stop true true next e n = absurd (n (ap (λ (x : Refusal). x .number) e))
-begin-stop true false next e n = e
-begin-stop false b next e n = e
+begin-stop : (a b : Bool) (q next : Refusal) {r : Refusal} → r ≡ askFor a q (ask b 2 noRefusal) → (r .number ≡ 0 → ⊥) → r ≡ askFor a q (ask b 2 next)
+begin-stop true true q next e n = absurd (n (ap (λ (x : Refusal). x .number) e))
+begin-stop true false q next e n = e
+begin-stop false b q next e n = e
 
-begin-on : (a b : Bool) (next : Refusal) {r : Refusal} → r ≡ ask a 1 (ask b 2 noRefusal) → r .number ≡ 0 → next ≡ ask a 1 (ask b 2 next)
-begin-on a b next e z = let p = passed a b true true true true (ap (λ (x : Refusal). x .number) (sym e) ∙ z) in simp (p .t1, p .t2)
+begin-on : (w : ℕ) (b : Bool) (next : Refusal) {r : Refusal} → r ≡ askWord w (ask b 2 noRefusal) → r .number ≡ 0 → next ≡ askWord w (ask b 2 next)
+begin-on w b next e z = let p = word-passed w b true true true true (ap (λ (x : Refusal). x .number) (sym e) ∙ z) in simp (p .t1, p .t2)
 
 module _ (w m : ℕ) (next : Refusal) {r : Refusal} (e : r ≡ readGate w m) where
-  pub read-stop : (r .number ≡ 0 → ⊥) → r ≡ ask (goodWord w) 1 (ask (full w m) 2 next)
+  pub read-stop : (r .number ≡ 0 → ⊥) → r ≡ askWord w (ask (full w m) 2 next)
   unfolding readGate
-  read-stop n = begin-stop (goodWord w) (full w m) next e n
+  read-stop n = begin-stop (goodWord w) (full w m) (badWord w 64) next e n
 
-  pub read-on : r .number ≡ 0 → next ≡ ask (goodWord w) 1 (ask (full w m) 2 next)
+  pub read-on : r .number ≡ 0 → next ≡ askWord w (ask (full w m) 2 next)
   unfolding readGate
-  read-on z = begin-on (goodWord w) (full w m) next e z
-
--- tests 1, 2 and 5 of one operand
-room-stop : (a b c : Bool) (next : Refusal) {r : Refusal} → r ≡ ask a 1 (ask b 2 (ask c 5 noRefusal))
-    → (r .number ≡ 0 → ⊥) → r ≡ ask a 1 (ask b 2 (ask c 5 next))
-room-stop true true true next e n = absurd (n (ap (λ (x : Refusal). x .number) e))
-room-stop true true false next e n = e
-room-stop true false c next e n = e
-room-stop false b c next e n = e
-
-room-on : (a b c : Bool) (next : Refusal) {r : Refusal} → r ≡ ask a 1 (ask b 2 (ask c 5 noRefusal)) → r .number ≡ 0 → next ≡ ask a 1 (ask b 2 (ask c 5 next))
-room-on a b c next e z = let p = passed a b true true c true (ap (λ (x : Refusal). x .number) (sym e) ∙ z) in simp (p .t1, p .t2, p .t5)
-
-module _ (f : Family) (w m n : ℕ) (next : Refusal) {r : Refusal} (e : r ≡ oneGate f w m n) where
-  pub one-stop : (r .number ≡ 0 → ⊥) → r ≡ ask (goodWord w) 1 (ask (full w m) 2 (ask (fits (announcedOne f w) n) 5 next))
-  unfolding oneGate
-  one-stop h = room-stop (goodWord w) (full w m) (fits (announcedOne f w) n) next e h
-
-  pub one-on : r .number ≡ 0 → next ≡ ask (goodWord w) 1 (ask (full w m) 2 (ask (fits (announcedOne f w) n) 5 next))
-  unfolding oneGate
-  one-on z = room-on (goodWord w) (full w m) (fits (announcedOne f w) n) next e z
+  read-on z = begin-on w (full w m) next e z
 
 -- answers and buffers, by whether the gate refused
 module _ (r : Refusal) where
@@ -183,7 +197,7 @@ read-facts w m s t = record { word = s; good = good-word w s; full = leb-true _ 
 
 pub read-ready : (w m : ℕ) → readGate w m .number ≡ 0 → ReadReady w m
 unfolding readGate
-read-ready w m e = let p = passed (goodWord w) (full w m) true true true true e in read-facts w m (p .t1) (p .t2)
+read-ready w m e = let p = word-passed w (full w m) true true true true e in read-facts w m (p .t1) (p .t2)
 
 -- an index
 pub record IndexReady (w m : ℕ) (i : List ℕ) : Type 0 where
@@ -194,7 +208,7 @@ pub record IndexReady (w m : ℕ) (i : List ℕ) : Type 0 where
 pub index-ready : (w m : ℕ) (i : List ℕ) → indexGate w m i .number ≡ 0 → IndexReady w m i
 unfolding indexGate
 index-ready w m i e =
-    let p = passed (goodWord w) (full w m) (noMissing (headerOf w) i) (inside (headerOf w .limits) i) true true e in
+    let p = word-passed w (full w m) (noMissing (headerOf w) i) (inside (headerOf w .limits) i) true true e in
     record { read = read-facts w m (p .t1) (p .t2); known = p .t3; below = inside-is _ i (p .t4) }
 
 -- a tail
@@ -206,7 +220,7 @@ pub record TailReady (w m k : ℕ) : Type 0 where
 pub tail-ready : (w m k : ℕ) → tailGate w m k .number ≡ 0 → TailReady w m k
 unfolding tailGate
 tail-ready w m k e =
-    let p = passed (goodWord w) (full w m) (eqb (headerOf w .vars) 1) (ltb k (limit (headerOf w) 0)) true true e in
+    let p = word-passed w (full w m) (eqb (headerOf w .vars) 1) (ltb k (limit (headerOf w) 0)) true true e in
     record { read = read-facts w m (p .t1) (p .t2); one = eqb-true _ _ (p .t3); below = ltb-true _ _ (p .t4) }
 
 -- one operand, and places for the result
@@ -227,7 +241,7 @@ one-facts f w m n s t u =
 pub one-ready : (f : Family) (w m n : ℕ) → oneGate f w m n .number ≡ 0 → OneReady f w m n
 unfolding oneGate
 one-ready f w m n e =
-    let p = passed (goodWord w) (full w m) true true (fits (announcedOne f w) n) true e in
+    let p = word-passed w (full w m) true true (fits (announcedOne f w) n) true e in
     one-facts f w m n (p .t1) (p .t2) (p .t5)
 
 -- and scratch
@@ -238,7 +252,7 @@ pub record WorkReady (f : Family) (w m n s : ℕ) : Type 0 where
 pub work-ready : (f : Family) (w m n s : ℕ) → workGate f w m n s .number ≡ 0 → WorkReady f w m n s
 unfolding workGate
 work-ready f w m n s e =
-    let p = passed (goodWord w) (full w m) true true (fits (announcedOne f w) n) (roomy (announcedOne f w) s) e in
+    let p = word-passed w (full w m) true true (fits (announcedOne f w) n) (roomy (announcedOne f w) s) e in
     record { one = one-facts f w m n (p .t1) (p .t2) (p .t5); spare = leb-true _ _ (p .t6) }
 
 -- and a variable with a number below its limit
@@ -250,7 +264,7 @@ pub record InReady (f : Family) (v d w m n : ℕ) : Type 0 where
 pub in-ready : (f : Family) (v d w m n : ℕ) → inGate f v d w m n .number ≡ 0 → InReady f v d w m n
 unfolding inGate
 in-ready f v d w m n e =
-    let p = passed (goodWord w) (full w m) (ltb v (headerOf w .vars)) (ltb d (limit (headerOf w) v)) (fits (announcedOne f w) n) true e in
+    let p = word-passed w (full w m) (ltb v (headerOf w .vars)) (ltb d (limit (headerOf w) v)) (fits (announcedOne f w) n) true e in
     record { one = one-facts f w m n (p .t1) (p .t2) (p .t5); known = ltb-true _ _ (p .t3); below = ltb-true _ _ (p .t4) }
 
 -- two operands, and scratch
@@ -272,17 +286,15 @@ pub pair-ready : (f : Family) (w m u l n s : ℕ) → pairGate f w m u l n s .nu
 unfolding pairGate
 pair-ready f w m u l n s e =
     let h : Header = announcedPair f w u in
-    let p = passed (goodWord w && goodWord u) (full w m && full u l) true true (fits h n) (roomy h s) e in
-    let x = and-left (goodWord w) (goodWord u) (p .t1) in
-    let y = and-right (goodWord w) (goodWord u) (p .t1) in
+    let p = words-passed w u (full w m) (full u l) (fits h n) (roomy h s) e in
     record {
-      word-a = x;
-      word-b = y;
-      good-a = good-word w x;
-      good-b = good-word u y;
-      full-a = leb-true _ _ (and-left (full w m) (full u l) (p .t2));
-      full-b = leb-true _ _ (and-right (full w m) (full u l) (p .t2));
-      announced = fits-good n (pair-announced f w u x y) (p .t5);
+      word-a = p .t1;
+      word-b = p .t2;
+      good-a = good-word w (p .t1);
+      good-b = good-word u (p .t2);
+      full-a = leb-true _ _ (p .t3);
+      full-b = leb-true _ _ (p .t4);
+      announced = fits-good n (pair-announced f w u (p .t1) (p .t2)) (p .t5);
       room = fits-room h n (p .t5);
       spare = leb-true _ _ (p .t6);
     }

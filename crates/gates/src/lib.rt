@@ -1,4 +1,5 @@
-// Gates: whether a call is refused, by which number, from header words, lengths of buffers, variables and limits alone.
+// Gates: whether a call is refused, by which number, from header words, lengths of buffers, variables and limits alone;
+// and how an entry opens: the gate, and the headers and counts that it works out on its way.
 use model::Family;
 use model::Header;
 use model::Refusal;
@@ -6,17 +7,19 @@ use shape::announce::announced_of;
 use shape::announce::product_header;
 use shape_words::places::count_of;
 use shape_words::places::is_inside;
+use shape_words::word::bad_word;
 use shape_words::word::header_of;
 use shape_words::word::is_good;
 ghost use mathlib.Core.Path.{_≡_};
 ghost use Prim.Native.Nat.{_*_};
-ghost use lib.Dec.{leb};
-ghost use Rattle.model.specs.Header.{stored};
+ghost use lib.Dec.{leb, ltb};
+ghost use Rattle.model.specs.Header.{limit, stored};
+ghost use Rattle.model.specs.Word.{headerOf};
 ghost use Rattle.model.specs.Gates.{readGate, noMissing, indexGate, tailGate, oneGate, workGate, inGate, goodLimit, goodLimits, withGate, varWithGate, varGate};
 ghost use Rattle.model.specs.Refusals.{ask, noRefusal, fits, roomy};
 ghost use Rattle.model.specs.declared.Family.the-variants.{Product};
 ghost use Rattle.shape_words.specs.Rules.{Ruled};
-ghost use Rattle.gates.specs.Open.{shut, Roomed, Opens};
+ghost use Rattle.gates.specs.Open.{shut, telling, OpensOne, Opens};
 
 // The stored count of a header.
 pub fn stored_of(h: Header) -> usize
@@ -36,7 +39,7 @@ fn is_full(h: Header, given: usize) -> bool
 }
 
 // Test 5: the announced count is 4,096 at most, and so many places are lent.
-pub fn is_fitting(h: Header, lent: usize) -> bool
+fn is_fitting(h: Header, lent: usize) -> bool
     requires { ⌜ Ruled h ⌝ }
     ensures { λ r. ⌜ r ≡ fits h lent ⌝ }
 {
@@ -57,24 +60,78 @@ fn fits_gate(h: Header, lent: usize) -> Refusal
 }
 
 // Test 6: scratch for eight times the announced count.
-pub fn is_roomy(h: Header, lent: usize) -> bool
+fn is_roomy(h: Header, lent: usize) -> bool
     requires { ⌜ Ruled h ⌝ }
     ensures { λ r. ⌜ r ≡ roomy h lent ⌝ }
 {
     8 * stored_of(h) <= lent
 }
 
+// Tests 5 and 6.
+fn room_gate(told: Header, lent: usize, scratch: usize) -> Refusal
+    requires { ⌜ Ruled told ⌝ }
+    ensures { λ r. ⌜ r ≡ ask (fits told lent) 5 (ask (roomy told scratch) 6 noRefusal) ⌝ }
+{
+    if !is_fitting(told, lent) {
+        return Refusal::by(5);
+    }
+    if !is_roomy(told, scratch) {
+        return Refusal::by(6);
+    }
+    Refusal::none()
+}
+
+// Tests 3, 4 and 5: a variable v of the operand, a number d below its limit.
+fn below_gate(a: Header, v: usize, d: usize, told: Header, lent: usize) -> Refusal
+    requires { ⌜ Ruled a ⌝ ∗ ⌜ Ruled told ⌝ }
+    ensures { λ r. ⌜ r ≡ ask (ltb v (a .vars)) 3 (ask (ltb d (limit a v)) 4 (ask (fits told lent) 5 noRefusal)) ⌝ }
+{
+    if a.vars <= v {
+        return Refusal::by(3);
+    }
+    let l = a.limits;
+    if l[v] <= d {
+        return Refusal::by(4);
+    }
+    fits_gate(told, lent)
+}
+
+// One operand to read: why it is refused, and its header.
+pub struct Read {
+    pub refusal: Refusal,
+    pub head: Header,
+}
+
+// `given` coefficients under the header word: refusals 1, 2.
+pub fn open_read(word: u64, given: usize) -> Read
+    ensures refusal { λ r. ⌜ r .refusal ≡ readGate word given ⌝ }
+    ensures head { λ r. ⌜ r .head ≡ headerOf word ⌝ }
+{
+    let head = header_of(word);
+    if !is_good(word) {
+        return Read {
+            refusal: bad_word(word, Refusal::NOWHERE),
+            head,
+        };
+    }
+    if !is_full(head, given) {
+        return Read {
+            refusal: Refusal::by(2),
+            head,
+        };
+    }
+    Read {
+        refusal: Refusal::none(),
+        head,
+    }
+}
+
 // A number read off a polynomial: refusals 1, 2.
 pub fn read_gate(word: u64, given: usize) -> Refusal
     ensures { λ r. ⌜ r ≡ readGate word given ⌝ }
 {
-    if !is_good(word) {
-        return Refusal::by(1);
-    }
-    if !is_full(header_of(word), given) {
-        return Refusal::by(2);
-    }
-    Refusal::none()
+    let x = open_read(word, given);
+    x.refusal
 }
 
 // Whether the index of every missing variable is 0.
@@ -92,11 +149,12 @@ fn no_missing(h: Header, i: [usize; 4]) -> bool
 pub fn index_gate(word: u64, given: usize, i: [usize; 4]) -> Refusal
     ensures { λ r. ⌜ r ≡ indexGate word given i ⌝ }
 {
-    let first = read_gate(word, given);
+    let x = open_read(word, given);
+    let first = x.refusal;
     if first.number != 0 {
         return first;
     }
-    let h = header_of(word);
+    let h = x.head;
     if !no_missing(h, i) {
         return Refusal::by(3);
     }
@@ -126,52 +184,8 @@ pub fn tail_gate(word: u64, given: usize, k: usize) -> Refusal
     Refusal::none()
 }
 
-// One operand and no scratch: refusals 1, 2, 5.
-pub fn one_gate(f: Family, word: u64, given: usize, lent: usize) -> Refusal
-    ensures { λ r. ⌜ r ≡ oneGate f word given lent ⌝ }
-{
-    let first = read_gate(word, given);
-    if first.number != 0 {
-        return first;
-    }
-    fits_gate(announced_of(f, header_of(word), Header::none()), lent)
-}
-
-// One operand and scratch: refusals 1, 2, 5, 6.
-pub fn work_gate(f: Family, word: u64, given: usize, lent: usize, scratch: usize) -> Refusal
-    ensures { λ r. ⌜ r ≡ workGate f word given lent scratch ⌝ }
-{
-    let first = one_gate(f, word, given, lent);
-    if first.number != 0 {
-        return first;
-    }
-    if !is_roomy(announced_of(f, header_of(word), Header::none()), scratch) {
-        return Refusal::by(6);
-    }
-    Refusal::none()
-}
-
-// One operand, a variable v and a number d below its limit: refusals 1, 2, 3, 4, 5.
-pub fn in_gate(f: Family, v: usize, d: usize, word: u64, given: usize, lent: usize) -> Refusal
-    ensures { λ r. ⌜ r ≡ inGate f v d word given lent ⌝ }
-{
-    let first = read_gate(word, given);
-    if first.number != 0 {
-        return first;
-    }
-    let h = header_of(word);
-    if h.vars <= v {
-        return Refusal::by(3);
-    }
-    let l = h.limits;
-    if l[v] <= d {
-        return Refusal::by(4);
-    }
-    fits_gate(announced_of(f, h, Header::none()), lent)
-}
-
-// Two operands as an entry opens them: why the call is refused; where it is not, their headers, the announced header
-// and the stored counts.
+// An entry as it opens: why the call is refused; where it is not, the operands' headers, the announced header and the
+// stored counts. Where there is one operand, b has no variables.
 pub struct Opened {
     pub refusal: Refusal,
     pub a: Header,
@@ -197,28 +211,83 @@ impl Opened {
             n: 0,
         }
     }
+
+    // Tests 1 and 2 are passed, and the refusal is what the others found.
+    fn telling(refusal: Refusal, a: Header, b: Header, told: Header) -> Opened
+        requires { ⌜ Ruled a ⌝ ∗ ⌜ Ruled b ⌝ ∗ ⌜ Ruled told ⌝ }
+        ensures { λ r. ⌜ r ≡ telling refusal a b told ⌝ }
+    {
+        Opened {
+            refusal,
+            a,
+            b,
+            told,
+            na: stored_of(a),
+            nb: stored_of(b),
+            n: stored_of(told),
+        }
+    }
 }
 
-// Tests 5 and 6 of two operands that passed the others.
-fn open_room(a: Header, b: Header, told: Header, lent: usize, scratch: usize) -> Opened
-    requires { ⌜ Ruled a ⌝ ∗ ⌜ Ruled b ⌝ ∗ ⌜ Ruled told ⌝ }
-    ensures { λ r. ⌜ Roomed a b told lent scratch r ⌝ }
+// One operand and no scratch: refusals 1, 2, 5.
+pub fn open_one(f: Family, word: u64, given: usize, lent: usize) -> Opened
+    ensures { λ r. ⌜ OpensOne (oneGate f word given lent) f word r ⌝ }
 {
-    if !is_fitting(told, lent) {
-        return Opened::refused(Refusal::by(5));
+    let x = open_read(word, given);
+    let first = x.refusal;
+    if first.number != 0 {
+        return Opened::refused(first);
     }
-    if !is_roomy(told, scratch) {
-        return Opened::refused(Refusal::by(6));
+    let a = x.head;
+    let none = Header::none();
+    let told = announced_of(f, a, none);
+    Opened::telling(fits_gate(told, lent), a, none, told)
+}
+
+// One operand and scratch: refusals 1, 2, 5, 6.
+pub fn open_work(f: Family, word: u64, given: usize, lent: usize, scratch: usize) -> Opened
+    ensures { λ r. ⌜ OpensOne (workGate f word given lent scratch) f word r ⌝ }
+{
+    let x = open_read(word, given);
+    let first = x.refusal;
+    if first.number != 0 {
+        return Opened::refused(first);
     }
-    Opened {
-        refusal: Refusal::none(),
-        a,
-        b,
-        told,
-        na: stored_of(a),
-        nb: stored_of(b),
-        n: stored_of(told),
+    let a = x.head;
+    let none = Header::none();
+    let told = announced_of(f, a, none);
+    Opened::telling(room_gate(told, lent, scratch), a, none, told)
+}
+
+// One operand, a variable v and a number d below its limit: refusals 1, 2, 3, 4, 5.
+pub fn open_in(f: Family, v: usize, d: usize, word: u64, given: usize, lent: usize) -> Opened
+    ensures { λ r. ⌜ OpensOne (inGate f v d word given lent) f word r ⌝ }
+{
+    let x = open_read(word, given);
+    let first = x.refusal;
+    if first.number != 0 {
+        return Opened::refused(first);
     }
+    let a = x.head;
+    let none = Header::none();
+    let told = announced_of(f, a, none);
+    Opened::telling(below_gate(a, v, d, told, lent), a, none, told)
+}
+
+// The refusal alone of `open_one`.
+pub fn one_gate(f: Family, word: u64, given: usize, lent: usize) -> Refusal
+    ensures { λ r. ⌜ r ≡ oneGate f word given lent ⌝ }
+{
+    let o = open_one(f, word, given, lent);
+    o.refusal
+}
+
+// The refusal alone of `open_in`.
+pub fn in_gate(f: Family, v: usize, d: usize, word: u64, given: usize, lent: usize) -> Refusal
+    ensures { λ r. ⌜ r ≡ inGate f v d word given lent ⌝ }
+{
+    let o = open_in(f, v, d, word, given, lent);
+    o.refusal
 }
 
 // Two operands, ah and bh their words, am and bm the coefficients given: refusals 1, 2, 5, 6.
@@ -233,15 +302,19 @@ pub fn open_pair(
 ) -> Opened
     ensures { λ r. ⌜ Opens f ah am bh bm lent scratch r ⌝ }
 {
-    if !(is_good(ah) & is_good(bh)) {
-        return Opened::refused(Refusal::by(1));
+    if !is_good(ah) {
+        return Opened::refused(bad_word(ah, Refusal::NOWHERE));
+    }
+    if !is_good(bh) {
+        return Opened::refused(bad_word(bh, Refusal::NOWHERE));
     }
     let a = header_of(ah);
     let b = header_of(bh);
     if !(is_full(a, am) & is_full(b, bm)) {
         return Opened::refused(Refusal::by(2));
     }
-    open_room(a, b, announced_of(f, a, b), lent, scratch)
+    let told = announced_of(f, a, b);
+    Opened::telling(room_gate(told, lent, scratch), a, b, told)
 }
 
 // The same for a product, whose header is made directly. It has one caller: the compiler takes it in there, and what is
@@ -249,15 +322,19 @@ pub fn open_pair(
 pub fn open_product(ah: u64, am: usize, bh: u64, bm: usize, lent: usize, scratch: usize) -> Opened
     ensures { λ r. ⌜ Opens Product ah am bh bm lent scratch r ⌝ }
 {
-    if !(is_good(ah) & is_good(bh)) {
-        return Opened::refused(Refusal::by(1));
+    if !is_good(ah) {
+        return Opened::refused(bad_word(ah, Refusal::NOWHERE));
+    }
+    if !is_good(bh) {
+        return Opened::refused(bad_word(bh, Refusal::NOWHERE));
     }
     let a = header_of(ah);
     let b = header_of(bh);
     if !(is_full(a, am) & is_full(b, bm)) {
         return Opened::refused(Refusal::by(2));
     }
-    open_room(a, b, product_header(a, b), lent, scratch)
+    let told = product_header(a, b);
+    Opened::telling(room_gate(told, lent, scratch), a, b, told)
 }
 
 // A limit is 1 to 64.
@@ -311,8 +388,5 @@ pub fn var_gate(v: usize, limit: usize, lent: usize) -> Refusal
     if 3 < v {
         return Refusal::by(3);
     }
-    fits_gate(
-        Header::var_with_degrees_p1(v, v + 1, [limit, limit, limit, limit]),
-        lent,
-    )
+    fits_gate(Header::var(v, limit), lent)
 }

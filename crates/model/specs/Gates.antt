@@ -1,7 +1,7 @@
 -- REFERENCE 5.3. Document 01, 'Refusal numbers', one gate for each way of calling: numbers go in (header words, lengths
 -- of buffers, variables), a refusal comes out.
--- The tests stand in the order of their numbers, so the lowest wins. Tests 3 and 4 read the number of variables and the
--- limits alone.
+-- The tests stand in the order of their numbers, so the lowest wins; of two operands the first is asked first. Tests 3
+-- and 4 read the number of variables and the limits alone.
 use Prim.Native.Nat.{ℕ, suc}
 use mathlib.Core.List.{List}
 use mathlib.Core.Bool.{Bool, _&&_, _||_}
@@ -14,7 +14,7 @@ use Rattle.model.specs.Header.{limit, stored, noHeader, zeroWith, varWit
 use Rattle.model.specs.Word.{headerOf, goodWord}
 use Rattle.model.specs.Places.{inside}
 use Rattle.model.specs.Announced.{announced}
-use Rattle.model.specs.Refusals.{ask, noRefusal, fits, roomy}
+use Rattle.model.specs.Refusals.{askFor, ask, refusedAt, noRefusal, fits, roomy}
 
 -- what a family announces for one operand, and for two
 abbrev pub announcedOne : Family → ℕ → Header
@@ -23,13 +23,20 @@ announcedOne f w = announced f (headerOf w) noHeader
 abbrev pub announcedPair : Family → ℕ → ℕ → Header
 announcedPair f w u = announced f (headerOf w) (headerOf u)
 
+-- test 1: the refusal of a header word that breaks the rules, p its place in a recipe, 64 in a single call
+abbrev pub badWord : ℕ → ℕ → Refusal
+badWord w p = refusedAt 1 p
+
+abbrev pub askWord : ℕ → Refusal → Refusal
+askWord w next = askFor (goodWord w) (badWord w 64) next
+
 -- test 2: m coefficients are lent
 abbrev pub full : ℕ → ℕ → Bool
 full w m = leb (stored (headerOf w)) m
 
 -- A number read off a polynomial: w its header word, m its coefficients.
 unfoldable pub readGate : ℕ → ℕ → Refusal
-readGate w m = ask (goodWord w) 1 (ask (full w m) 2 noRefusal)
+readGate w m = askWord w (ask (full w m) 2 noRefusal)
 
 -- `coefficient` at the index i: 3 for a missing variable's index that is not 0, 4 for one not below its limit
 abbrev pub noMissing : Header → List ℕ → Bool
@@ -39,7 +46,7 @@ noMissing h i =
 
 unfoldable pub indexGate : ℕ → ℕ → List ℕ → Refusal
 indexGate w m i =
-    ask (goodWord w) 1
+    askWord w
     (ask (full w m) 2
     (ask (noMissing (headerOf w) i) 3
     (ask (inside (headerOf w .limits) i) 4
@@ -57,7 +64,7 @@ tailGate w m k =
 -- One operand and no scratch: n the places lent for the result.
 unfoldable pub oneGate : Family → ℕ → ℕ → ℕ → Refusal
 oneGate f w m n =
-    ask (goodWord w) 1
+    askWord w
     (ask (full w m) 2
     (ask (fits (announcedOne f w) n) 5
     noRefusal))
@@ -65,7 +72,7 @@ oneGate f w m n =
 -- One operand: n the places lent for the result, s those of the scratch.
 unfoldable pub workGate : Family → ℕ → ℕ → ℕ → ℕ → Refusal
 workGate f w m n s =
-    ask (goodWord w) 1
+    askWord w
     (ask (full w m) 2
     (ask (fits (announcedOne f w) n) 5
     (ask (roomy (announcedOne f w) s) 6
@@ -74,7 +81,7 @@ workGate f w m n s =
 -- One operand, a variable v and a number d below its limit, no scratch.
 unfoldable pub inGate : Family → ℕ → ℕ → ℕ → ℕ → ℕ → Refusal
 inGate f v d w m n =
-    ask (goodWord w) 1
+    askWord w
     (ask (full w m) 2
     (ask (ltb v (headerOf w .vars)) 3
     (ask (ltb d (limit (headerOf w) v)) 4
@@ -84,11 +91,13 @@ inGate f v d w m n =
 -- Two operands: n the places lent for the result, s those of the scratch.
 unfoldable pub pairGate : Family → ℕ → ℕ → ℕ → ℕ → ℕ → ℕ → Refusal
 pairGate f w m u l n s =
-    ask (goodWord w && goodWord u) 1
-    (ask (full w m && full u l) 2
+    askWord w
+    (askWord u
+    (ask (full w m) 2
+    (ask (full u l) 2
     (ask (fits (announcedPair f w u) n) 5
     (ask (roomy (announcedPair f w u) s) 6
-    noRefusal)))
+    noRefusal)))))
 
 -- Constructors. A limit is 1 to 64; the first `vars` of four are given.
 

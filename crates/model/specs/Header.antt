@@ -11,6 +11,10 @@ use Rattle.model.specs.declared.Header.{Header}
 abbrev pub header : ℕ → List ℕ → List ℕ → Header
 header v l n = record { vars = v; limits = l; lengths = n }
 
+-- the same variables and limits, other lengths
+abbrev pub withLengths : Header → List ℕ → Header
+withLengths h n = header (h .vars) (h .limits) n
+
 abbrev pub limit : Header → ℕ → ℕ
 limit h k = at (h .limits) k
 

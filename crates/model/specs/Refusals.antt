@@ -32,10 +32,14 @@ noRefusal = refusedBy 0
 abbrev pub isNone : Refusal → Bool
 isNone r = eqb (r .number) 0
 
--- a gate is a chain of these, the lowest number first: what follows where the test holds, else a refusal by the number
+-- a gate is a chain of these, the lowest number first: what follows where the test holds, else the refusal
+abbrev pub askFor : Bool → Refusal → Refusal → Refusal
+askFor true r next = next
+askFor false r next = r
+
+-- the refusal is a number alone
 abbrev pub ask : Bool → ℕ → Refusal → Refusal
-ask true k next = next
-ask false k next = refusedBy k
+ask t k next = askFor t (refusedBy k) next
 
 -- test 5: the announced count is 4,096 at most, and so many places are lent
 abbrev pub fits : Header → ℕ → Bool

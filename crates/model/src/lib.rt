@@ -1,6 +1,8 @@
 // The plain data that every crate shares. What it means is in specs/: the definitions of document 01, and no laws.
 ghost use mathlib.Core.Path.{_≡_};
-ghost use Rattle.model.specs.Header.{noHeader, zeroWith, varWith, limitOrOne, twoAtMost};
+ghost use Prim.Native.Nat.{_<_};
+ghost use Rattle.model.specs.Header.{withLengths, noHeader, zeroWith, varWith, limitOrOne, twoAtMost};
+ghost use Rattle.model.specs.Gates.{varHeader};
 ghost use Rattle.model.specs.Refusals.{noRefusal, refusedBy, refusedAt};
 ghost use Rattle.model.specs.Linear.{noLinear};
 
@@ -84,7 +86,21 @@ impl Header {
     // The most stored places.
     pub const COUNT: usize = 4096;
 
-    // No variables: the header of zero, of one, and of a constant that carries no limits.
+    // The same variables and limits, other lengths.
+    pub fn with_lengths(h: Header, lengths: [usize; 4]) -> Header
+        ensures { λ r. ⌜ r ≡ withLengths h lengths ⌝ }
+    {
+        let limits = h.limits;
+        Header {
+            vars: h.vars,
+            limits,
+            lengths,
+        }
+    }
+
+    // The headers of the constructors.
+
+    // `zero`, `one`, `from_u32`: a constant with no variables.
     pub fn none() -> Header
         ensures { λ r. ⌜ r ≡ noHeader ⌝ }
     {
@@ -95,7 +111,7 @@ impl Header {
         }
     }
 
-    // A constant that carries the first `vars` of these limits.
+    // `zero_with`, `from_u32_with`: a constant that carries the first `vars` of these limits.
     pub fn zero_with(vars: usize, limits: [usize; 4]) -> Header
         ensures { λ r. ⌜ r ≡ zeroWith vars limits ⌝ }
     {
@@ -111,7 +127,7 @@ impl Header {
         }
     }
 
-    // x + v, as far as the limit of v lets it.
+    // `var_with_degrees_p1`: x + v, as far as the limit of v lets it.
     pub fn var_with_degrees_p1(v: usize, vars: usize, limits: [usize; 4]) -> Header
         ensures { λ r. ⌜ r ≡ varWith v vars limits ⌝ }
     {
@@ -127,6 +143,14 @@ impl Header {
                 two_at_most(v, 3, l[3]),
             ],
         }
+    }
+
+    // `var`, `var_at_zero`: every variable up to v under one limit.
+    pub fn var(v: usize, limit: usize) -> Header
+        requires { ⌜ v < 4 ⌝ }
+        ensures { λ r. ⌜ r ≡ varHeader v limit ⌝ }
+    {
+        Header::var_with_degrees_p1(v, v + 1, [limit, limit, limit, limit])
     }
 }
 

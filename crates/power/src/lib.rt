@@ -4,8 +4,6 @@ pub mod kernel;
 use model::Answer;
 use model::Family;
 use model::Header;
-use shape::announce::announced_of;
-use shape_words::word::header_of;
 use shape_words::word::pack;
 ghost use mathlib.Core.Path.{_≡_};
 ghost use Rattle.model.specs.Power.{powerAnswer, powerOut, powerScratch};
@@ -16,22 +14,19 @@ pub fn pow(head: u64, a: &[f64], e: u32, out: &mut [f64], scratch: &mut [f64]) -
     ensures written { λ r. ⌜ now (out .exit) ≡ powerOut head (now (a .entry)) e (now (out .entry)) (now (scratch .entry)) ⌝ }
     ensures cleared { λ r. ⌜ now (scratch .exit) ≡ powerScratch head (now (a .entry)) e (now (out .entry)) (now (scratch .entry)) ⌝ }
 {
-    let refusal = gates::work_gate(Family::Power(e), head, a.len(), out.len(), scratch.len());
+    let o = gates::open_work(Family::Power(e), head, a.len(), out.len(), scratch.len());
+    let refusal = o.refusal;
     if refusal.number != 0 {
         return Answer::Refused(refusal);
     }
-    let x = header_of(head);
-    let h = announced_of(Family::Power(e), x, Header::none());
+    let x = o.a;
+    let h = o.told;
     let la = x.lengths;
     let l = h.limits;
-    let na = gates::stored_of(x);
-    let n = gates::stored_of(h);
+    let na = o.na;
+    let n = o.n;
     let room = 8 * n;
     let r = kernel::power_into(&a[..na], la, e, l, n, &mut out[..n], &mut scratch[..room]);
     blocks::clear(&mut scratch[..room]);
-    Answer::Done(pack(Header {
-        vars: h.vars,
-        limits: l,
-        lengths: r,
-    }))
+    Answer::Done(pack(Header::with_lengths(h, r)))
 }

@@ -1,6 +1,7 @@
 -- What the entries show: the announced lengths hold the operand's, and the value is the definition's.
 use Prim.Native.Nat.{ℕ, _*_, _≤_, _<_}
 use mathlib.Core.List.{List}
+use mathlib.Core.Bool.{Bool, true, false, cond}
 use mathlib.Core.Path.{_≡_, refl, sym, ap, _∙_}
 use native.Mathlib.Omega.{arith}
 use lib.Dec.{eqb, lit<}
@@ -11,10 +12,10 @@ use Rattle.lists.specs.Test.{decide}
 use Rattle.lists.specs.Four.{at-four}
 use Rattle.model.specs.declared.Header.{Header}
 use Rattle.model.specs.declared.Family.the-variants.{Series}
-use Rattle.model.specs.Header.{header, count, stored, len, limit, noHeader}
+use Rattle.model.specs.Header.{count, stored, len, limit, noHeader}
 use Rattle.model.specs.Word.{headerOf}
 use Rattle.model.specs.Announced.{announced, single, lengthAfter, limitAfter}
-use Rattle.model.specs.Poly.{held}
+use Rattle.model.specs.Poly.{Poly, poly, held}
 use Rattle.model.specs.Series.{seriesShape, expRows, expOf, expPoly, logRows, logOf, logPoly}
 use Rattle.shape_words.specs.Rules.{Regular, ruled-at}
 use Rattle.shape_words.specs.Lengths.{lengths-of}
@@ -68,31 +69,38 @@ entry-whole {w} g {x} {h} {na} {n} ex eh ea en pa po pw =
       work = omega arith;
     }
 
--- the value
-module _ (head : Float) (w : ℕ) (a : List Float) {x h : Header} (ex : x ≡ headerOf w) (eh : h ≡ announced Series (headerOf w) noHeader) where
-  pub exp-head : h ≡ expPoly head (held w a) .head
+-- exp, or log where `logs`: of the places of a block, and of a polynomial
+abbrev pub seriesRows : Bool → Float → List ℕ → List ℕ → List Float → List Float
+seriesRows logs head lx r xs = cond logs (logRows head lx r 4 0 xs) (expRows head lx r 4 0 xs)
+
+abbrev pub seriesPoly : Bool → Float → Poly → Poly
+seriesPoly logs head p = cond logs (logPoly head p) (expPoly head p)
+
+-- what a polynomial's definition says of its announced header
+module _ (head : Float) (p : Poly) where
+  abbrev told : Header
+  told = announced Series (p .head) noHeader
+
+  exp-poly : expPoly head p ≡ poly told (expRows head (p .head .lengths) (told .lengths) 4 0 (p .coeffs))
   unfolding expPoly expOf
-  exp-head =
-      let d : Header = announced Series (headerOf w) noHeader in
-      eh ∙ ap (λ (n : List ℕ). header (d .vars) (d .limits) n) (sym (series-lengths (headerOf w)))
+  exp-poly = rw (series-lengths (p .head))
 
-  pub log-head : h ≡ logPoly head (held w a) .head
+  log-poly : logPoly head p ≡ poly told (logRows head (p .head .lengths) (told .lengths) 4 0 (p .coeffs))
   unfolding logPoly logOf
-  log-head =
-      let d : Header = announced Series (headerOf w) noHeader in
-      eh ∙ ap (λ (n : List ℕ). header (d .vars) (d .limits) n) (sym (series-lengths (headerOf w)))
+  log-poly = rw (series-lengths (p .head))
 
-  pub log-coeffs : {na : ℕ} {o : List Float} → na ≡ stored x → o ≡ logRows head (x .lengths) (h .lengths) 4 0 (take na a) → o ≡ logPoly head (held w a) .coeffs
-  unfolding logPoly logOf
-  log-coeffs ea e =
-      e ∙ (rw (eh, ea, ex)
-      (ap (λ (r : List ℕ). logRows head (headerOf w .lengths) r 4 0 (take (stored (headerOf w)) a)) (sym (series-lengths (headerOf w)))))
+  series-poly : (logs : Bool) → seriesPoly logs head p ≡ poly told (seriesRows logs head (p .head .lengths) (told .lengths) (p .coeffs))
+  series-poly true = log-poly
+  series-poly false = exp-poly
+
+-- the value
+module _ (logs : Bool) (head : Float) (w : ℕ) (a : List Float) {x h : Header} (ex : x ≡ headerOf w) (eh : h ≡ announced Series (headerOf w) noHeader) where
+  pub entry-head : h ≡ seriesPoly logs head (held w a) .head
+  entry-head = eh ∙ ap (λ (p : Poly). p .head) (sym (series-poly head (held w a) logs))
+
+  pub entry-coeffs : {na : ℕ} {o : List Float} → na ≡ stored x → o ≡ seriesRows logs head (x .lengths) (h .lengths) (take na a)
+      → o ≡ seriesPoly logs head (held w a) .coeffs
+  entry-coeffs ea e = e ∙ (rw (eh, ea, ex) (ap (λ (p : Poly). p .coeffs) (sym (series-poly head (held w a) logs))))
 
   pub entry-long : Long (x .lengths) (h .lengths)
   entry-long = rw (ex, eh) (series-long (headerOf w))
-
-  pub exp-coeffs : {na : ℕ} {o : List Float} → na ≡ stored x → o ≡ expRows head (x .lengths) (h .lengths) 4 0 (take na a) → o ≡ expPoly head (held w a) .coeffs
-  unfolding expPoly expOf
-  exp-coeffs ea e =
-      e ∙ (rw (eh, ea, ex)
-      (ap (λ (r : List ℕ). expRows head (headerOf w .lengths) r 4 0 (take (stored (headerOf w)) a)) (sym (series-lengths (headerOf w)))))

@@ -1,8 +1,10 @@
 // Header words, packed and unpacked by shifts and masks.
 use model::Header;
+use model::Refusal;
 ghost use mathlib.Core.Path.{_≡_};
 ghost use Prim.Native.Nat.{ℕ, _+_, _-_, _*_, _^_, _<_, _≤_};
 ghost use Rattle.model.specs.Header.{goodVar, goodVars, goodHeader};
+ghost use Rattle.model.specs.Gates.{badWord};
 ghost use Rattle.model.specs.Word.{fieldAt, headerOf, goodWord, pushed, wordOf};
 ghost use Rattle.shape_words.specs.Rules.{Ruled};
 
@@ -72,6 +74,13 @@ pub fn is_good(word: u64) -> bool
     ensures { λ r. ⌜ r ≡ goodWord word ⌝ }
 {
     good_header(header_of(word)) & (word & 8191 == 0)
+}
+
+// Why a word that is no header is refused, `place` where it stands in a recipe: the one maker of this refusal.
+pub fn bad_word(word: u64, place: u8) -> Refusal
+    ensures { λ r. ⌜ r ≡ badWord word place ⌝ }
+{
+    Refusal::at(1, place)
 }
 
 // One field of six bits more at the low end: x less one.

@@ -3,7 +3,7 @@
 -- from the word.
 use Prim.Native.Nat.{ℕ, zero, suc, _+_, _/_, _%_, _^_, _≤_, _<_}
 use mathlib.Core.List.{List}
-use mathlib.Core.Bool.{Bool, true, false, _&&_, cond}
+use mathlib.Core.Bool.{Bool, true, false, cond}
 use mathlib.Core.Path.{_≡_, refl, ap}
 use native.Mathlib.Omega.{arith}
 use lib.Dec.{eqb, leb, ltb, lit<}
@@ -145,10 +145,18 @@ in-few : (f : Family) (v d w m n : ℕ) → inGate f v d w m n .number < 32
 unfolding inGate
 in-few f v d w m n = asked (goodWord w) (full w m) (ltb v (headerOf w .vars)) (ltb d (limit (headerOf w) v)) (fits (announcedOne f w) n) true
 
+-- of two operands each is asked 1, then each 2
+pair-asked : (a x b y e f : Bool) → ask a 1 (ask x 1 (ask b 2 (ask y 2 (ask e 5 (ask f 6 noRefusal))))) .number < 32
+pair-asked false x b y e f = lit< tt
+pair-asked true false b y e f = lit< tt
+pair-asked true true false y e f = lit< tt
+pair-asked true true true false e f = lit< tt
+pair-asked true true true true e f = asked true true true true e f
+
 pair-few : (f : Family) (w m u l n s : ℕ) → pairGate f w m u l n s .number < 32
 unfolding pairGate
 pair-few f w m u l n s =
-    asked (goodWord w && goodWord u) (full w m && full u l) true true (fits (announcedPair f w u) n) (roomy (announcedPair f w u) s)
+    pair-asked (goodWord w) (goodWord u) (full w m) (full u l) (fits (announcedPair f w u) n) (roomy (announcedPair f w u) s)
 
 with-few : (vars : ℕ) (l : List ℕ) (n : ℕ) → withGate vars l n .number < 32
 unfolding withGate

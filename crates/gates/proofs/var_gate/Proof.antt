@@ -1,8 +1,7 @@
 use mathlib.Core.Path.{_≡_}
 use mathlib.Core.Bool.{true}
 use borrow.Author.Tests.{not-true, not-false, lt-leb, le-leb}
-use native.Mathlib.Numerals.{add-one}
-use Rattle.model.specs.Gates.{varHeader, goodLimit, varGate}
+use Rattle.model.specs.Gates.{goodLimit, varGate}
 use Rattle.gates.specs.Given.{good-limit, given-same, var-regular}
 use borrow.Author.Needs.{needs}
 use Rattle.gates.proofs.var_gate.Statement.{statement}
@@ -10,11 +9,6 @@ use Rattle.gates.proofs.var_gate.Tie as tie
 
 limit : (c : tie.Else1) → goodLimit ((c .before .before) .args .limit) ≡ true
 limit c = not-false _ (rw (c .before .good-limit .ensures) at (c .if1 .left))
-
-header : (c : tie.After-var-with-degrees-p1) →
-    let start = c .before .before .before .before in
-    c .var-with-degrees-p1 .result ≡ varHeader (start .args .v) (start .args .limit)
-header c = rw (add-one ((c .before .before .before .before) .args .v)) at (c .var-with-degrees-p1 .ensures)
 
 returns : tie.Need-returns
 unfolding varGate
@@ -27,15 +21,15 @@ unfolding varGate
 returns-2 c = simp (limit (c .before .before), lt-leb _ _ (c .before .if2 .taken)) (c .by2 .ensures)
 
 fits-gate-requires : tie.Need-fits-gate-requires
-fits-gate-requires c κs = rw (header c) (var-regular (given-same (c .before .if2 .left) (good-limit _ (limit (c .before .before)))) _ .rules)
+fits-gate-requires c κs = rw (c .var .ensures) (var-regular (given-same (c .before .if2 .left) (good-limit _ (limit (c .before .before)))) _ .rules)
 
 returns-3 : tie.Need-returns-3
 unfolding varGate
-returns-3 c = simp (limit (c .before .before .before), le-leb _ _ (c .before .before .if2 .left)) (rw (header (c .before)) at (c .fits-gate .ensures))
+returns-3 c = simp (limit (c .before .before .before), le-leb _ _ (c .before .before .if2 .left)) (rw (c .before .var .ensures) at (c .fits-gate .ensures))
 
 pub var-gate-spec : {M : Type 1} → statement M
 var-gate-spec =
     tie.close
     (tie.spec
-    (λ c κs. search needs) (λ c κs. search needs) returns (λ c κs. search needs) returns-2 (λ c. search needs)
-    (λ c κs. search needs) fits-gate-requires returns-3)
+    (λ c κs. search needs) (λ c κs. search needs) returns (λ c κs. search needs) returns-2 (λ c κs. search needs)
+    fits-gate-requires returns-3)

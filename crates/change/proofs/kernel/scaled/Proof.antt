@@ -1,15 +1,16 @@
 use mathlib.Core.Path.{_≡_, sym, ap, _∙_}
 use native.Mathlib.Omega.{arith}
+use Prim.Native.Nat.{_≤_}
 use lib.ListN.{length}
 use lib.Seq.{length-take-le}
 use Rattle.model.specs.declared.Answer.the-variants.{Done}
 use Rattle.model.specs.declared.Family.the-variants.{Shift}
 use Rattle.model.specs.Header.{stored}
-use Rattle.model.specs.Word.{headerOf, wordOf}
+use Rattle.model.specs.Word.{wordOf}
 use Rattle.model.specs.Gates.{announcedOne}
-use Rattle.model.specs.Poly.{held}
-use Rattle.shape_words.specs.Rules.{none-regular}
-use Rattle.gates.specs.Gate.{InReady, in-ready, entry-refused, entry-done}
+use Rattle.model.specs.Poly.{Poly, held}
+use Rattle.gates.specs.Gate.{InReady, entry-refused, entry-done}
+use Rattle.gates.specs.Open.{one-given, one-count, in-opened, in-fits}
 use Rattle.readings_row.specs.Term.{part-written}
 use Rattle.change_factors.specs.Scale.{scaledPoly}
 use Rattle.change.specs.Taken.{scaled-keeps}
@@ -17,115 +18,76 @@ use borrow.Author.Needs.{needs}
 use Rattle.change.proofs.kernel.scaled.Statement.{statement}
 use Rattle.change.proofs.kernel.scaled.Tie as tie
 
+abbrev value : tie.Start → Poly
+value c = scaledPoly (c .args .plain) (c .args .v) (c .args .n) (held (c .args .head) (c .args .a .now))
+
 ready : (c : tie.Else1) →
-    let start = c .before .before .before .before .before in
+    let start = c .before .before .before .before .before .before in
     InReady (Shift (start .args .v) (start .args .n)) (start .args .v) (start .args .n) (start .args .head)
     (length (start .args .a .now)) (length (start .args .out .now))
-ready c = in-ready _ _ _ _ _ _ (ap (λ r. r .number) (sym (c .before .before .in-gate .ensures)) ∙ c .if1 .left)
+ready c = in-opened _ _ _ _ (c .before .before .before .open-in .ensures) (c .if1 .left)
 
-is-announced : (c : tie.After-announced-of) →
-    let start = c .before .before .before .before .before .before .before .before in
-    c .announced-of .result ≡ (announcedOne (Shift (start .args .v) (start .args .n)) (start .args .head))
-is-announced c = simp (c .before .before .header-of .ensures, c .before .none .ensures) at (c .announced-of .ensures)
-
-given : (c : tie.After-stored-of) →
-    let start = c .before .before .before .before .before .before .before .before .before in
-    c .stored-of .result ≡ stored (headerOf (start .args .head))
-given c = c .stored-of .ensures ∙ ap stored (c .before .before .before .header-of .ensures)
-
-count : (c : tie.After-stored-of2) →
-    let start = c .before .before .before .before .before .before .before .before .before .before in
-    c .stored-of2 .result ≡ stored (announcedOne (Shift (start .args .v) (start .args .n)) (start .args .head))
-count c = c .stored-of2 .ensures ∙ ap stored (is-announced (c .before .before))
+fits : (c : tie.Else1) →
+    let o = c .before .before .before .open-in .result in let start = c .before .before .before .before .before .before in
+    (o .na ≤ length (start .args .a .now)) × (o .n ≤ length (start .args .out .now))
+fits c = in-fits _ _ _ _ (c .before .before .before .open-in .ensures) (c .if1 .left)
 
 head-is : (c : tie.After-take-rows) →
-    let c12 = c .before .before .before .before .before .before .before .before .before .before .before .before in
-    let start = c12 .before in
-    c .take-rows .result ≡ (scaledPoly (start .args .plain) (start .args .v) (start .args .n) (held (start .args .head) (start .args .a .now))) .head
+    c .take-rows .result ≡ value (c .before .before .before .before .before .before .before .before .before .before .before) .head
 head-is c =
-    rw (
-      c .before .before .before .before .before .before .before .header-of .ensures,
-      given (c .before .before .before .before),
-    ) at (c .take-rows .ensures .0)
+    let c8 = c .before .before .before .before .before .before .before .before in let z = c .before .before .before .before .before .if1 .left in
+    rw (c8 .open-in .ensures .tells z .left, one-given (c8 .open-in .ensures) z) at (c .take-rows .ensures .0)
 
 returns : tie.Need-returns
 returns c =
-    let start = c .before .before .before .before .before in
-    entry-refused (c .before .before .in-gate .ensures) (c .if1 .taken)
-    (announcedOne (Shift (start .args .v) (start .args .n)) (start .args .head))
-    (scaledPoly (start .args .plain) (start .args .v) (start .args .n)
-    (held (start .args .head) (start .args .a .now))) (start .args .out .now)
-
-announced-of-requires : tie.Need-announced-of-requires
-announced-of-requires c κs = (
-  rw (c .before .header-of .ensures) (ready (c .before .before) .one .good .regular .rules),
-  rw (c .none .ensures) (none-regular .rules),
-)
-
-stored-of-requires : tie.Need-stored-of-requires
-stored-of-requires c κs = rw (c .before .before .header-of .ensures) (ready (c .before .before .before) .one .good .regular .rules)
-
-stored-of-requires-2 : tie.Need-stored-of-requires-2
-stored-of-requires-2 c κs = rw (is-announced (c .before)) (ready (c .before .before .before .before) .one .announced .regular .rules)
+    let start = c .before .before .before .before .before .before in
+    entry-refused (c .before .before .before .open-in .ensures .refusal) (c .if1 .taken)
+    (announcedOne (Shift (start .args .v) (start .args .n)) (start .args .head)) (value start) (start .args .out .now)
 
 slice-aggregate-take-rows : tie.Need-slice-aggregate-take-rows
-slice-aggregate-take-rows c =
-    let start = c .before .before .before .before .before .before .before .before .before .before .before in
-    sym (length-take-le _ (start .args .a .now) (rw (given (c .before .before)) (ready (c .before .before .before .before .before .before) .one .full)))
+slice-aggregate-take-rows c = sym (length-take-le _ _ (fits (c .before .before .before) .0))
 
 slice-relend-prefix-take-rows : tie.Need-slice-relend-prefix-take-rows
-slice-relend-prefix-take-rows c = rw (count (c .before)) (ready (c .before .before .before .before .before .before) .one .room)
+slice-relend-prefix-take-rows c = fits (c .before .before .before) .1
 
 slice-aggregate-take-rows-2 : tie.Need-slice-aggregate-take-rows-2
-slice-aggregate-take-rows-2 c =
-    let start = c .before .before .before .before .before .before .before .before .before .before .before .before in
-    sym (length-take-le _ (start .args .out .now)
-    (rw (count (c .before .before)) (ready (c .before .before .before .before .before .before .before) .one .room)))
+slice-aggregate-take-rows-2 c = sym (length-take-le _ _ (fits (c .before .before .before .before) .1))
 
 take-rows-requires : tie.Need-take-rows-requires
 take-rows-requires c κs =
-    let c3 = c .before .before .before in let c6 = c3 .before .before .before in let c7 = c6 .before in
-    let start = c7 .before .before .before .before .before in
+    let c4 = c .before .before .before .before in let g = ready c4 in
+    let t = c4 .before .before .before .open-in .ensures .tells (c4 .if1 .left) in
     record {
-      rules = rw (c6 .header-of .ensures) (ready c7 .one .good .regular .rules);
-      is = rw (c6 .header-of .ensures) (is-announced (c .before .before .before .before));
-      var = omega (arith, ready c7 .known, ready c7 .one .good .regular .rules .few);
-      below = rw (c6 .header-of .ensures) (ready c7 .below);
-      full = length-take-le _ (start .args .a .now) (rw (given c3) (ready c7 .one .full)) ∙ c3 .stored-of .ensures;
-      room = length-take-le _ (start .args .out .now) (rw (count (c .before .before)) (ready c7 .one .room)) ∙ c .before .before .stored-of2 .ensures;
+      rules = rw (t .left) (g .one .good .regular .rules);
+      is = rw (t .left) (t .told);
+      var = omega (arith, g .known, g .one .good .regular .rules .few);
+      below = rw (t .left) (g .below);
+      full = length-take-le _ _ (fits c4 .0) ∙ t .count-a;
+      room = length-take-le _ _ (fits c4 .1) ∙ t .count;
     }
 
 pack-requires : tie.Need-pack-requires
 pack-requires c κs =
-    let c10 = c .before .before .before .before .before .before .before .before .before .before in
-    let start = c10 .before .before .before .before .before in
+    let c7 = c .before .before .before .before .before .before .before in
+    let start = c7 .before .before .before .before .before .before in
     rw (head-is (c .before .before)) (scaled-keeps (start .args .plain) (start .args .v) (start .args .n)
-    (held (start .args .head) (start .args .a .now)) (ready c10 .one .good .regular .rules) .regular .rules)
+    (held (start .args .head) (start .args .a .now)) (ready c7 .one .good .regular .rules) .regular .rules)
 
 returns-2 : tie.Need-returns-2
 returns-2 c =
-    let c3 = c .before .before .before in let c8 = c3 .before .before .before .before .before in
-    let c10 = c8 .before .before in let c11 = c10 .before in let c13 = c11 .before .before in
-    let start = c13 .before .before .before in
-    entry-done (c13 .in-gate .ensures) (c11 .if1 .left)
-    (announcedOne (Shift (start .args .v) (start .args .n)) (start .args .head))
-    (scaledPoly (start .args .plain) (start .args .v) (start .args .n)
-    (held (start .args .head) (start .args .a .now))) (start .args .out .now)
-    (ap Done (c .pack .ensures ∙ ap wordOf (head-is c3)))
-    (rw (count (c .before .before .before .before .before .before))
-    (part-written (stored (announcedOne (Shift (start .args .v) (start .args .n)) (start .args .head)))
-    ((scaledPoly (start .args .plain) (start .args .v) (start .args .n)
-    (held (start .args .head) (start .args .a .now))) .coeffs) (start .args .out .now)
-    (rw (
-      c10 .header-of .ensures,
-      given (c .before .before .before .before .before .before .before),
-      is-announced c8,
-    ) at (c3 .take-rows .ensures .1))))
+    let c8 = c .before .before .before .before .before .before .before .before in let c11 = c8 .before .before .before in
+    let start = c11 .before .before .before in
+    let z = c8 .if1 .left in let t = c11 .open-in .ensures .tells z in
+    let h = announcedOne (Shift (start .args .v) (start .args .n)) (start .args .head) in
+    entry-done (c11 .open-in .ensures .refusal) z h (value start) (start .args .out .now)
+    (ap Done (c .pack .ensures ∙ ap wordOf (head-is (c .before .before .before))))
+    (rw (one-count (c11 .open-in .ensures) z)
+    (part-written (stored h) (value start .coeffs) (start .args .out .now)
+    (rw (t .left, one-given (c11 .open-in .ensures) z, t .told) at (c .before .before .before .take-rows .ensures .1))))
 
 pub scaled-spec : {M : Type 1} → statement M
 scaled-spec =
     tie.close
     (tie.spec
-    (λ c κs. search needs) returns (λ c κs. search needs) (λ c κs. search needs) announced-of-requires
-    stored-of-requires stored-of-requires-2 slice-aggregate-take-rows slice-relend-prefix-take-rows
-    slice-aggregate-take-rows-2 take-rows-requires pack-requires (λ c. search needs) returns-2)
+    (λ c κs. search needs) returns slice-aggregate-take-rows slice-relend-prefix-take-rows slice-aggregate-take-rows-2
+    take-rows-requires pack-requires (λ c. search needs) returns-2)
