@@ -17,7 +17,7 @@ use Rattle.model_recipes.specs.declared.RunAnswer.{RunAnswer}
 use Rattle.model_recipes.specs.declared.RunAnswer.the-variants.{Done, Refused}
 use Rattle.model.specs.Header.{noHeader, stored}
 use Rattle.model.specs.Word.{headerOf, wordOf}
-use Rattle.model.specs.Refusals.{ask, noRefusal, isNone, zeroF, leaves, padded, cleared}
+use Rattle.model.specs.Refusals.{ask, noRefusal, isNone, zeroF, padded, cleared}
 use Rattle.model.specs.Poly.{Poly, held}
 use Rattle.model.specs.Constructed.{constant}
 use Rattle.model_recipes.specs.Kinds.{kinds}
@@ -73,15 +73,29 @@ lentRefusal hs ss c p w s =
     (ask (leb (8 * largest (announcedSteps hs ss)) s) 6
     noRefusal))
 
--- which case of the enum stands for which number
-unfoldable pub runBy : Refusal → RunAnswer
-runBy r = cond (isNone r) Done (Refused r)
-
 -- values end to end at announced counts
 unfoldable pub laid : List Header → List Poly → List Float
 laid [] vs = []
 laid (h ∷ known) [] = []
 laid (h ∷ known) (v ∷ vs) = padded (stored h) (v .coeffs) ++ laid known vs
+
+-- How a run ends: refused before its first step, or done.
+pub data RunEnd : Type 0 where
+  refused : Refusal → RunEnd
+  done : RunEnd
+
+unfoldable pub endBy : Refusal → RunEnd
+endBy r = cond (isNone r) done (refused r)
+
+-- which case of the enum stands for which end
+abbrev pub endAnswer : RunEnd → RunAnswer
+endAnswer (refused r) = Refused r
+endAnswer done = Done
+
+-- what an end leaves of a lent buffer: as it was, or with what the run made
+abbrev pub afterRun : {A : Type 0} → RunEnd → List A → List A → List A
+afterRun (refused r) made old = old
+afterRun done made old = made
 
 -- hs the inputs' header words, cs their coefficients, ss the step words, pool, words and scratch the buffers as they
 -- came
@@ -92,14 +106,17 @@ module _ (hs : List ℕ) (cs : List Float) (ss : List ℕ) (pool : List Float) (
       (orElse (lentRefusal hs ss (length cs) (length pool) (length words) (length scratch))
       (nineRefusal (length scratch) (inputHeads hs) (inputValues hs cs) ss))
 
+  unfoldable pub runEnd : RunEnd
+  runEnd = endBy runRefusal
+
   unfoldable pub runAnswer : RunAnswer
-  runAnswer = runBy runRefusal
+  runAnswer = endAnswer runEnd
 
   unfoldable pub runPool : List Float
-  runPool = leaves runRefusal (laid (announcedSteps hs ss) (stepValues hs cs ss) ++ drop (total (announcedSteps hs ss)) pool) pool
+  runPool = afterRun runEnd (laid (announcedSteps hs ss) (stepValues hs cs ss) ++ drop (total (announcedSteps hs ss)) pool) pool
 
   unfoldable pub runWords : List ℕ
-  runWords = cond (isNone runRefusal) (map (λ v. wordOf (v .head)) (stepValues hs cs ss) ++ drop (length ss) words) words
+  runWords = afterRun runEnd (map (λ v. wordOf (v .head)) (stepValues hs cs ss) ++ drop (length ss) words) words
 
   unfoldable pub runScratch : List Float
-  runScratch = leaves runRefusal (cleared (largest (announcedSteps hs ss)) scratch) scratch
+  runScratch = afterRun runEnd (cleared (largest (announcedSteps hs ss)) scratch) scratch

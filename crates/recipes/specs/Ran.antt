@@ -5,16 +5,15 @@ use mathlib.Core.List.{List, map, _++_}
 use mathlib.Core.Path.{_≡_, sym, ap, _∙_}
 use lib.ListN.{length, drop}
 use lib.Ieee.{Float}
-use borrow.Author.Tests.{eq-eqb, ne-eqb}
 use Rattle.model.specs.declared.Refusal.{Refusal}
 use Rattle.model_recipes.specs.declared.RunAnswer.the-variants.{Done, Refused}
 use Rattle.model.specs.Word.{wordOf}
 use Rattle.model.specs.Refusals.{cleared}
 use Rattle.model_recipes.specs.Recipe.{announcedSteps, total, largest}
 use Rattle.model_recipes.specs.Check.{checkRefusal}
-use Rattle.model_recipes.specs.Run.{stepValues, laid, lentRefusal, runRefusal, runBy, runAnswer, runPool, runWords, runScratch}
-use Rattle.gates.specs.Gate.{leaves-no, leaves-yes}
+use Rattle.model_recipes.specs.Run.{stepValues, laid, lentRefusal, runRefusal, runEnd, runAnswer, runPool, runWords, runScratch}
 use Rattle.recipes_check.specs.Asks.{or-none}
+use Rattle.recipes_laws.specs.Ends.{end-refused, end-done}
 use Rattle.recipes_laws.specs.Never.{Lent, lent-enough, run-refusal}
 use Rattle.recipes.specs.Running.{Admitted}
 use Rattle.recipes.specs.Admission.{Admits}
@@ -26,20 +25,20 @@ module _ (hs : List ℕ) (cs : List Float) (ss : List ℕ) (pool : List Float) (
 
   module _ (n : r .number ≡ 0 → ⊥) where
     pub no-answer : Refused r ≡ runAnswer hs cs ss pool words scratch
-    unfolding runAnswer runBy
-    no-answer = rw (← refusal) (simp (ne-eqb (r .number) 0 n))
+    unfolding runAnswer runEnd
+    no-answer = rw (← refusal, end-refused r n)
 
     pub no-pool : pool ≡ runPool hs cs ss pool words scratch
-    unfolding runPool
-    no-pool = rw (← refusal) (leaves-no r _ pool n)
+    unfolding runPool runEnd
+    no-pool = rw (← refusal, end-refused r n)
 
     pub no-words : words ≡ runWords hs cs ss pool words scratch
-    unfolding runWords
-    no-words = rw (← refusal) (simp (ne-eqb (r .number) 0 n))
+    unfolding runWords runEnd
+    no-words = rw (← refusal, end-refused r n)
 
     pub no-scratch : scratch ≡ runScratch hs cs ss pool words scratch
-    unfolding runScratch
-    no-scratch = rw (← refusal) (leaves-no r _ scratch n)
+    unfolding runScratch runEnd
+    no-scratch = rw (← refusal, end-refused r n)
 
   module _ (z : r .number ≡ 0) where
     both : (checkRefusal hs ss .number ≡ 0) × (lentRefusal hs ss (length cs) (length pool) (length words) (length scratch) .number ≡ 0)
@@ -55,18 +54,18 @@ module _ (hs : List ℕ) (cs : List Float) (ss : List ℕ) (pool : List Float) (
     enough-words = lent .words
 
     pub yes-answer : Done ≡ runAnswer hs cs ss pool words scratch
-    unfolding runAnswer runBy
-    yes-answer = rw (← refusal) (simp (eq-eqb (r .number) 0 z))
+    unfolding runAnswer runEnd
+    yes-answer = rw (← refusal, end-done r z)
 
     pub yes-pool : {p : List Float} → p ≡ laid (announcedSteps hs ss) (stepValues hs cs ss)
         ++ drop (total (announcedSteps hs ss)) pool → p ≡ runPool hs cs ss pool words scratch
-    unfolding runPool
-    yes-pool e = rw (← refusal) (e ∙ leaves-yes r _ pool z)
+    unfolding runPool runEnd
+    yes-pool e = rw (← refusal, end-done r z) e
 
     pub yes-words : {w : List ℕ} → w ≡ map (λ v. wordOf (v .head)) (stepValues hs cs ss) ++ drop (length ss) words → w ≡ runWords hs cs ss pool words scratch
-    unfolding runWords
-    yes-words e = rw (← refusal) (rw (eq-eqb (r .number) 0 z) e)
+    unfolding runWords runEnd
+    yes-words e = rw (← refusal, end-done r z) e
 
     pub yes-scratch : {s : List Float} → s ≡ cleared (largest (announcedSteps hs ss)) scratch → s ≡ runScratch hs cs ss pool words scratch
-    unfolding runScratch
-    yes-scratch e = rw (← refusal) (e ∙ leaves-yes r _ scratch z)
+    unfolding runScratch runEnd
+    yes-scratch e = rw (← refusal, end-done r z) e

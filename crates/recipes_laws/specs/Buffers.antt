@@ -6,17 +6,16 @@ use native.Mathlib.Omega.{arith}
 use lib.ListN.{length, take, drop, getD, length-map, length-drop, List·getD-map, List·getD-append}
 use lib.Seq.{getD-drop}
 use lib.Ieee.{Float}
-use borrow.Author.Tests.{eq-eqb}
 use Rattle.model.specs.Header.{stored, noHeader}
 use Rattle.model.specs.Word.{wordOf, fields}
 use Rattle.model.specs.Refusals.{padded}
 use Rattle.model.specs.Poly.{Poly}
 use Rattle.model_recipes.specs.Recipe.{headAt, announcedPlaces, announcedSteps, total}
-use Rattle.model_recipes.specs.Run.{noValue, valueAt, values, stepValues, laid, runRefusal, runPool, runWords}
+use Rattle.model_recipes.specs.Run.{noValue, valueAt, values, stepValues, laid, runRefusal, runEnd, runPool, runWords}
 use Rattle.shape.specs.Under.{count-under}
-use Rattle.gates.specs.Gate.{leaves-yes}
 use Rattle.recipes_laws.specs.Follows.{Follows}
 use Rattle.recipes_laws.specs.Ahead.{length-announced}
+use Rattle.recipes_laws.specs.Ends.{end-done}
 use Rattle.recipes_laws.specs.Laid.{Fitting, laid-at}
 
 module _ (hs : List ℕ) (cs : List Float) (ss : List ℕ) (f : Follows (announcedPlaces hs ss) (values hs cs ss)) where
@@ -42,23 +41,23 @@ module _ (hs : List ℕ) (cs : List Float) (ss : List ℕ) (f : Follows (announc
   module _ (pool : List Float) (words : List ℕ) (scratch : List Float)
       (z : runRefusal hs cs ss pool words scratch .number ≡ 0) (i : ℕ) (l : i < length ss) where
     pub word-kept : getD (runWords hs cs ss pool words scratch) i 0 ≡ wordOf (valueAt (values hs cs ss) (length hs + i) .head)
-    unfolding runWords wordOf fields
+    unfolding runWords runEnd wordOf fields
     word-kept =
         let word : Poly → ℕ = λ v. wordOf (v .head) in
         let ws = map word (stepValues hs cs ss) in
-        rw (eq-eqb _ _ z)
+        rw (end-done (runRefusal hs cs ss pool words scratch) z)
         (List·getD-append ws (drop (length ss) words) 0 i (omega (arith, length-map (stepValues hs cs ss) word, same-steps, length-announced hs ss))
         ∙ (List·getD-map word (stepValues hs cs ss) i noValue ∙ ap word (step-value i)))
 
     pub coeffs-kept : take (stored (headAt (announcedPlaces hs ss) (length hs + i)))
         (drop (total (take i (announcedSteps hs ss))) (runPool hs cs ss pool words scratch))
         ≡ padded (stored (headAt (announcedPlaces hs ss) (length hs + i))) (valueAt (values hs cs ss) (length hs + i) .coeffs)
-    unfolding runPool
+    unfolding runPool runEnd
     coeffs-kept =
         let rest = drop (total (announcedSteps hs ss)) pool in
         rw (
           ← step-head i,
           ← step-value i,
-          ← leaves-yes (runRefusal hs cs ss pool words scratch) (laid (announcedSteps hs ss) (stepValues hs cs ss) ++ rest) pool z,
+          end-done (runRefusal hs cs ss pool words scratch) z,
         )
         (laid-at (announcedSteps hs ss) (stepValues hs cs ss) rest steps-fit i (omega (arith, length-announced hs ss)))

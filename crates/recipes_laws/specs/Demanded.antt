@@ -1,23 +1,23 @@
 -- Demand 3 is kept.
 use Prim.Native.Nat.{ℕ}
 use mathlib.Core.List.{List}
-use mathlib.Core.Path.{_≡_, refl, ap}
+use mathlib.Core.Path.{_≡_, refl, sym, ap}
 use native.Mathlib.Omega.{arith}
 use lib.ListN.{length}
 use lib.Ieee.{Float}
-use borrow.Author.Tests.{eq-eqb, ne-eqb}
 use Rattle.model.specs.declared.Header.{Header}
 use Rattle.model.specs.declared.Refusal.{Refusal}
 use Rattle.model_recipes.specs.declared.CheckAnswer.the-variants.{Accepted}
-use Rattle.model_recipes.specs.declared.RunAnswer.the-variants.{Done, Refused}
+use Rattle.model_recipes.specs.declared.RunAnswer.the-variants.{Refused}
 use Rattle.model.specs.Poly.{Poly}
 use Rattle.model_recipes.specs.Recipe.{inputHeads, announcedSteps, total, largest}
 use Rattle.model_recipes.specs.Check.{checkRefusal, checkAnswer}
-use Rattle.model_recipes.specs.Run.{runBy, runRefusal, runAnswer}
+use Rattle.model_recipes.specs.Run.{runRefusal, runEnd, runAnswer}
 use Rattle.shape_words.specs.Rules.{Good, header-good}
 use Rattle.shape.specs.Keeps.{Keeps, keeps-good}
 use Rattle.recipes_check.specs.Asks.{by-refusal}
 use Rattle.recipes_check.specs.Answered.{answer-no, answer-yes}
+use Rattle.recipes_laws.specs.Ends.{end-done, answer-refused}
 use Rattle.recipes_laws.specs.Never.{Lent, run-none, run-small}
 use Rattle.recipes_laws.specs.Values.{follows-all, step-computed, inputs-first}
 use Rattle.recipes_laws.specs.Buffers.{word-kept, coeffs-kept}
@@ -49,12 +49,12 @@ module _ (hs : List ℕ) (cs : List Float) (ss : List ℕ) (pool : List Float) (
   r = runRefusal hs cs ss pool words scratch
 
   finished : checkRefusal hs ss .number ≡ 0 → Lent hs ss (length cs) (length pool) (length words) (length scratch) → Finished hs cs ss pool words scratch
-  unfolding runAnswer runBy
+  unfolding runAnswer runEnd
   finished none l =
       let z : r .number ≡ 0 = ap (λ (x : Refusal). x .number) (run-none hs cs ss pool words scratch none l) in
       let f = follows-all hs cs ss none (l .coeffs) (l .scratch) in
       record {
-        done = rw (eq-eqb (r .number) 0 z);
+        done = rw (end-done r z);
         inputs = inputs-first hs cs ss none (l .coeffs) (l .scratch);
         steps = λ i h.
             record {
@@ -67,11 +67,8 @@ module _ (hs : List ℕ) (cs : List Float) (ss : List ℕ) (pool : List Float) (
 
   -- an answer that refuses says the run's refusal
   refused : (q : Refusal) → runAnswer hs cs ss pool words scratch ≡ Refused q → q ≡ r
-  unfolding runAnswer runBy
-  refused q e =
-      by-refusal r
-      (λ z. let f : Done ≡ Refused q = rw (eq-eqb (r .number) 0 z) at e in let g : _≡_ {A = ℕ} 0 1 = cc in absurd (omega (arith, g)))
-      (λ n. let f : Refused r ≡ Refused q = rw (ne-eqb (r .number) 0 n) at e in cc)
+  unfolding runAnswer runEnd
+  refused q e = sym (answer-refused r (sym e) .0)
 
   pub demand-3 : Demand3 hs cs ss pool words scratch
   demand-3 =

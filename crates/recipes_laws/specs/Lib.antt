@@ -6,6 +6,7 @@ pub mod EachKind
 pub mod Follows
 pub mod Passed
 pub mod Ahead
+pub mod Ends
 pub mod Laid
 pub mod Demand
 pub mod Computes

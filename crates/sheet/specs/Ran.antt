@@ -6,7 +6,6 @@ use native.Mathlib.Omega.{arith}
 use lib.Ieee.{Float, ofBits, binary64}
 use lib.ListN.{length, getD, take, drop}
 use lib.Seq.{take-take, take-at, getD-drop}
-use borrow.Author.Tests.{eq-eqb, ne-eqb}
 use Rattle.lists.specs.Table.{table, length-table}
 use Rattle.model.specs.declared.Header.{Header}
 use Rattle.model.specs.declared.Refusal.{Refusal}
@@ -16,14 +15,15 @@ use Rattle.model.specs.Word.{headerOf, wordOf}
 use Rattle.model.specs.Refusals.{noRefusal, zeroF, zeros, padded}
 use Rattle.model.specs.Poly.{Poly}
 use Rattle.model_recipes.specs.Recipe.{headAt, inputHeads, announcedPlaces, announcedSteps, total, largest}
-use Rattle.model_recipes.specs.Run.{noValue, valueAt, values, stepValues, runBy, runRefusal, runAnswer, runPool, runWords}
+use Rattle.model_recipes.specs.Run.{noValue, valueAt, values, stepValues, runRefusal, runEnd, runAnswer, runPool, runWords}
 use Rattle.model_texts.specs.Sheet.{wordOn, inputCount, stepCount, coefficientCount, sheetCoefficients, sheetRefusal, lastValue}
 use Rattle.shape_words.specs.Rules.{Ruled}
 use Rattle.shape_words.specs.Words.{unpack-pack}
 use Rattle.shape.specs.Keeps.{Keeps}
 use Rattle.shape.specs.Under.{count-under}
-use Rattle.recipes_check.specs.Asks.{or-next, by-refusal}
+use Rattle.recipes_check.specs.Asks.{or-next}
 use Rattle.recipes_laws.specs.Follows.{Follows}
+use Rattle.recipes_laws.specs.Ends.{answer-refused, answer-done}
 use Rattle.recipes_laws.specs.Never.{run-none}
 use Rattle.recipes_laws.specs.Ahead.{announced-at, length-announced, step-largest}
 use Rattle.recipes_laws.specs.Values.{follows-all}
@@ -33,20 +33,6 @@ use Rattle.sheet.specs.declared.Solved.{Solved}
 use Rattle.sheet.specs.Running.{RunningIn, passed, steps-largest}
 use Rattle.sheet.specs.Solves.{solvedBy, LastAt, Ends}
 use Rattle.sheet.specs.Ended.{ranRefusal, opening-few, opening-count, opening-refusal}
-
--- what a run's answer says of its refusal
-by-refused : {r q : Refusal} → Refused q ≡ runBy r → (r ≡ q) × (q .number ≡ 0 → ⊥)
-unfolding runBy
-by-refused {r} {q} e =
-    by-refusal r
-    (λ z. let h : Refused q ≡ Done = rw (eq-eqb (r .number) 0 z) at e in let y : _≡_ {A = ℕ} 0 1 = cc in absurd (omega (arith, y)))
-    (λ z. let g : Refused q ≡ Refused r = rw (ne-eqb (r .number) 0 z) at e in let h : r ≡ q = cc in (h, λ y. z (ap (λ (x : Refusal). x .number) h ∙ y)))
-
-by-done : (r : Refusal) → Done ≡ runBy r → r .number ≡ 0
-unfolding runBy
-by-done r e =
-    by-refusal r (λ z. z)
-    (λ z. let h : Done ≡ Refused r = rw (ne-eqb (r .number) 0 z) at e in let y : _≡_ {A = ℕ} 0 1 = cc in absurd (omega (arith, y)))
 
 -- the places of a value end before the pool does
 total-take : (hs : List Header) (i : ℕ) → i < length hs → total (take i hs) + stored (getD hs i noHeader) ≤ total hs
@@ -93,8 +79,8 @@ module _ {t hs ss : List ℕ} {f c : ℕ} (pool : List Float) (words : List ℕ)
     run-refusal = opening-refusal (r .opened) (r .steps) ∙ (or-next _ _ (r .judged) ∙ rw (← e) (sym same-lengths))
 
     pub ran-refused : {q : Refusal} → Refused q ≡ runAnswer hs cs ss pool words scratch → (q ≡ sheetRefusal t) × (q .number ≡ 0 → ⊥)
-    unfolding runAnswer
-    ran-refused a = let b = by-refused a in (sym (run-refusal ∙ b .0), b .1)
+    unfolding runAnswer runEnd
+    ran-refused a = let b = answer-refused _ a in (sym (run-refusal ∙ b .0), b .1)
 
     given-len : total (inputHeads hs) ≤ length cs
     unfolding sheetCoefficients
@@ -109,8 +95,8 @@ module _ {t hs ss : List ℕ} {f c : ℕ} (pool : List Float) (words : List ℕ)
     module _ (a : Done ≡ runAnswer hs cs ss pool words scratch) {ws : List ℕ} {ps : List Float} (ew : ws ≡ runWords hs cs ss pool words scratch)
         (ep : ps ≡ runPool hs cs ss pool words scratch) (lp : length ps ≡ length pool) where
       none : runRefusal hs cs ss pool words scratch .number ≡ 0
-      unfolding runAnswer
-      none = by-done _ a
+      unfolding runAnswer runEnd
+      none = answer-done _ a
 
       follow : Follows (announcedPlaces hs ss) (values hs cs ss)
       follow = let room : 8 * largest (announcedSteps hs ss) ≤ length scratch = omega (arith, r .scratch) in

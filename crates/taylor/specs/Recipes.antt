@@ -17,7 +17,7 @@ use Rattle.model_recipes.specs.declared.RunAnswer.{RunAnswer}
 use Rattle.model_recipes.specs.declared.RunAnswer.the-variants as run-answer
 use Rattle.model.specs.Refusals.{isNone}
 use Rattle.model_recipes.specs.Check.{checkRefusal, checkBy, checkAnswer}
-use Rattle.model_recipes.specs.Run.{runRefusal, runBy, runAnswer}
+use Rattle.model_recipes.specs.Run.{endBy, endAnswer, runRefusal, runEnd, runAnswer}
 use Rattle.recipes_laws.specs.Never.{check-small, run-small}
 use Rattle.taylor.specs.Face.{wordOfRefusal, wordOfCheck, poolAfter, largestAfter, inputsAfter, wordOfRun}
 use Rattle.taylor.specs.Apart.{refusalFrom, refusal-from}
@@ -44,8 +44,8 @@ module _ (r : Refusal) (few : r .number < 256) where
   by-check p l i pool largest inputs =
       decide (isNone r) (λ t. rw t) (λ t. rw (t, word-not-zero t) (ap check-answer.Refused (refusal-from r few)))
 
-  by-run : runFrom (wordOfRun (runBy r)) ≡ runBy r
-  unfolding runBy runFrom
+  by-run : runFrom (wordOfRun (endAnswer (endBy r))) ≡ endAnswer (endBy r)
+  unfolding endBy runFrom
   by-run = decide (isNone r) (λ t. rw t) (λ t. rw (t, word-not-zero t) (ap run-answer.Refused (refusal-from r few)))
 
 -- ---- the entries
@@ -59,5 +59,5 @@ check-back hs ss pool largest inputs = by-check (checkRefusal hs ss) (omega (ari
 
 pub run-back : (hs : List ℕ) (cs : List Float) (ss : List ℕ) (pool : List Float) (words : List ℕ) (scratch : List Float)
     → runFrom (wordOfRun (runAnswer hs cs ss pool words scratch)) ≡ runAnswer hs cs ss pool words scratch
-unfolding runAnswer
+unfolding runAnswer runEnd
 run-back hs cs ss pool words scratch = by-run (runRefusal hs cs ss pool words scratch) (omega (arith, run-small hs cs ss pool words scratch))
