@@ -1,22 +1,19 @@
 -- Demand 3 is kept.
 use Prim.Native.Nat.{ℕ}
 use mathlib.Core.List.{List}
-use mathlib.Core.Path.{_≡_, refl, sym, ap}
+use mathlib.Core.Path.{_≡_, sym, ap}
 use native.Mathlib.Omega.{arith}
 use lib.ListN.{length}
 use lib.Ieee.{Float}
 use Rattle.model.specs.declared.Header.{Header}
 use Rattle.model.specs.declared.Refusal.{Refusal}
-use Rattle.model_recipes.specs.declared.CheckAnswer.the-variants.{Accepted}
 use Rattle.model_recipes.specs.declared.RunAnswer.the-variants.{Refused}
 use Rattle.model.specs.Poly.{Poly}
-use Rattle.model_recipes.specs.Recipe.{inputHeads, announcedSteps, total, largest}
-use Rattle.model_recipes.specs.Check.{checkRefusal, checkAnswer}
+use Rattle.model_recipes.specs.Check.{checkRefusal}
 use Rattle.model_recipes.specs.Run.{runRefusal, runEnd, runAnswer}
 use Rattle.shape_words.specs.Rules.{Good, header-good}
 use Rattle.shape.specs.Keeps.{Keeps, keeps-good}
-use Rattle.recipes_check.specs.Asks.{by-refusal}
-use Rattle.recipes_check.specs.Answered.{answer-no, answer-yes}
+use Rattle.recipes_laws.specs.Numbers.{numbers}
 use Rattle.recipes_laws.specs.Ends.{end-done, answer-refused}
 use Rattle.recipes_laws.specs.Never.{Lent, run-none, run-small}
 use Rattle.recipes_laws.specs.Values.{follows-all, step-computed, inputs-first}
@@ -27,22 +24,6 @@ announced-of : {h : Header} {v : Poly} → Good h → Keeps h v → AsAnnounced 
 announced-of g k =
     let t = keeps-good g k in
     record { vars = k .under .vars; limits = k .under .limits; lengths = k .under .most; rules = header-good (t .regular .rules) (t .most); full = k .full }
-
--- what the check answers where it accepts
-record Numbers (hs ss : List ℕ) (places most inputs : ℕ) : Type 0 where
-  none : checkRefusal hs ss .number ≡ 0
-  places-are : total (announcedSteps hs ss) ≡ places
-  most-is : largest (announcedSteps hs ss) ≡ most
-  inputs-are : total (inputHeads hs) ≡ inputs
-
-numbers : (hs ss : List ℕ) (places most inputs : ℕ) → checkAnswer hs ss ≡ Accepted places most inputs → Numbers hs ss places most inputs
-numbers hs ss places most inputs e =
-    by-refusal (checkRefusal hs ss)
-    (λ z.
-    let y : Accepted (total (announcedSteps hs ss)) (largest (announcedSteps hs ss)) (total (inputHeads hs)) ≡ checkAnswer hs ss =
-    answer-yes hs ss {r = checkRefusal hs ss} refl z refl refl refl in
-    record { none = z; places-are = cc; most-is = cc; inputs-are = cc })
-    (λ n. let c = answer-no hs ss {r = checkRefusal hs ss} refl n in let f : _≡_ {A = ℕ} 0 1 = cc in absurd (omega (arith, f)))
 
 module _ (hs : List ℕ) (cs : List Float) (ss : List ℕ) (pool : List Float) (words : List ℕ) (scratch : List Float) where
   abbrev r : Refusal
@@ -76,6 +57,6 @@ module _ (hs : List ℕ) (cs : List Float) (ss : List ℕ) (pool : List Float) (
         finishes = λ places most inputs e c p w s.
             let n = numbers hs ss places most inputs e in
             finished (n .none)
-            (record { coeffs = omega (arith, n .inputs-are); pool = omega (arith, n .places-are); words = w; scratch = omega (arith, n .most-is) });
+            (record { coeffs = omega (arith, n .inputs-are); pool = omega (arith, n .pool-is); words = w; scratch = omega (arith, n .most-is) });
         never-9 = λ q e n. omega (arith, run-small hs cs ss pool words scratch, ap (λ (x : Refusal). x .number) (refused q e));
       }

@@ -6,6 +6,9 @@ pub mod EachKind
 pub mod Follows
 pub mod Passed
 pub mod Ahead
+pub mod Numbers
+pub mod OwnGates
+pub mod NoneRefuses
 pub mod Ends
 pub mod Laid
 pub mod Demand
