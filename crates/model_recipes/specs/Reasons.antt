@@ -1,8 +1,8 @@
--- REFERENCE 6.4. Document 01, 'Recipes' and 'Refusal numbers': the reasons to refuse a recipe, each with its place and
--- its number; what a reason is, and not how it is found.
+-- REFERENCE 6.4, 6.5. Document 01, 'Recipes' and 'Refusal numbers': the reasons to refuse a recipe, each with its place
+-- and its number, and those to refuse a run of it; what a reason is, and not how it is found.
 -- Sizes are at no place in particular: 64. A recipe has at most 64 places. 3, 4 and 5 are reasons of a step whose word
 -- is right.
-use Prim.Native.Nat.{ℕ, suc, _+_, _≤_, _<_}
+use Prim.Native.Nat.{ℕ, suc, _+_, _*_, _≤_, _<_}
 use mathlib.Core.List.{List}
 use mathlib.Core.Bool.{true, false, cond}
 use mathlib.Core.Path.{_≡_}
@@ -12,8 +12,9 @@ use Rattle.model.specs.declared.Header.{Header}
 use Rattle.model.specs.declared.Refusal.{Refusal}
 use Rattle.model.specs.Header.{limit, stored}
 use Rattle.model.specs.Word.{goodWord}
+use Rattle.model.specs.Refusals.{refusedBy}
 use Rattle.model_recipes.specs.Steps.{stepOf, spareOf, usesOf}
-use Rattle.model_recipes.specs.Recipe.{headAt, announcedStep, announcedPlaces}
+use Rattle.model_recipes.specs.Recipe.{headAt, announcedStep, inputHeads, announcedPlaces, announcedSteps, total, largest}
 
 -- 7: 0 to 16 inputs, 1 or more steps, together at most 64 places; hs the inputs' header words, ss the step words
 pub data WrongSizes (hs ss : List ℕ) : Type 0 where
@@ -63,3 +64,17 @@ pub record FirstReason (hs ss : List ℕ) (r : Refusal) : Type 0 where
   pub reason : Reason hs ss (r .place) (r .number)
   pub first : (p n : ℕ) → Reason hs ss p n → turn (r .place) ≤ turn p
   pub lowest : (n : ℕ) → Reason hs ss (r .place) n → r .number ≤ n
+
+-- ---- a run, c, p, w and s the lengths of coefficients, pool, words and scratch
+
+abbrev pub NoReason : List ℕ → List ℕ → Type 0
+NoReason hs ss = (p n : ℕ) → Reason hs ss p n → ⊥
+
+-- the check's refusal; where there is none, 2, 5, 6, each where those before it do not apply
+pub data RunReason (hs ss : List ℕ) (c p w s : ℕ) : Refusal → Type 0 where
+  of-check : (r : Refusal) → FirstReason hs ss r → RunReason hs ss c p w s r
+  few-coefficients : NoReason hs ss → c < total (inputHeads hs) → RunReason hs ss c p w s (refusedBy 2)
+  short-pool : NoReason hs ss → total (inputHeads hs) ≤ c → p < total (announcedSteps hs ss) → RunReason hs ss c p w s (refusedBy 5)
+  few-words : NoReason hs ss → total (inputHeads hs) ≤ c → w < length ss → RunReason hs ss c p w s (refusedBy 5)
+  short-scratch : NoReason hs ss → total (inputHeads hs) ≤ c → total (announcedSteps hs ss) ≤ p → length ss ≤ w
+      → s < 8 * largest (announcedSteps hs ss) → RunReason hs ss c p w s (refusedBy 6)

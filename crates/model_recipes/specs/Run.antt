@@ -22,8 +22,8 @@ use Rattle.model.specs.Poly.{Poly, held}
 use Rattle.model.specs.Constructed.{constant}
 use Rattle.model_recipes.specs.Kinds.{kinds}
 use Rattle.model_recipes.specs.Steps.{stepOf}
-use Rattle.model_recipes.specs.Recipe.{announcedStep, inputHeads, announcedSteps, total, largest}
-use Rattle.model_recipes.specs.Check.{askAt, orElse, checkRefusal}
+use Rattle.model_recipes.specs.Recipe.{inputHeads, announcedSteps, total, largest}
+use Rattle.model_recipes.specs.Check.{orElse, checkRefusal}
 
 -- the inputs, whose coefficients lie end to end
 unfoldable pub inputValues : List ℕ → List Float → List Poly
@@ -51,19 +51,13 @@ values hs cs ss = chain stepValue (inputValues hs cs) ss
 unfoldable pub stepValues : List ℕ → List Float → List ℕ → List Poly
 stepValues hs cs ss = drop (length hs) (values hs cs ss)
 
--- whether an operation refuses its operands, with n places for the result and m of scratch
+-- whether an operation would refuse its operands, with n places for the result and m of scratch; no run asks it
+-- (`none-refuses`, recipes_laws)
 unfoldable pub gates : Step → Poly → Poly → ℕ → ℕ → List Refusal
 gates s a b n m = map (λ k. k .gate s a b n m) kinds
 
 unfoldable pub stepGate : ℕ → List Poly → ℕ → ℕ → Refusal
 stepGate w vs n m = let s = stepOf w in getD (gates s (valueAt vs (s .a)) (valueAt vs (s .b)) n m) (s .kind) noRefusal
-
--- 9: the first step whose operation refuses; known what the places announce, vs their values, m the scratch
-unfoldable pub nineRefusal : ℕ → List Header → List Poly → List ℕ → Refusal
-nineRefusal m known vs [] = noRefusal
-nineRefusal m known vs (w ∷ ws) =
-    let h = announcedStep w known in
-    askAt (isNone (stepGate w vs (stored h) m)) 9 (length vs) (nineRefusal m (known ++ (h ∷ [])) (vs ++ (stepValue w vs ∷ [])) ws)
 
 -- 2, 5, 6: by the lengths of coefficients, pool, words and scratch
 unfoldable pub lentRefusal : List ℕ → List ℕ → ℕ → ℕ → ℕ → ℕ → Refusal
@@ -103,8 +97,7 @@ module _ (hs : List ℕ) (cs : List Float) (ss : List ℕ) (pool : List Float) (
   unfoldable pub runRefusal : Refusal
   runRefusal =
       orElse (checkRefusal hs ss)
-      (orElse (lentRefusal hs ss (length cs) (length pool) (length words) (length scratch))
-      (nineRefusal (length scratch) (inputHeads hs) (inputValues hs cs) ss))
+      (lentRefusal hs ss (length cs) (length pool) (length words) (length scratch))
 
   unfoldable pub runEnd : RunEnd
   runEnd = endBy runRefusal

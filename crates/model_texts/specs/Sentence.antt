@@ -11,7 +11,7 @@ use Rattle.model.specs.declared.Refusal.{Refusal}
 use Rattle.model_texts.specs.Printed.{refusedText}
 use Rattle.model_texts.specs.Report.{tell, when}
 
--- by number, of a place; a sheet is never refused by 0, 2, 6 or 9 (document 01)
+-- by number, of a place; a sheet is never refused by 0, 2 or 6 (document 01)
 unfoldable pub placeMeanings : List String
 placeMeanings =
     ""

@@ -14,14 +14,15 @@ use Rattle.model_recipes.specs.Check.{checkRefusal}
 use Rattle.model_recipes.specs.Run.{stepValues, laid, lentRefusal, runRefusal, runEnd, runAnswer, runPool, runWords, runScratch}
 use Rattle.recipes_check.specs.Asks.{or-none}
 use Rattle.recipes_laws.specs.Ends.{end-refused, end-done}
-use Rattle.recipes_laws.specs.Never.{Lent, lent-enough, run-refusal}
+use Rattle.recipes_laws.specs.Refuses.{Lent, lent-enough}
 use Rattle.recipes.specs.Running.{Admitted}
 use Rattle.recipes.specs.Admission.{Admits}
 
 module _ (hs : List ℕ) (cs : List Float) (ss : List ℕ) (pool : List Float) (words : List ℕ) (scratch : List Float) {old new : List ℕ} {r : Refusal}
     (a : Admits hs ss (length cs) (length pool) (length words) (length scratch) old new r) where
   refusal : r ≡ runRefusal hs cs ss pool words scratch
-  refusal = a .answer ∙ sym (run-refusal hs cs ss pool words scratch)
+  unfolding runRefusal
+  refusal = a .answer
 
   module _ (n : r .number ≡ 0 → ⊥) where
     pub no-answer : Refused r ≡ runAnswer hs cs ss pool words scratch

@@ -1,16 +1,16 @@
--- A run after an accepted check, step by step: the values follow what was announced, and no step ahead is refused, by
--- the check or by its operation.
+-- A run after an accepted check, step by step: the values follow what was announced, and every step has what its
+-- operation asks for.
 use Prim.Native.Nat.{ℕ, zero, suc, _+_, _*_, _≤_, _<_}
 use mathlib.Core.Bool.{true}
 use mathlib.Core.List.{List, [], _∷_, _++_}
-use mathlib.Core.Path.{_≡_, refl, sym, ap, _∙_}
+use mathlib.Core.Path.{_≡_, sym, ap, _∙_}
 use native.Mathlib.Omega.{arith}
 use native.Mathlib.Nat.{le-trans}
 use lib.Dec.{ltb, leb}
 use lib.ListN.{length, take, drop, getD, length-map, length-drop}
 use lib.Seq.{getD-drop}
 use lib.Ieee.{Float}
-use borrow.Author.Tests.{leb-true, eq-eqb}
+use borrow.Author.Tests.{leb-true}
 use Rattle.lists.specs.Chain.{chain, chain-at, length-chain}
 use Rattle.model.specs.declared.Header.{Header}
 use Rattle.model.specs.declared.Refusal.{Refusal}
@@ -21,14 +21,14 @@ use Rattle.model.specs.Poly.{Poly}
 use Rattle.model_recipes.specs.Steps.{stepOf}
 use Rattle.model_recipes.specs.Recipe.{familyOf, headAt, announcedStep, inputHeads, announcedPlaces, announcedSteps, total, largest}
 use Rattle.model_recipes.specs.Check.{askAt, formed, stepRefusal, checkRefusal}
-use Rattle.model_recipes.specs.Run.{inputValues, noValue, valueAt, stepValue, values, nineRefusal}
+use Rattle.model_recipes.specs.Run.{inputValues, noValue, valueAt, stepValue, values}
 use Rattle.shape.specs.Under.{announced-under, count-under}
 use Rattle.shape.specs.Keeps.{Keeps, keeps-good}
 use Rattle.recipes_check.specs.Asks.{ask-none}
 use Rattle.recipes_check.specs.Judged.{accepts}
 use Rattle.recipes_laws.specs.Outcome.{ClearSteps, Outcome, by-sizes, at-input, at-step, not-refused, outcome}
 use Rattle.recipes_laws.specs.Follows.{Follows, step-keeps, follows-more, length-inputs, inputs-follow}
-use Rattle.recipes_laws.specs.Passed.{StepReady, inLimit, step-passes}
+use Rattle.recipes_laws.specs.Passed.{StepReady, inLimit}
 
 -- ---- one step
 
@@ -81,13 +81,9 @@ pub record Ahead (m : ℕ) (known : List Header) (vs : List Poly) (ws : List ℕ
   pub room : (i : ℕ) → i < length ws → 8 * stored (announcedStep (getD ws i 0) (chain announcedStep known (take i ws))) ≤ m
 
 module _ {m : ℕ} {known : List Header} {vs : List Poly} (w : ℕ) (ws : List ℕ) (a : Ahead m known vs (w ∷ ws)) where
-  pub first-clear : Clear w known
+  first-clear : Clear w known
   unfolding chain
   first-clear = clear w known (a .clear 0 (omega arith))
-
-  pub first-ready : StepReady w vs (stored (announcedStep w known)) m
-  unfolding chain
-  first-ready = step-ready w (a .now) first-clear (omega arith) (a .room 0 (omega arith))
 
   pub ahead-next : Ahead m (known ++ (announcedStep w known ∷ [])) (vs ++ (stepValue w vs ∷ [])) ws
   unfolding chain
@@ -105,13 +101,6 @@ unfolding chain
 ahead-after ws a zero = a
 ahead-after [] a (suc i) = a
 ahead-after (w ∷ ws) a (suc i) = ahead-after ws (ahead-next w ws a) i
-
--- no step's operation refuses
-pub nine-none : {m : ℕ} {known : List Header} {vs : List Poly} (ws : List ℕ) → Ahead m known vs ws → nineRefusal m known vs ws ≡ noRefusal
-unfolding nineRefusal
-nine-none [] a = refl
-nine-none {m} {known} {vs} (w ∷ ws) a =
-    rw (eq-eqb _ _ (step-passes w vs (stored (announcedStep w known)) m (first-ready w ws a))) (nine-none ws (ahead-next w ws a))
 
 -- ---- a recipe, hs its inputs' header words, cs their coefficients, ss its step words
 

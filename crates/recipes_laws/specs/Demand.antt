@@ -1,6 +1,6 @@
 -- Demand 3: 'If the check accepts and the buffers are as long as it says, then for any coefficients the run finishes
 -- every step (answers done), each limit is exactly the one announced, no stored length exceeds its announced one, and
--- each value is the operation's value (demand 2's definition) of its operands' values. So refusal 9 never happens.'
+-- each value is the operation's value (demand 2's definition) of its operands' values.'
 -- Said of definitions of the room model alone, for all words, coefficients and buffers. The theorem is `demand-3`,
 -- Demanded.antt.
 use Prim.Native.Nat.{ℕ, _+_, _*_, _≤_, _<_}
@@ -10,10 +10,9 @@ use mathlib.Core.Path.{_≡_}
 use lib.ListN.{length, take, drop, getD}
 use lib.Ieee.{Float}
 use Rattle.model.specs.declared.Header.{Header}
-use Rattle.model.specs.declared.Refusal.{Refusal}
 use Rattle.model_recipes.specs.declared.Step.{Step}
 use Rattle.model_recipes.specs.declared.CheckAnswer.the-variants.{Accepted}
-use Rattle.model_recipes.specs.declared.RunAnswer.the-variants.{Done, Refused}
+use Rattle.model_recipes.specs.declared.RunAnswer.the-variants.{Done}
 use Rattle.model.specs.Header.{len, stored, noHeader, goodHeader}
 use Rattle.model.specs.Word.{wordOf}
 use Rattle.model.specs.Refusals.{padded}
@@ -93,5 +92,3 @@ module _ (hs : List ℕ) (cs : List Float) (ss : List ℕ) (pool : List Float) (
     pub finishes : (places most inputs : ℕ) → checkAnswer hs ss ≡ Accepted places most inputs → inputs ≤ length cs
         → places ≤ length pool → length ss ≤ length words
         → 8 * most ≤ length scratch → Finished
-    -- with any buffers
-    pub never-9 : (r : Refusal) → runAnswer hs cs ss pool words scratch ≡ Refused r → r .number ≡ 9 → ⊥

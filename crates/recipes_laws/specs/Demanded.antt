@@ -1,21 +1,20 @@
 -- Demand 3 is kept.
 use Prim.Native.Nat.{ℕ}
 use mathlib.Core.List.{List}
-use mathlib.Core.Path.{_≡_, sym, ap}
+use mathlib.Core.Path.{_≡_, ap}
 use native.Mathlib.Omega.{arith}
 use lib.ListN.{length}
 use lib.Ieee.{Float}
 use Rattle.model.specs.declared.Header.{Header}
 use Rattle.model.specs.declared.Refusal.{Refusal}
-use Rattle.model_recipes.specs.declared.RunAnswer.the-variants.{Refused}
 use Rattle.model.specs.Poly.{Poly}
 use Rattle.model_recipes.specs.Check.{checkRefusal}
 use Rattle.model_recipes.specs.Run.{runRefusal, runEnd, runAnswer}
 use Rattle.shape_words.specs.Rules.{Good, header-good}
 use Rattle.shape.specs.Keeps.{Keeps, keeps-good}
 use Rattle.recipes_laws.specs.Numbers.{numbers}
-use Rattle.recipes_laws.specs.Ends.{end-done, answer-refused}
-use Rattle.recipes_laws.specs.Never.{Lent, run-none, run-small}
+use Rattle.recipes_laws.specs.Ends.{end-done}
+use Rattle.recipes_laws.specs.Refuses.{Lent, run-none}
 use Rattle.recipes_laws.specs.Values.{follows-all, step-computed, inputs-first}
 use Rattle.recipes_laws.specs.Buffers.{word-kept, coeffs-kept}
 use Rattle.recipes_laws.specs.Demand.{AsAnnounced, Finished, Demand3}
@@ -46,11 +45,6 @@ module _ (hs : List ℕ) (cs : List Float) (ss : List ℕ) (pool : List Float) (
             };
       }
 
-  -- an answer that refuses says the run's refusal
-  refused : (q : Refusal) → runAnswer hs cs ss pool words scratch ≡ Refused q → q ≡ r
-  unfolding runAnswer runEnd
-  refused q e = sym (answer-refused r (sym e) .0)
-
   pub demand-3 : Demand3 hs cs ss pool words scratch
   demand-3 =
       record {
@@ -58,5 +52,4 @@ module _ (hs : List ℕ) (cs : List Float) (ss : List ℕ) (pool : List Float) (
             let n = numbers hs ss places most inputs e in
             finished (n .none)
             (record { coeffs = omega (arith, n .inputs-are); pool = omega (arith, n .pool-is); words = w; scratch = omega (arith, n .most-is) });
-        never-9 = λ q e n. omega (arith, run-small hs cs ss pool words scratch, ap (λ (x : Refusal). x .number) (refused q e));
       }

@@ -15,5 +15,6 @@ pub mod Demand
 pub mod Computes
 pub mod Values
 pub mod Buffers
-pub mod Never
+pub mod Refuses
+pub mod RunExact
 pub mod Demanded

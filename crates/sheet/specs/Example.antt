@@ -11,12 +11,11 @@ use Rattle.model.specs.Header.{span, goodVar, goodVars, goodHeader}
 use Rattle.model.specs.Word.{headerOf, goodWord, fields, wordOf}
 use Rattle.model.specs.Places.{strides, offset, index, inside}
 use Rattle.model.specs.Announced.{single, paired, announced}
-use Rattle.model.specs.Gates.{inGate}
 use Rattle.model.specs.Shifts.{rowsFrom, rowSum, shiftDownPoly}
 use Rattle.model_recipes.specs.Steps.{stepOf, rows}
 use Rattle.model_recipes.specs.Recipe.{families, announcedStep, announcedPlaces, announcedSteps, total, largest}
 use Rattle.model_recipes.specs.Check.{orElse, rightSizes, formed, stepRefusal, inputsRefusal, stepsRefusal, checkRefusal}
-use Rattle.model_recipes.specs.Run.{inputValues, operations, stepValue, values, stepValues, gates, stepGate, nineRefusal, lentRefusal, runRefusal}
+use Rattle.model_recipes.specs.Run.{inputValues, operations, stepValue, values, stepValues, lentRefusal, runRefusal}
 use Rattle.model_texts.specs.Hex.{isDigit, digitOf, digitFor, isLine, wordAt, hexLine, hexLines}
 use Rattle.model_texts.specs.Printed.{digits, decimal, doneText, refusedText}
 use Rattle.model_texts.specs.Sheet.{ownRefusal, recipeRefusal, inputCount, stepCount, spare, sheetHeaders}
@@ -51,30 +50,30 @@ refusedOutput = 114 ∷ 101 ∷ 102 ∷ 117 ∷ 115 ∷ 101 ∷ 100 ∷ 32 ∷ 5
 pub example-holds : sheetOutput exampleSheet ≡ exampleOutput
 unfolding exampleSheet exampleOutput sheetOutput lastValue sheetRefusal readRefusal headersRefusal sheetSteps
     sheetCoefficients coefficientCount sheetHeaders spare stepCount inputCount recipeRefusal ownRefusal refusedText
-    doneText decimal digits hexLines hexLine wordAt isLine digitFor digitOf isDigit runRefusal lentRefusal nineRefusal
-    stepGate gates stepValues values stepValue operations inputValues checkRefusal stepsRefusal inputsRefusal
-    stepRefusal formed rightSizes orElse largest total announcedSteps announcedPlaces announcedStep families rows stepOf
-    shiftDownPoly rowSum rowsFrom inGate announced paired single inside index offset strides wordOf fields goodWord
-    headerOf goodHeader goodVars goodVar span walk table every chain ofBits toBits neg add sub mul div eq ofInt
+    doneText decimal digits hexLines hexLine wordAt isLine digitFor digitOf isDigit runRefusal lentRefusal stepValues
+    values stepValue operations inputValues checkRefusal stepsRefusal inputsRefusal stepRefusal formed rightSizes
+    orElse largest total announcedSteps announcedPlaces announcedStep families rows stepOf shiftDownPoly rowSum
+    rowsFrom announced paired single inside index offset strides wordOf fields goodWord headerOf goodHeader goodVars
+    goodVar span walk table every chain ofBits toBits neg add sub mul div eq ofInt
 example-holds = refl
 
 -- one byte more, or none at all
 pub byte-behind : sheetOutput (exampleSheet ++ (10 ∷ [])) ≡ refusedOutput
 unfolding exampleSheet refusedOutput sheetOutput lastValue sheetRefusal readRefusal headersRefusal sheetSteps
     sheetCoefficients coefficientCount sheetHeaders spare stepCount inputCount recipeRefusal ownRefusal refusedText
-    doneText decimal digits hexLines hexLine wordAt isLine digitFor digitOf isDigit runRefusal lentRefusal nineRefusal
-    stepGate gates stepValues values stepValue operations inputValues checkRefusal stepsRefusal inputsRefusal
-    stepRefusal formed rightSizes orElse largest total announcedSteps announcedPlaces announcedStep families rows stepOf
-    shiftDownPoly rowSum rowsFrom inGate announced paired single inside index offset strides wordOf fields goodWord
-    headerOf goodHeader goodVars goodVar span walk table every chain ofBits toBits neg add sub mul div eq ofInt
+    doneText decimal digits hexLines hexLine wordAt isLine digitFor digitOf isDigit runRefusal lentRefusal stepValues
+    values stepValue operations inputValues checkRefusal stepsRefusal inputsRefusal stepRefusal formed rightSizes
+    orElse largest total announcedSteps announcedPlaces announcedStep families rows stepOf shiftDownPoly rowSum
+    rowsFrom announced paired single inside index offset strides wordOf fields goodWord headerOf goodHeader goodVars
+    goodVar span walk table every chain ofBits toBits neg add sub mul div eq ofInt
 byte-behind = refl
 
 pub nothing-there : sheetOutput [] ≡ refusedOutput
 unfolding refusedOutput sheetOutput lastValue sheetRefusal readRefusal headersRefusal sheetSteps sheetCoefficients
     coefficientCount sheetHeaders spare stepCount inputCount recipeRefusal ownRefusal refusedText doneText decimal
-    digits hexLines hexLine wordAt isLine digitFor digitOf isDigit runRefusal lentRefusal nineRefusal stepGate gates
-    stepValues values stepValue operations inputValues checkRefusal stepsRefusal inputsRefusal stepRefusal formed
-    rightSizes orElse largest total announcedSteps announcedPlaces announcedStep families rows stepOf shiftDownPoly
-    rowSum rowsFrom inGate announced paired single inside index offset strides wordOf fields goodWord headerOf
-    goodHeader goodVars goodVar span walk table every chain ofBits toBits neg add sub mul div eq ofInt
+    digits hexLines hexLine wordAt isLine digitFor digitOf isDigit runRefusal lentRefusal stepValues values stepValue
+    operations inputValues checkRefusal stepsRefusal inputsRefusal stepRefusal formed rightSizes orElse largest total
+    announcedSteps announcedPlaces announcedStep families rows stepOf shiftDownPoly rowSum rowsFrom announced paired
+    single inside index offset strides wordOf fields goodWord headerOf goodHeader goodVars goodVar span walk table
+    every chain ofBits toBits neg add sub mul div eq ofInt
 nothing-there = refl

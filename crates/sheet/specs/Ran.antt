@@ -24,7 +24,7 @@ use Rattle.shape.specs.Under.{count-under}
 use Rattle.recipes_check.specs.Asks.{or-next}
 use Rattle.recipes_laws.specs.Follows.{Follows}
 use Rattle.recipes_laws.specs.Ends.{answer-refused, answer-done}
-use Rattle.recipes_laws.specs.Never.{run-none}
+use Rattle.recipes_laws.specs.Refuses.{run-none}
 use Rattle.recipes_laws.specs.Ahead.{announced-at, length-announced, step-largest}
 use Rattle.recipes_laws.specs.Values.{follows-all}
 use Rattle.recipes_laws.specs.Buffers.{word-kept, coeffs-kept}

@@ -18,7 +18,7 @@ use Rattle.model_recipes.specs.declared.RunAnswer.the-variants as run-answer
 use Rattle.model.specs.Refusals.{isNone}
 use Rattle.model_recipes.specs.Check.{checkRefusal, checkBy, checkAnswer}
 use Rattle.model_recipes.specs.Run.{endBy, endAnswer, runRefusal, runEnd, runAnswer}
-use Rattle.recipes_laws.specs.Never.{check-small, run-small}
+use Rattle.recipes_laws.specs.Refuses.{check-small, run-small}
 use Rattle.taylor.specs.Face.{wordOfRefusal, wordOfCheck, poolAfter, largestAfter, inputsAfter, wordOfRun}
 use Rattle.taylor.specs.Apart.{refusalFrom, refusal-from}
 

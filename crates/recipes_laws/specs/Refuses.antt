@@ -1,9 +1,8 @@
--- Refusal 9 never happens, whatever words, coefficients and buffers are handed in: after the check and tests 2, 5, 6 no
--- step's operation refuses.
+-- What refuses a run: the check, by 7 at most, or a buffer that is too short, by 2, 5 or 6.
 use Prim.Native.Nat.{ℕ, _*_, _≤_}
 use mathlib.Core.Bool.{Bool, true, false, _&&_}
 use mathlib.Core.List.{List}
-use mathlib.Core.Path.{_≡_, sym, ap, _∙_}
+use mathlib.Core.Path.{_≡_, _∙_}
 use native.Mathlib.Omega.{arith}
 use lib.Dec.{leb}
 use lib.ListN.{length}
@@ -14,14 +13,13 @@ use Rattle.model.specs.declared.Header.{Header}
 use Rattle.model.specs.declared.Refusal.{Refusal}
 use Rattle.model.specs.Refusals.{ask, noRefusal}
 use Rattle.model_recipes.specs.Recipe.{inputHeads, announcedSteps, total, largest}
-use Rattle.model_recipes.specs.Check.{orElse, checkRefusal}
+use Rattle.model_recipes.specs.Check.{checkRefusal}
 use Rattle.model_recipes.specs.Reasons.{StepReason, wrong-word, no-variable, large-n, large-count}
-use Rattle.model_recipes.specs.Run.{inputValues, nineRefusal, lentRefusal, runRefusal}
+use Rattle.model_recipes.specs.Run.{lentRefusal, runRefusal}
 use Rattle.gates.specs.Gate.{passed}
 use Rattle.recipes_check.specs.Asks.{or-first, or-next, by-refusal}
 use Rattle.recipes_laws.specs.StepReasons.{step-stopped}
 use Rattle.recipes_laws.specs.Outcome.{Outcome, by-sizes, at-input, at-step, not-refused, outcome}
-use Rattle.recipes_laws.specs.Ahead.{ahead, nine-none}
 
 -- ---- the check refuses by 7 at most
 
@@ -84,35 +82,14 @@ module _ (hs : List ℕ) (cs : List Float) (ss : List ℕ) (pool : List Float) (
   abbrev lent : Refusal
   lent = lentRefusal hs ss (length cs) (length pool) (length words) (length scratch)
 
-  abbrev nine : Refusal
-  nine = nineRefusal (length scratch) (inputHeads hs) (inputValues hs cs) ss
-
-  module _ (none : checkRefusal hs ss .number ≡ 0) (l : Lent hs ss (length cs) (length pool) (length words) (length scratch)) where
-    pub no-nine : nine ≡ noRefusal
-    no-nine = nine-none ss (ahead hs cs ss none (l .coeffs) (l .scratch))
-
-    pub run-none : runRefusal hs cs ss pool words scratch ≡ noRefusal
-    unfolding runRefusal
-    run-none =
-        or-next (checkRefusal hs ss) (orElse lent nine) none
-        ∙ (or-next lent nine (ap (λ (x : Refusal). x .number) (lent-none hs ss _ _ _ _ l)) ∙ no-nine)
-
-  -- the check and tests 2, 5, 6 are all that refuses
-  pub run-refusal : runRefusal hs cs ss pool words scratch ≡ orElse (checkRefusal hs ss) lent
+  pub run-none : checkRefusal hs ss .number ≡ 0 → Lent hs ss (length cs) (length pool) (length words) (length scratch)
+      → runRefusal hs cs ss pool words scratch ≡ noRefusal
   unfolding runRefusal
-  run-refusal =
-      by-refusal (checkRefusal hs ss)
-      (λ z.
-      or-next (checkRefusal hs ss) (orElse lent nine) z
-      ∙ (by-refusal lent
-      (λ y. let l = lent-enough hs ss _ _ _ _ y in or-next lent nine y ∙ (no-nine z l ∙ sym (lent-none hs ss _ _ _ _ l)))
-      (λ n. or-first {r = lent} nine n)
-      ∙ sym (or-next (checkRefusal hs ss) lent z)))
-      (λ n. or-first {r = checkRefusal hs ss} (orElse lent nine) n ∙ sym (or-first {r = checkRefusal hs ss} lent n))
+  run-none none l = or-next (checkRefusal hs ss) lent none ∙ lent-none hs ss _ _ _ _ l
 
   pub run-small : runRefusal hs cs ss pool words scratch .number ≤ 7
+  unfolding runRefusal
   run-small =
-      rw run-refusal
-      (by-refusal (checkRefusal hs ss)
+      by-refusal (checkRefusal hs ss)
       (λ z. rw (or-next (checkRefusal hs ss) lent z) (omega (arith, lent-small hs ss (length cs) (length pool) (length words) (length scratch))))
-      (λ n. rw (or-first {r = checkRefusal hs ss} lent n) (check-small hs ss)))
+      (λ n. rw (or-first {r = checkRefusal hs ss} lent n) (check-small hs ss))
