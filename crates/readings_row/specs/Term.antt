@@ -1,13 +1,13 @@
 -- `taylor_polynomial` and `coefficients_of_term`: what they ask of their kernels, and what they write.
 use Prim.Native.Nat.{ℕ, _+_, _-_, _≤_, _<_}
 use mathlib.Core.List.{List, [], _∷_, _++_, append-nil}
-use mathlib.Core.Path.{_≡_, sym, ap, _∙_}
+use mathlib.Core.Path.{_≡_, refl, sym, ap, _∙_}
 use native.Mathlib.Omega.{arith}
 use native.Mathlib.Nat.{le-refl}
 use lib.Dec.{eqb, lit<}
 use lib.ListN.{length, drop, set}
 use lib.Ieee.{Float}
-use borrow.Author.Tests.{le-leb, lt-leb}
+use borrow.Author.Tests.{le-leb, lt-leb, eq-eqb}
 use Rattle.lists.specs.Test.{of-both}
 use Rattle.lists.specs.Four.{at-four}
 use Rattle.lists.specs.Table.{table}
@@ -61,6 +61,12 @@ pub term-inner : (v : ℕ) {h : Header} → Ruled h → (k : ℕ) → k < 4 → 
 unfolding announced
 term-inner v {h} g = inner (Term v) h (λ k p. of-both (λ (x : ℕ). x ≤ len h k) (eqb k v) (ruled-at g k p .pos) (le-refl (len h k)))
 
+-- and the row's own variable has length 1
+term-alone : (v : ℕ) (h : Header) → v < 4 → len (announced (Term v) h noHeader) v ≡ 1
+unfolding announced single
+term-alone v h p =
+    at-four (λ k. lengthAfter (Term v) k (limitAfter (Term v) k (limit h k)) 1 (len h k) 1) v p ∙ (rw (eq-eqb v v refl))
+
 pub order-inner : (v n : ℕ) (h : Header) (k : ℕ) → k < 4 → len (announced (Order v n) h noHeader) k ≤ len h k
 unfolding announced
 order-inner v n h = inner (Order v n) h (λ k p. of-both (λ (x : ℕ). x ≤ len h k) (eqb k v) (omega arith) (le-refl (len h k)))
@@ -98,6 +104,7 @@ module _ {h r : Header} {v m l : ℕ} (t : Termed h r v m l) where
         to = lengths-of (termed-regular .rules);
         var = t .var;
         row = p;
+        alone = rw (t .is) (term-alone v h (t .var));
         inner = rw (t .is) (term-inner v (t .rules));
         room = omega (arith, t .full);
         full = t .room;

@@ -1,4 +1,5 @@
 // One row of a variable taken out of a block.
+use blocks::copy;
 use model::Header;
 ghost use mathlib.Core.Path.{_≡_};
 ghost use Prim.Native.Nat.{_<_};
@@ -13,18 +14,22 @@ ghost use Rattle.readings_row.specs.Rows.{Picking};
 ghost use Rattle.readings_row.specs.Term.{Termed};
 
 // The row `order` of the variable v of a block with the lengths n, which stores it; c are the lengths of what is
-// written.
+// written, 1 in v. What lies side by side in the last variable is copied at once.
 pub fn pick(a: &[f64], n: [usize; 4], c: [usize; 4], v: usize, order: usize, to: &mut [f64])
     requires { ⌜ Picking n c v order (length (now a)) (length (now to)) ⌝ }
     ensures { λ _. ⌜ now (to .exit) ≡ table (count c) (λ k. readAt (block n (now (a .entry))) (set (index c k) v order)) ⌝ }
 {
-    let mut k = 0;
-    while k < to.len() {
-        let mut i = shape_words::places::index_of(c, k);
-        i[v] = order;
-        let from = shape_words::places::place_of(n, i);
-        to[k] = a[from];
-        k += 1;
+    let width = c[3];
+    let mut at = 0;
+    let mut i = [0usize; 4];
+    while at < to.len() {
+        let mut j = i;
+        j[v] = order;
+        let from = shape_words::places::place_of(n, j);
+        copy(&a[from..from + width], &mut to[at..at + width]);
+        at += width;
+        let next = shape_words::places::next_row(c, i);
+        i = next;
     }
 }
 

@@ -35,7 +35,7 @@ use Rattle.product.specs.Times.{cut-none}
 use Rattle.substitution.specs.Room.{rowOf, Puts, turns, Hornering}
 use Rattle.substitution_turn.specs.Room.{Turning, timesPut, turnOf, Turned}
 use Rattle.substitution_turn.specs.Turn.{block-is, times-sits, turn-small, turn-row}
-use Rattle.substitution.specs.Sizes.{row-in-la, row-parts, row-under, put-under, put-small}
+use Rattle.substitution.specs.Sizes.{row-alone, row-in-la, row-parts, row-under, put-under, put-small}
 
 -- ---- what is put, cut beforehand
 
@@ -82,6 +82,7 @@ module _ {la : List ℕ} {v k : ℕ} {r b c l : List ℕ} {n ma mo mw : ℕ} (g 
     to = under-lengths (g .row) (g .caps);
     var = g .var;
     row = g .rows;
+    alone = rw (g .is-c) (row-alone l la (g .var));
     inner = rw (g .is-c) (row-in-la l la (g .var) (g .left));
     room = omega (arith, g .full);
     full = e;

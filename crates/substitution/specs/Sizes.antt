@@ -7,7 +7,7 @@ use native.Mathlib.Omega.{arith}
 use native.Mathlib.Nat.{le-trans, le-refl, mul-le-mul-right}
 use lib.ListN.{length, set}
 use lib.Ieee.{Float}
-use Rattle.lists.specs.Four.{at, one-changed}
+use Rattle.lists.specs.Four.{at, at-same, one-changed}
 use Rattle.lists.specs.Table.{table}
 use Rattle.model.specs.Header.{count, ones}
 use Rattle.model.specs.Places.{index}
@@ -34,6 +34,10 @@ pub row-in-la : (l la : List ℕ) {v : ℕ} → v < 4 → Lengths la → (k : �
 row-in-la l la {v} h g =
     one-changed (λ k x. x ≤ at la k) (cutTo l la) v 1 (cut-long l la h) (lengths-pos g v h) (λ k i o. rw (cut-at l la k i) (omega arith))
 
+-- and has length 1 in its own variable
+pub row-alone : (l la : List ℕ) {v : ℕ} → v < 4 → at (rowOf l v la) v ≡ 1
+row-alone l la {v} h = at-same (cutTo l la) v 1 (cut-long l la h)
+
 -- what the zero and the linear way are lent: c the lengths worked out
 module _ {la c : List ℕ} {v ma mo : ℕ} (t : Cuts la c v ma mo) {r : List ℕ} (e : r ≡ c) where
   pub cuts-lens : Lengths r
@@ -42,13 +46,14 @@ module _ {la c : List ℕ} {v ma mo : ℕ} (t : Cuts la c v ma mo) {r : List ℕ
   pub cuts-fits : {z : ℕ} → z ≡ count r → z ≤ mo
   cuts-fits k = omega (arith, k, ap count e, t .fits)
 
-  pub cuts-picks : {m : ℕ} → m ≡ count r → Picking la r v 0 ma m
-  cuts-picks k =
+  pub cuts-picks : {m : ℕ} → at c v ≡ 1 → m ≡ count r → Picking la r v 0 ma m
+  cuts-picks o k =
       record {
         from = t .left;
         to = cuts-lens;
         var = t .var;
         row = lengths-pos (t .left) v (t .var);
+        alone = rw e o;
         inner = rw e (t .inner);
         room = omega (arith, t .full);
         full = k;
@@ -102,6 +107,7 @@ module _ {la lb l : List ℕ} {v n ma mb mo mw : ℕ} (p : Puts la lb l v n ma m
         to = row-lens;
         var = p .var;
         row = h;
+        alone = row-alone l la (p .var);
         inner = row-in-la l la (p .var) (p .left);
         room = omega (arith, p .full-a);
         full = rw e at f;

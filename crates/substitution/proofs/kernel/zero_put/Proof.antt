@@ -1,7 +1,7 @@
 use mathlib.Core.Path.{refl, sym, _∙_}
 use lib.Seq.{length-take-le}
 use Rattle.product.specs.Ways.{put-front}
-use Rattle.substitution.specs.Sizes.{cuts-lens, cuts-fits, cuts-picks, row-parts}
+use Rattle.substitution.specs.Sizes.{row-alone, cuts-lens, cuts-fits, cuts-picks, row-parts}
 use borrow.Author.Needs.{needs}
 use Rattle.substitution.proofs.kernel.zero_put.Statement.{statement}
 use Rattle.substitution.proofs.kernel.zero_put.Tie as tie
@@ -21,6 +21,7 @@ pick-requires : tie.Need-pick-requires
 pick-requires c κs =
     let start = c .before .before .before .before .before in
     cuts-picks (start .pre) (c .before .before .row-lengths .ensures)
+    (row-alone (start .args .limits) (start .args .la) (start .pre .var))
     (length-take-le _ (start .args .out .now)
     (cuts-fits (start .pre) (c .before .before .row-lengths .ensures) (c .before .count-of .ensures))
     ∙ c .before .count-of .ensures)
