@@ -1,2 +1,4 @@
 pub mod Rows
+pub mod Stretches
+pub mod Whole
 pub mod Term

@@ -33,7 +33,7 @@ four-long : (c : List ℕ) (k : ℕ) → length (index c k) ≡ 4
 unfolding index
 four-long c k = refl
 
-pick-inside : {n c : List ℕ} {v d m l : ℕ} → Picking n c v d m l → (k : ℕ) → k < count c → Inside n (set (index c k) v d)
+pub pick-inside : {n c : List ℕ} {v d m l : ℕ} → Picking n c v d m l → (k : ℕ) → k < count c → Inside n (set (index c k) v d)
 pick-inside {n} {c} {v} {d} p k h =
     let t = index-inside c k (p .to) h in
     let w = p .var in

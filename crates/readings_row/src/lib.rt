@@ -11,11 +11,54 @@ ghost use Rattle.model.specs.Refusals.{padded};
 ghost use Rattle.model.specs.Poly.{poly, block, readAt};
 ghost use Rattle.model.specs.Readings.{coefficientsOfTerm};
 ghost use Rattle.readings_row.specs.Rows.{Picking};
+ghost use Rattle.readings_row.specs.Stretches.{Stretched, stretchAt};
 ghost use Rattle.readings_row.specs.Term.{Termed};
 
-// The row `order` of the variable v of a block with the lengths n, which stores it; c are the lengths of what is
-// written, 1 in v. What lies side by side in the last variable is copied at once.
-pub fn pick(a: &[f64], n: [usize; 4], c: [usize; 4], v: usize, order: usize, to: &mut [f64])
+// Every `step`-th place from `from` on.
+fn pick_every(a: &[f64], from: usize, step: usize, to: &mut [f64])
+    requires { ⌜ Stretched from 1 step (length (now a)) (length (now to)) ⌝ }
+    ensures { λ _. ⌜ now (to .exit) ≡ table (length (now (to .entry))) (stretchAt (now (a .entry)) from 1 step) ⌝ }
+{
+    let mut k = 0;
+    let mut at = from;
+    while k < to.len() {
+        to[k] = a[at];
+        k += 1;
+        at += step;
+    }
+}
+
+// Stretches of `width` places, `step` apart, from `from` on.
+fn pick_stretches(a: &[f64], from: usize, width: usize, step: usize, to: &mut [f64])
+    requires { ⌜ Stretched from width step (length (now a)) (length (now to)) ⌝ }
+    ensures { λ _. ⌜ now (to .exit) ≡ table (length (now (to .entry))) (stretchAt (now (a .entry)) from width step) ⌝ }
+{
+    let mut k = 0;
+    let mut at = from;
+    while k < to.len() {
+        copy(&a[at..at + width], &mut to[k..k + width]);
+        k += width;
+        at += step;
+    }
+}
+
+// The row `order` of v, where the lengths c cut nothing: its places lie in stretches as long as v's stride.
+fn pick_whole(a: &[f64], n: [usize; 4], v: usize, order: usize, to: &mut [f64])
+    requires { ⌜ Picking n (set n v 1) v order (length (now a)) (length (now to)) ⌝ }
+    ensures { λ _. ⌜ now (to .exit) ≡ table (count (set n v 1)) (λ k. readAt (block n (now (a .entry))) (set (index (set n v 1) k) v order)) ⌝ }
+{
+    let s = shape_words::places::strides_of(n);
+    let width = s[v];
+    let step = n[v] * width;
+    if width == 1 {
+        pick_every(a, order, step, to);
+    } else {
+        pick_stretches(a, order * width, width, step, to);
+    }
+}
+
+// The row `order` of v inside the lengths c, row by row of the last variable.
+fn pick_rows(a: &[f64], n: [usize; 4], c: [usize; 4], v: usize, order: usize, to: &mut [f64])
     requires { ⌜ Picking n c v order (length (now a)) (length (now to)) ⌝ }
     ensures { λ _. ⌜ now (to .exit) ≡ table (count c) (λ k. readAt (block n (now (a .entry))) (set (index c k) v order)) ⌝ }
 {
@@ -30,6 +73,21 @@ pub fn pick(a: &[f64], n: [usize; 4], c: [usize; 4], v: usize, order: usize, to:
         at += width;
         let next = shape_words::places::next_row(c, i);
         i = next;
+    }
+}
+
+// The row `order` of the variable v of a block with the lengths n, which stores it; c are the lengths of what is
+// written, 1 in v.
+pub fn pick(a: &[f64], n: [usize; 4], c: [usize; 4], v: usize, order: usize, to: &mut [f64])
+    requires { ⌜ Picking n c v order (length (now a)) (length (now to)) ⌝ }
+    ensures { λ _. ⌜ now (to .exit) ≡ table (count c) (λ k. readAt (block n (now (a .entry))) (set (index c k) v order)) ⌝ }
+{
+    let mut row = n;
+    row[v] = 1;
+    if blocks::is_same(row, c) {
+        pick_whole(a, n, v, order, to);
+    } else {
+        pick_rows(a, n, c, v, order, to);
     }
 }
 
