@@ -51,7 +51,8 @@ module _ {a : List Float} {from width step : ℕ} {to : List Float} where
         let m : (k + j) % width ≡ j = ap (λ (x : ℕ). x % width) e ∙ digits-mod (g .q) l in
         rw (d, m, g .at-is)
 
-    pub going-more : {row : List Float} → row ≡ take width (drop at a) → Going a from width step to (take k out ++ (row ++ drop (k + width) out)) (k + width) (at + step)
+    pub going-more : {row : List Float} → row ≡ take width (drop at a)
+        → Going a from width step to (take k out ++ (row ++ drop (k + width) out)) (k + width) (at + step)
     going-more e = record {
       q = suc (g .q);
       k-is = omega (arith, g .k-is, suc-mul (g .q) width);

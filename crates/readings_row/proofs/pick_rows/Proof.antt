@@ -39,7 +39,12 @@ from-fits : (c : tie.After-place-of Inv-loop μ-loop) →
     c .place-of .result + at (start .args .t3) 3 ≤ length (start .args .a .now)
 from-fits c =
     let start = c .before .before .before .before .before in let a = start .args in
-    omega (arith, c .place-of .ensures, pick-from (a .n) (a .t3) (a .v) (a .order) (a .a .now) (a .to .now) (start .pre) (c .before .before .loop .inv .1) (more (c .before)))
+    omega (
+      arith,
+      c .place-of .ensures,
+      pick-from (a .n) (a .t3) (a .v) (a .order) (a .a .now) (a .to .now)
+          (start .pre) (c .before .before .loop .inv .1) (more (c .before)),
+    )
 
 copied : (c : tie.After-copy Inv-loop μ-loop) →
     let start = c .before .before .before .before .before .before .before .before in
