@@ -15,7 +15,7 @@ use Rattle.lists.specs.Table.{table, table-same}
 use Rattle.model.specs.Header.{count, span}
 use Rattle.model.specs.Places.{strides, place, index}
 use Rattle.model.specs.Poly.{block, readAt}
-use Rattle.shape_words.specs.Lengths.{Lengths, Inside, count-is, count-pos}
+use Rattle.shape_words.specs.Lengths.{Lengths, Inside, lengths-most, count-is, count-pos}
 use Rattle.shape_words.specs.Places.{place-lt, index-inside, place-index, horner}
 use Rattle.blocks.specs.Same.{Same, same-count}
 use Rattle.readings_row.specs.Rows.{Picking, pick-inside}
@@ -203,9 +203,6 @@ module _ (n : List ℕ) (d m l : ℕ) where
           mul-one (at n 0 * (at n 1 * at n 2)),
         ));
       })
-
-lengths-most : {n : List ℕ} → Lengths n → (k : ℕ) → k < 4 → at n k ≤ 64
-lengths-most {n} g = each (λ k. at n k ≤ 64) (g .m0) (g .m1) (g .m2) (g .m3)
 
 -- three lengths
 small-stride : {n : List ℕ} → Lengths n → (v : ℕ) → v < 4 → at (strides n) v ≤ 262144
