@@ -7,7 +7,7 @@ use native.Mathlib.Omega.{arith}
 use native.Mathlib.Nat.{mul-le-mul, mul-pos, le-refl}
 use lib.ListN.{length, getD}
 use lib.Seq.{getD-take}
-use lib.Ieee.{Float, nan, add, binary64}
+use lib.Ieee.{Float, nan}
 use Rattle.lists.specs.Four.{at}
 use Rattle.model.specs.Header.{count, stored, len}
 use Rattle.model.specs.Word.{headerOf}
@@ -17,10 +17,6 @@ use Rattle.model.specs.Poly.{blockOf, held, coefficientAt}
 use Rattle.shape_words.specs.Lengths.{Lengths, count-is, count-pos, lengths-of, inside-is}
 use Rattle.shape_words.specs.Places.{place-lt}
 use Rattle.gates.specs.Gate.{ReadReady}
-
--- what the loop of a sum does with each place
-abbrev pub plusAt : List Float → ℕ → Float → Float
-plusAt a i acc = add binary64 acc (getD a i nan)
 
 pub read-lengths : {w m : ℕ} → ReadReady w m → Lengths (headerOf w .lengths)
 read-lengths g = lengths-of (g .good .regular .rules)

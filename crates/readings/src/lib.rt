@@ -1,5 +1,4 @@
 // Constructors and readings (document 01, port order 2, and 'Tail'). Each takes any words, numbers and buffers.
-pub mod kernel;
 pub mod line;
 
 use gates::stored_of;
@@ -8,6 +7,8 @@ use model::Family;
 use model::Header;
 use model::LinearReading;
 use model::Reading;
+use readings_sums::sum_to;
+use readings_sums::tail_at;
 use shape::announce::announced_of;
 use shape_words::word::header_of;
 use shape_words::word::pack;
@@ -147,7 +148,7 @@ pub fn evaluate_all_one(head: u64, a: &[f64]) -> Reading
     if refusal.number != 0 {
         return Reading::Refused(refusal);
     }
-    Reading::Done(kernel::sum_to(a, stored_of(header_of(head))))
+    Reading::Done(sum_to(a, stored_of(header_of(head))))
 }
 
 // Whether the polynomial is c + m * v: refusals 1, 2.
@@ -174,7 +175,7 @@ pub fn tail(head: u64, a: &[f64], k: usize) -> Reading
     }
     let h = header_of(head);
     let n = h.lengths;
-    Reading::Done(1.0 - kernel::sum_to(a, shape::limits::least(n[0], k + 1)))
+    Reading::Done(tail_at(a, n[0], k))
 }
 
 // The powers of v up to `order`: refusals 1, 2, 3, 4, 5.

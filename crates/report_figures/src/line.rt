@@ -1,11 +1,11 @@
 // A line for each stored place.
 use crate::number::put_float;
 use model::Header;
-use readings::kernel::sum_to;
+use readings_sums::sum_to;
+use readings_sums::tail_at;
 use report_lines::put::put;
 use report_lines::put::put_if;
 use report_lines::put::put_number;
-use shape::limits::least;
 use shape_words::places::index_of;
 use shape_words::word::header_of;
 ghost use mathlib.Core.Path.{_≡_};
@@ -109,7 +109,7 @@ fn put_sums(h: Header, xs: &[f64], p: usize, at: usize, to: &mut [u8]) -> usize
     let a = put_place(7, h, p, at, to);
     let b = put_column(20, xs[p], a, to);
     let c = put_column(20, sum_to(xs, p + 1), b, to);
-    let d = put_float(1.0 - sum_to(xs, least(lengths[0], p + 1)), c, to);
+    let d = put_float(tail_at(xs, lengths[0], p), c, to);
     put(b"\n", d, to)
 }
 

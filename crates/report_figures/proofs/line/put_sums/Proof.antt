@@ -1,7 +1,6 @@
-use mathlib.Core.Path.{sym, ap, _∙_}
-use lib.Ieee.{Float, sub, binary64}
-use Rattle.model.specs.Readings.{oneF, sumTo}
-use Rattle.model.specs.Tail.{tailOf}
+use mathlib.Core.Path.{sym, ap}
+use native.Mathlib.Omega.{arith}
+use lib.Ieee.{Float}
 use Rattle.report_lines.specs.Puts.{puts-then}
 use Rattle.lists.specs.Bytes.{bytes}
 use Rattle.model_texts.specs.Number.{numberText}
@@ -11,22 +10,22 @@ use borrow.Author.Needs.{needs}
 use Rattle.report_figures.proofs.line.put_sums.Statement.{statement}
 use Rattle.report_figures.proofs.line.put_sums.Tie as tie
 
+tail-at-requires : tie.Need-tail-at-requires
+tail-at-requires c κs = omega arith
+
 returns : tie.Need-returns
-unfolding sumLine tailOf bytes
+unfolding sumLine bytes
 returns c =
-    let c9 = c .before .before .before .before .before .before .before .before .before in
-    let c10 = c9 .before in
-    let c13 = c10 .before .before .before in
-    let c15 = c13 .before .before in
-    let c18 = c15 .before .before .before in
-    let c23 = c18 .before .before .before .before .before in
-    let start = c23 .before .before .before .before .before in
-    puts-then (c23 .put-place .ensures) (puts-then (c18 .put-column .ensures)
-    (puts-then (puts-is (ap (λ (x : Float). filled 20 (numberText x)) (sym (c15 .sum-to .ensures)))
-    (c13 .put-column2 .ensures))
-    (puts-then (puts-is (ap (λ (x : Float). numberText (sub binary64 oneF x))
-    (sym (c9 .sum-to2 .ensures ∙ ap (sumTo (start .args .xs .now)) (c10 .least .ensures))))
-    (c .before .before .before .before .before .before .before .put-float .ensures))
+    let c7 = c .before .before .before .before .before .before .before in
+    let c9 = c7 .before .before in
+    let c12 = c9 .before .before .before in
+    let c14 = c12 .before .before in
+    let c17 = c14 .before .before .before in
+    let c22 = c17 .before .before .before .before .before in
+    puts-then (c22 .put-place .ensures) (puts-then (c17 .put-column .ensures)
+    (puts-then (puts-is (ap (λ (x : Float). filled 20 (numberText x)) (sym (c14 .sum-to .ensures)))
+    (c12 .put-column2 .ensures))
+    (puts-then (puts-is (ap numberText (sym (c9 .tail-at .ensures))) (c7 .put-float .ensures))
     (c .before .before .put .ensures))))
 
 pub put-sums-spec : {M : Type 1} → statement M
@@ -41,9 +40,7 @@ put-sums-spec =
     (λ c κs. search needs)
     (λ c κs. search needs)
     (λ c. search needs)
-    (λ c. search needs)
-    (λ c κs. search needs)
-    (λ c κs. search needs)
+    tail-at-requires
     (λ c κs. search needs)
     (λ c. search needs)
     (λ c κs. search needs)

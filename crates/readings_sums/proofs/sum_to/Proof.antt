@@ -4,9 +4,9 @@ use Prim.Native.Nat.{_≤_, _-_}
 use Rattle.lists.specs.Walk.{Walked, walked-none, walked-more, walked-end}
 use Rattle.model.specs.Refusals.{zeroF}
 use Rattle.model.specs.Readings.{sumTo}
-use Rattle.readings.specs.Read.{plusAt}
-use Rattle.readings.proofs.kernel.sum_to.Statement.{statement}
-use Rattle.readings.proofs.kernel.sum_to.Tie as tie
+use Rattle.readings_sums.specs.Sums.{plusAt}
+use Rattle.readings_sums.proofs.sum_to.Statement.{statement}
+use Rattle.readings_sums.proofs.sum_to.Tie as tie
 
 abbrev Inv-loop : tie.InvT-loop
 Inv-loop a n sum₀ i₀ sum i = (i ≤ n) × Walked (plusAt a) 0 i zeroF sum

@@ -1,0 +1,18 @@
+use mathlib.Core.Path.{ap, _∙_}
+use native.Mathlib.Omega.{arith}
+use lib.Ieee.{sub, binary64}
+use Rattle.model.specs.Readings.{oneF, sumTo}
+use Rattle.model.specs.Tail.{tailOf}
+use borrow.Author.Needs.{needs}
+use Rattle.readings_sums.proofs.tail_at.Statement.{statement}
+use Rattle.readings_sums.proofs.tail_at.Tie as tie
+
+sum-to-requires : tie.Need-sum-to-requires
+sum-to-requires c κs = omega (arith, c .places-to .ensures)
+
+returns : tie.Need-returns
+unfolding tailOf
+returns c = ap (sub binary64 oneF) (c .sum-to .ensures ∙ ap (sumTo _) (c .before .places-to .ensures))
+
+pub tail-at-spec : {M : Type 1} → statement M
+tail-at-spec = tie.close (tie.spec (λ c κs. search needs) sum-to-requires returns)
