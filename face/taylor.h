@@ -13,9 +13,9 @@
  *   - taylor_extract_linear answers 0 for no and 1 + variable for yes, or a refusal + 2^32.
  *
  * Refusals: 1 header word or limit breaks the rules; 2 fewer coefficients than the header says; 3 variable, or a
- * missing variable's index; 4 k, order or index not below the limit; 5 more than 4,096 places, or `out` too short;
- * 6 `scratch` shorter than 8 times the announced count. The lowest wins. The place of these refusals is 64, for none in
- * particular.
+ * missing variable's index; 4 k, order or index not below the limit, or a total not finite or not above zero; 5 more
+ * than 4,096 places, or `out` too short; 6 `scratch` shorter than 8 times the announced count. The lowest wins. The
+ * place of these refusals is 64, for none in particular.
  *
  * A buffer is a pointer and a count of doubles. The pointer is aligned and not null, also where the count is 0. `out`,
  * `scratch` and what a float is written to overlap nothing else that is passed. */
@@ -69,8 +69,8 @@ uint64_t taylor_evaluate_all_one(uint64_t head, const double *a, size_t a_len, d
 /* whether the polynomial is c + m * v; c and m are 0.0 for no: refusals 1, 2 */
 uint64_t taylor_extract_linear(uint64_t head, const double *a, size_t a_len, double *c, double *m);
 
-/* one variable: 1.0 less the sum of the stored coefficients 0 to k; refusals 1, 2, 3, 4 */
-uint64_t taylor_tail(uint64_t head, const double *a, size_t a_len, uint64_t k, double *value);
+/* one variable: (total less the sum of the stored coefficients 0 to k) over total; refusals 1, 2, 3, 4 */
+uint64_t taylor_tail(uint64_t head, const double *a, size_t a_len, uint64_t k, double total, double *value);
 
 /* the powers of v up to `order`; the row `order` of v: refusals 1, 2, 3, 4, 5 */
 uint64_t taylor_taylor_polynomial(uint64_t head, const double *a, size_t a_len, uint64_t v, uint64_t order, double *out, size_t out_len);

@@ -1,5 +1,5 @@
 """Stored cases for crates/replay_entries and what has to come out, worked out from document 01 (port order 2 to 4,
-'Tail', 'Refusal numbers') and from nothing of the crates. Python's floats are IEEE 754 binary64.
+'Tail', 'Refusal numbers') and document 02 (W1) and from nothing of the crates. Python's floats are IEEE 754 binary64.
 
     python3 tests/sums.py cases      a line a case
     python3 tests/sums.py answers    what has to come out
@@ -178,7 +178,7 @@ class Case:
     def numbers(self):
         v, x, at, c, variables = self.v, self.x, bits(self.at), self.c, self.variables
         of = {3: x[:2], 4: x[:2], 10: (variables, *x), 11: (c,), 12: (c, variables, *x), 13: (v, x[0]), 14: (v, at, x[0])}
-        of.update({15: (v, at, variables, *x), 20: x, 24: x[:1]})
+        of.update({15: (v, at, variables, *x), 20: x, 24: (x[0], at)})
         return of.get(self.op, ())
 
     def text(self):
@@ -284,7 +284,7 @@ class Case:
         if self.op == 20:
             tests += [(lambda: all(i == 0 for i in index[len(limits()) :]), 3), (lambda: all(i < l for i, l in zip(index, limits())), 4)]
         if self.op == 24:
-            tests += [(lambda: len(limits()) == 1, 3), (lambda: index[0] < limits()[0], 4)]
+            tests += [(lambda: len(limits()) == 1, 3), (lambda: index[0] < limits()[0], 4), (lambda: 0 < self.at < INF, 4)]
         r = first_refusal(*tests)
         if r:
             return "refused %d 64" % r
@@ -302,7 +302,7 @@ class Case:
             total = 0.0
             for y in stored if self.op == 22 else stored[: index[0] + 1]:
                 total = total + y
-            x = total if self.op == 22 else 1.0 - total
+            x = total if self.op == 22 else (self.at - total) / self.at
         return "done %016x" % bits(x)
 
 
@@ -388,10 +388,19 @@ def cases():
                  (square, [0.0, 0.0, NAN, NAN]), (two3, [1.0])):
         yield Case(23, w, a)
     for k in (0, 1, 2, 3, 4, 2**64 - 1):
-        yield Case(24, line, [0.25, 0.5, 0.25], x=(k, 0, 0, 0))
-    yield Case(24, word([3], [3]), [0.25, 0.5, 0.25], x=(1, 0, 0, 0))
-    yield Case(24, square, [0.25] * 4, x=(9, 0, 0, 0))
-    yield Case(24, none, [0.25], x=(0, 0, 0, 0))
+        yield Case(24, line, [0.25, 0.5, 0.25], x=(k, 0, 0, 0), at=1.0)
+    # totals: the pair of document 02; below the sum, subnormal, the largest; those that are refused, and the first test
+    totals = [1.0, 2.0, 0.5, 3.0, 5e-324, 2.225073858507201e-308, 1.7976931348623157e308]
+    for total in totals + [0.0, -0.0, -1.0, -5e-324, INF, -INF, NAN]:
+        yield Case(24, word([3], [3]), [0.25, 0.5, 0.25], x=(1, 0, 0, 0), at=total)
+        yield Case(24, word([3], [3]), [0.25, 0.5, 0.25], x=(3, 0, 0, 0), at=total)
+        yield Case(24, word([8], [8]), specials, x=(7, 0, 0, 0), at=total)
+        yield Case(24, line, [1e16, 1.0, -1e16], x=(2, 0, 0, 0), at=total)
+        yield Case(24, square, [0.25] * 4, x=(0, 0, 0, 0), at=total)
+    yield Case(24, square, [0.25] * 4, x=(9, 0, 0, 0), at=NAN)
+    yield Case(24, none, [0.25], x=(0, 0, 0, 0), at=1.0)
+    yield Case(24, line, [0.25, 0.5], x=(9, 0, 0, 0), at=0.0)
+    yield Case(24, line + 1, [0.25, 0.5], x=(9, 0, 0, 0), at=0.0)
     for op in (3, 4):
         for v, n in ((0, 0), (0, 1), (0, 2), (0, 3), (1, 0), (1, 2), (1, 3), (1, 4), (2, 0), (2, 1), (2, 2), (3, 0), (2**64 - 1, 0)):
             yield Case(op, cube, values, x=(v, n, 0, 0), lent=6)

@@ -8,7 +8,7 @@ extern "C" {
     fn taylor_constant_term(head: u64, a: *const f64, a_len: usize, value: *mut f64) -> u64;
     fn taylor_evaluate_all_one(head: u64, a: *const f64, a_len: usize, value: *mut f64) -> u64;
     fn taylor_extract_linear(head: u64, a: *const f64, a_len: usize, c: *mut f64, m: *mut f64) -> u64;
-    fn taylor_tail(head: u64, a: *const f64, a_len: usize, k: u64, value: *mut f64) -> u64;
+    fn taylor_tail(head: u64, a: *const f64, a_len: usize, k: u64, total: f64, value: *mut f64) -> u64;
 }
 
 /// The word that a reading answers, and its cells written; nothing for what is no reading.
@@ -22,7 +22,7 @@ pub fn word(case: &Case, a: &[f64], cells: &mut [f64]) -> Option<u64> {
             "constant_term" => Some(taylor_constant_term(head, a, len, cells)),
             "evaluate_all_one" => Some(taylor_evaluate_all_one(head, a, len, cells)),
             "extract_linear" => Some(taylor_extract_linear(head, a, len, cells, cells.add(1))),
-            "tail" => Some(taylor_tail(head, a, len, n[0], cells)),
+            "tail" => Some(taylor_tail(head, a, len, n[0], f64::from_bits(n[1]), cells)),
             _ => None,
         }
     }

@@ -112,7 +112,8 @@ functions! {
     taylor_constant_term(head: u64, a: From, na: usize, value: To) change(21, head, (a, na), &[], (value, 1));
     taylor_evaluate_all_one(head: u64, a: From, na: usize, value: To) change(22, head, (a, na), &[], (value, 1));
     taylor_extract_linear(head: u64, a: From, na: usize, c: To, m: To) line(head, (a, na), c, m);
-    taylor_tail(head: u64, a: From, na: usize, k: u64, value: To) change(24, head, (a, na), &[k], (value, 1));
+    taylor_tail(head: u64, a: From, na: usize, k: u64, total: f64, value: To)
+        change(24, head, (a, na), &[k, total.to_bits()], (value, 1));
     taylor_taylor_polynomial(head: u64, a: From, na: usize, v: u64, order: u64, out: To, n: usize)
         change(3, head, (a, na), &[v, order], (out, n));
     taylor_coefficients_of_term(head: u64, a: From, na: usize, v: u64, order: u64, out: To, n: usize)

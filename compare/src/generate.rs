@@ -149,10 +149,23 @@ fn number(op: &Operation, rng: &mut Rng, a: &Header, kind: Kind, so_far: &[u64])
         Kind::Exponent if rng.chance(800) => rng.pick(&[0, 1, 2, 2, 3, 3, 4, 5, 6, 7, 8, 10, 16, 31]),
         Kind::Exponent => rng.pick(&[63, 64, 1 << 31, 0x5555_5555, u32::MAX - 1, u32::MAX]).into(),
         Kind::Float => values::any(rng).to_bits(),
+        Kind::Total => total(rng).to_bits(),
         Kind::Exp | Kind::Log => 0,
         _ => rng.pick(&HUGE),
     }
 }
+
+/// Mostly finite and above zero: round ones, subnormal ones and the largest, any size; some that are refused.
+fn total(rng: &mut Rng) -> f64 {
+    match rng.below(10) {
+        0..=2 => rng.pick(&[1.0, 2.0, 0.5, 3.0, 1e-3, 1e200]),
+        3 | 4 => rng.pick(&[5e-324, 2.225073858507201e-308, f64::MIN_POSITIVE, f64::MAX]),
+        5..=7 => values::any(rng).abs(),
+        _ => rng.pick(&REFUSED_TOTALS),
+    }
+}
+
+const REFUSED_TOTALS: [f64; 7] = [0.0, -0.0, -1.0, -5e-324, f64::INFINITY, f64::NEG_INFINITY, f64::NAN];
 
 /// A number around the length and the limit of a variable, seldom at or past the limit; of a missing one mostly 0.
 fn below_limit(rng: &mut Rng, a: &Header, v: u64) -> u64 {
@@ -186,6 +199,7 @@ fn short_numbers(kind: Kind) -> Vec<u64> {
         Kind::Constant => vec![0, 1, u64::from(u32::MAX)],
         Kind::Exponent => vec![0, 1, 2, 3, 6, u64::from(u32::MAX)],
         Kind::Float => [0.0, -0.0, 1.0, f64::NAN].map(f64::to_bits).to_vec(),
+        Kind::Total => [1.0, 2.0, 5e-324, f64::MAX].into_iter().chain(REFUSED_TOTALS).map(f64::to_bits).collect(),
         Kind::Exp | Kind::Log => vec![0],
     }
 }

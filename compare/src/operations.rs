@@ -22,6 +22,8 @@ pub enum Kind {
     Exponent,
     /// a float's bits
     Float,
+    /// the bits of a total that a tail is a part of
+    Total,
     /// the bits of the source's own exp, or log, of the first operand's constant term
     Exp,
     Log,
@@ -93,7 +95,7 @@ const fn read(row: Operation) -> Operation {
     Operation { operands: 1, gives: Gives::Float, ..row }
 }
 
-use Kind::{Constant, Exp, Exponent, Float, Index, Limit, Log, Order, Variable, Vars};
+use Kind::{Constant, Exp, Exponent, Float, Index, Limit, Log, Order, Total, Variable, Vars};
 const INDEX: &[Kind] = &[Index, Index, Index, Index];
 const LIMITS: &[Kind] = &[Vars, Limit, Limit, Limit, Limit];
 const CONSTANT_LIMITS: &[Kind] = &[Constant, Vars, Limit, Limit, Limit, Limit];
@@ -112,7 +114,7 @@ pub static OPERATIONS: &[Operation] = &[
     read(row("constant_term", 21, &[], refusals::reading, oracle::constant_term)),
     read(row("evaluate_all_one", 22, &[], refusals::reading, oracle::evaluate_all_one)),
     Operation { gives: Gives::Line, ..read(row("extract_linear", 23, &[], refusals::reading, oracle::extract_linear)) },
-    read(row("tail", 24, &[Order], refusals::tail, oracle::tail)),
+    read(row("tail", 24, &[Order, Total], refusals::tail, oracle::tail)),
     one(row("taylor_polynomial", 3, &[Variable, Order], refusals::taylor_polynomial, oracle::taylor_polynomial)),
     one(row("coefficients_of_term", 4, &[Variable, Order], refusals::coefficients_of_term, oracle::coefficients_of_term)),
     one(row("negate", 0, &[], refusals::negate, oracle::negate)),

@@ -214,8 +214,8 @@ pub fn extract_linear(case: &Case) -> Given {
     }
 }
 
-/// Not in the source: 1.0 minus the sum that the source makes of coefficients 0 to k.
+/// Not in the source: the total minus the sum that the source makes of coefficients 0 to k, divided by the total.
 pub fn tail(case: &Case) -> Given {
-    let sum = a(case).taylor_polynomial(Var(0), number(case, 0)).evaluate_all_one();
-    reads(F64::one() - sum)
+    let (sum, total) = (a(case).taylor_polynomial(Var(0), number(case, 0)).evaluate_all_one(), float(case, 1));
+    reads((total - sum) / total)
 }

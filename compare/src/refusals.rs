@@ -197,11 +197,13 @@ pub fn coefficient(case: &Case) -> Gate {
     Ok(a)
 }
 
-/// Number k.
+/// Numbers k and total.
 pub fn tail(case: &Case) -> Gate {
     let a = operand(case)?;
     demand(a.vars == 1, 3)?;
     below_limit(&a, 0, case.numbers[0])?;
+    let total = f64::from_bits(case.numbers[1]);
+    demand(total.is_finite() && total > 0.0, 4)?;
     Ok(a)
 }
 

@@ -24,7 +24,7 @@ use Rattle.model.specs.Word.{headerOf, goodWord, wordOf}
 use Rattle.model.specs.Refusals.{askFor, ask, noRefusal, refusedBy, fits, roomy, answerBy, readBy, linearBy, leaves, written}
 use Rattle.model.specs.Poly.{Poly}
 use Rattle.model.specs.Answers.{answered, outAfter}
-use Rattle.model.specs.Gates.{badWord, askWord, full, readGate, noMissing, indexGate, tailGate, oneGate, workGate, inGate, pairGate}
+use Rattle.model.specs.Gates.{badWord, askWord, full, readGate, noMissing, indexGate, oneGate, workGate, inGate, pairGate}
 use Rattle.model.specs.Gates.{goodLimit, goodLimits, withGate, varWithGate, varHeader, varGate, announcedOne}
 use Rattle.model.specs.Gates.{announcedPair}
 use Rattle.shape_words.specs.Rules.{Good, Regular, none-regular}
@@ -192,7 +192,7 @@ pub record ReadReady (w m : ℕ) : Type 0 where
   pub good : Good (headerOf w)
   pub full : stored (headerOf w) ≤ m
 
-read-facts : (w m : ℕ) → goodWord w ≡ true → full w m ≡ true → ReadReady w m
+pub read-facts : (w m : ℕ) → goodWord w ≡ true → full w m ≡ true → ReadReady w m
 read-facts w m s t = record { word = s; good = good-word w s; full = leb-true _ _ t }
 
 pub read-ready : (w m : ℕ) → readGate w m .number ≡ 0 → ReadReady w m
@@ -210,18 +210,6 @@ unfolding indexGate
 index-ready w m i e =
     let p = word-passed w (full w m) (noMissing (headerOf w) i) (inside (headerOf w .limits) i) true true e in
     record { read = read-facts w m (p .t1) (p .t2); known = p .t3; below = inside-is _ i (p .t4) }
-
--- a tail
-pub record TailReady (w m k : ℕ) : Type 0 where
-  pub read : ReadReady w m
-  pub one : headerOf w .vars ≡ 1
-  pub below : k < limit (headerOf w) 0
-
-pub tail-ready : (w m k : ℕ) → tailGate w m k .number ≡ 0 → TailReady w m k
-unfolding tailGate
-tail-ready w m k e =
-    let p = word-passed w (full w m) (eqb (headerOf w .vars) 1) (ltb k (limit (headerOf w) 0)) true true e in
-    record { read = read-facts w m (p .t1) (p .t2); one = eqb-true _ _ (p .t3); below = ltb-true _ _ (p .t4) }
 
 -- one operand, and places for the result
 pub record OneReady (f : Family) (w m n : ℕ) : Type 0 where

@@ -1,3 +1,4 @@
 pub mod Given
 pub mod Gate
+pub mod Sole
 pub mod Open

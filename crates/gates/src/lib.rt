@@ -15,7 +15,8 @@ ghost use Prim.Native.Nat.{_*_};
 ghost use lib.Dec.{leb, ltb};
 ghost use Rattle.model.specs.Header.{limit, stored};
 ghost use Rattle.model.specs.Word.{headerOf};
-ghost use Rattle.model.specs.Gates.{readGate, noMissing, indexGate, tailGate, oneGate, workGate, inGate, goodLimit, goodLimits, withGate, varWithGate, varGate};
+ghost use Rattle.model.specs.Gates.{readGate, noMissing, indexGate, soleGate, goodTotal, tailGate, oneGate, workGate, inGate};
+ghost use Rattle.model.specs.Gates.{goodLimit, goodLimits, withGate, varWithGate, varGate};
 ghost use Rattle.model.specs.Refusals.{ask, noRefusal, fits, roomy};
 ghost use Rattle.model.specs.declared.Family.the-variants.{Product};
 ghost use Rattle.shape_words.specs.Rules.{Ruled};
@@ -165,9 +166,9 @@ pub fn index_gate(word: u64, given: usize, i: [usize; 4]) -> Refusal
     Refusal::none()
 }
 
-// The tail of one variable from k on: refusals 1, 2, 3, 4.
-pub fn tail_gate(word: u64, given: usize, k: usize) -> Refusal
-    ensures { λ r. ⌜ r ≡ tailGate word given k ⌝ }
+// A number read off a polynomial of one variable: refusals 1, 2, 3.
+pub fn sole_gate(word: u64, given: usize) -> Refusal
+    ensures { λ r. ⌜ r ≡ soleGate word given ⌝ }
 {
     let first = read_gate(word, given);
     if first.number != 0 {
@@ -177,8 +178,31 @@ pub fn tail_gate(word: u64, given: usize, k: usize) -> Refusal
     if h.vars != 1 {
         return Refusal::by(3);
     }
+    Refusal::none()
+}
+
+// Whether a total is finite and above zero.
+fn is_total(total: f64) -> bool
+    ensures { λ r. ⌜ r ≡ goodTotal total ⌝ }
+{
+    let infinity = f64::from_bits(0x7ff0000000000000);
+    (0.0 < total) & (total < infinity)
+}
+
+// The tail of one variable from k on, as a part of a total: refusals 1, 2, 3, 4.
+pub fn tail_gate(word: u64, given: usize, k: usize, total: f64) -> Refusal
+    ensures { λ r. ⌜ r ≡ tailGate word given k total ⌝ }
+{
+    let first = sole_gate(word, given);
+    if first.number != 0 {
+        return first;
+    }
+    let h = header_of(word);
     let l = h.limits;
     if l[0] <= k {
+        return Refusal::by(4);
+    }
+    if !is_total(total) {
         return Refusal::by(4);
     }
     Refusal::none()

@@ -7,7 +7,7 @@ use mathlib.Core.List.{List, [], _∷_, map}
 use Prim.Native.Nat.{ℕ, _*_}
 use lib.Dec.{eqb}
 use lib.ListN.{take}
-use lib.Ieee.{Float, nan, binary64, ofBits, toBits, neg, add, sub, mul, div, eq, ofInt}
+use lib.Ieee.{Float, nan, binary64, ofBits, toBits, neg, add, sub, mul, div, eq, lt, ofInt}
 use Rattle.lists.specs.Walk.{walk}
 use Rattle.lists.specs.Table.{table}
 use Rattle.lists.specs.Grow.{grow}
@@ -24,7 +24,7 @@ use Rattle.model.specs.Places.{strides, offset, index, inside}
 use Rattle.model.specs.Limits.{minLimit, minDegreesP1, cutTo, maxShape, sumShape}
 use Rattle.model.specs.Announced.{single, paired, announced}
 use Rattle.model.specs.Refusals.{answerBy, readBy, leaves, written}
-use Rattle.model.specs.Gates.{announcedOne, announcedPair, tailGate, inGate, workGate, pairGate}
+use Rattle.model.specs.Gates.{announcedOne, announcedPair, goodTotal, tailGate, inGate, workGate, pairGate}
 use Rattle.model.specs.Poly.{cut}
 use Rattle.model.specs.Readings.{sumTo}
 use Rattle.model.specs.Tail.{tailOf, tailAnswer}
@@ -52,8 +52,8 @@ abbrev pub nothing : Operand
 nothing = operand 0 []
 
 pub data Operation : Type 0 where
-  -- at k
-  Tail : ℕ → Operation
+  -- at k, with the bits of the total
+  Tail : ℕ → ℕ → Operation
   Times Over : Operation
   -- with the bits of the head
   Exp Log : ℕ → Operation
@@ -95,7 +95,7 @@ abbrev pub made : Header → (List Float → List Float → Answer) → (List Fl
 made h says leaves = shown (says (lent (stored h)) (lent (8 * stored h))) (leaves (lent (stored h)) (lent (8 * stored h)))
 
 abbrev pub answer : Operation → Operand → Operand → Operand
-answer (Tail k) a b = number (tailAnswer (a .word) (floats a) k)
+answer (Tail k total) a b = number (tailAnswer (a .word) (floats a) k (ofBits binary64 total))
 answer Times a b =
     made (announcedPair Product (a .word) (b .word))
     (productAnswer (a .word) (floats a) (b .word) (floats b))
@@ -147,10 +147,15 @@ square = operand 0x4082082000000000
 
 unfoldable pub rows : List Row
 rows =
-    -- tail of [0.25,0.5,0.25] at 1: 0.25
-    row (Tail 1) (three (0x3fd0000000000000 ∷ 0x3fe0000000000000 ∷ 0x3fd0000000000000 ∷ []))
+    -- tail of [0.25,0.5,0.25] at 1 with total 1: 0.25
+    row (Tail 1 0x3ff0000000000000) (three (0x3fd0000000000000 ∷ 0x3fe0000000000000 ∷ 0x3fd0000000000000 ∷ []))
     nothing
     (operand 0 (0x3fd0000000000000 ∷ []))
+    ∷
+    -- with total 2 (document 02, W1): 0.625
+    row (Tail 1 0x4000000000000000) (three (0x3fd0000000000000 ∷ 0x3fe0000000000000 ∷ 0x3fd0000000000000 ∷ []))
+    nothing
+    (operand 0 (0x3fe4000000000000 ∷ []))
     ∷
     -- [[1,2],[3,4]] times [[5,6],[7,8]]: [[5,16],[22,60]]
     row Times (square (0x3ff0000000000000 ∷ 0x4000000000000000 ∷ 0x4008000000000000 ∷ 0x4010000000000000 ∷ []))
@@ -214,7 +219,7 @@ rows =
     ∷ []
 
 pub examples-hold : hold rows ≡ true
-unfolding hold equal same rows tailAnswer tailGate readBy tailOf sumTo productAnswer productOut pairGate answerBy leaves
+unfolding hold equal same rows tailAnswer tailGate goodTotal readBy tailOf sumTo productAnswer productOut pairGate answerBy leaves
     written goodWord goodHeader goodVars goodVar productPoly multiplied productOf shortcut linearProduct
     linearFrom lineOf linearIn zerosBut grown raised raisedAt joinedBlock joined joinAt general productAt line alone
     walk table cut cutTo maxShape sumShape minDegreesP1 minLimit announced paired headerOf wordOf fields strides offset
@@ -222,5 +227,5 @@ unfolding hold equal same rows tailAnswer tailGate readBy tailOf sumTo productAn
     lessened taken inGate workGate single rowsFrom derivativeFactor derivativePoly rowSum shiftDownPoly derivativeAnswer
     derivativeOut shiftDownAnswer shiftDownOut squared powerPoly powerAnswer powerOut rowAt powered horner substituted
     substitutePoly substituteAnswer substituteOut expAnswer expOut expPoly expOf seriesShape expRows expRow logAnswer
-    logOut logPoly logOf logRows logNext logRow logGathered stack grow ofInt ofBits toBits neg add sub mul div eq
+    logOut logPoly logOf logRows logNext logRow logGathered stack grow ofInt ofBits toBits neg add sub mul div eq lt
 examples-hold = refl

@@ -6,6 +6,8 @@ use Prim.Native.Nat.{ℕ, suc}
 use mathlib.Core.List.{List}
 use mathlib.Core.Bool.{Bool, _&&_, _||_}
 use lib.Dec.{leb, ltb, eqb}
+use lib.Ieee.{Float, lt}
+use lib.Ieee.Scale.{finite}
 use Rattle.lists.specs.Four.{at, four}
 use Rattle.model.specs.declared.Header.{Header}
 use Rattle.model.specs.declared.Refusal.{Refusal}
@@ -14,7 +16,7 @@ use Rattle.model.specs.Header.{limit, stored, noHeader, zeroWith, varWit
 use Rattle.model.specs.Word.{headerOf, goodWord}
 use Rattle.model.specs.Places.{inside}
 use Rattle.model.specs.Announced.{announced}
-use Rattle.model.specs.Refusals.{askFor, ask, refusedAt, noRefusal, fits, roomy}
+use Rattle.model.specs.Refusals.{askFor, ask, refusedAt, noRefusal, fits, roomy, zeroF}
 
 -- what a family announces for one operand, and for two
 abbrev pub announcedOne : Family → ℕ → Header
@@ -52,14 +54,27 @@ indexGate w m i =
     (ask (inside (headerOf w .limits) i) 4
     noRefusal)))
 
--- `tail` at k: 3 for other than one variable
-unfoldable pub tailGate : ℕ → ℕ → ℕ → Refusal
-tailGate w m k =
-    ask (goodWord w) 1
+-- A number read off a polynomial of one variable: 3 for any other number of variables.
+unfoldable pub soleGate : ℕ → ℕ → Refusal
+soleGate w m =
+    askWord w
+    (ask (full w m) 2
+    (ask (eqb (headerOf w .vars) 1) 3
+    noRefusal))
+
+-- what a tail is a part of is finite and above zero
+unfoldable pub goodTotal : Float → Bool
+goodTotal total = finite total && lt zeroF total
+
+-- `tail` at k: 4 for a k not below the limit, then for the total (document 02, W1)
+unfoldable pub tailGate : ℕ → ℕ → ℕ → Float → Refusal
+tailGate w m k total =
+    askWord w
     (ask (full w m) 2
     (ask (eqb (headerOf w .vars) 1) 3
     (ask (ltb k (limit (headerOf w) 0)) 4
-    noRefusal)))
+    (ask (goodTotal total) 4
+    noRefusal))))
 
 -- One operand and no scratch: n the places lent for the result.
 unfoldable pub oneGate : Family → ℕ → ℕ → ℕ → Refusal

@@ -1,5 +1,5 @@
 -- REFERENCE 9.1. The figures of a report: a line for each stored place, with its index and its coefficient; for one
--- variable the running sum and the tail too.
+-- variable the running sum and the tail too, of the total 1.0.
 use Prim.Native.Nat.{ℕ, _+_, _-_}
 use mathlib.Core.Bool.{cond}
 use mathlib.Core.List.{List, _++_}
@@ -13,7 +13,7 @@ use Rattle.model.specs.declared.Header.{Header}
 use Rattle.model.specs.Header.{len, stored}
 use Rattle.model.specs.Places.{index}
 use Rattle.model_texts.specs.Printed.{decimal}
-use Rattle.model.specs.Readings.{sumTo}
+use Rattle.model.specs.Readings.{oneF, sumTo}
 use Rattle.model_texts.specs.Report.{when, joined}
 use Rattle.model.specs.Tail.{tailOf}
 use Rattle.model_texts.specs.Number.{numberText}
@@ -45,7 +45,7 @@ module _ (h : Header) (xs : List Float) where
       filled 7 (indexText h p)
       ++ (filled 20 (numberText (getD xs p nan))
       ++ (filled 20 (numberText (sumTo xs (p + 1)))
-      ++ (numberText (tailOf xs (len h 0) p)
+      ++ (numberText (tailOf xs (len h 0) p oneF)
       ++ bytes "\n")))
 
   -- of any other number of variables

@@ -1,4 +1,5 @@
-// Constructors and readings (document 01, port order 2, and 'Tail'). Each takes any words, numbers and buffers.
+// Constructors and readings (document 01, port order 2, and 'Tail'; document 02, W1). Each takes any words, numbers and
+// buffers.
 pub mod line;
 
 use gates::stored_of;
@@ -165,17 +166,17 @@ pub fn extract_linear(head: u64, a: &[f64]) -> LinearReading
     LinearReading::Done(line::linear_of(&a[..count], n))
 }
 
-// One variable: 1.0 less the sum of the stored coefficients 0 to k; refusals 1, 2, 3, 4.
-pub fn tail(head: u64, a: &[f64], k: usize) -> Reading
-    ensures { λ r. ⌜ r ≡ tailAnswer head (now (a .entry)) k ⌝ }
+// One variable: a total less the sum of the stored coefficients 0 to k, over the total; refusals 1, 2, 3, 4.
+pub fn tail(head: u64, a: &[f64], k: usize, total: f64) -> Reading
+    ensures { λ r. ⌜ r ≡ tailAnswer head (now (a .entry)) k total ⌝ }
 {
-    let refusal = gates::tail_gate(head, a.len(), k);
+    let refusal = gates::tail_gate(head, a.len(), k, total);
     if refusal.number != 0 {
         return Reading::Refused(refusal);
     }
     let h = header_of(head);
     let n = h.lengths;
-    Reading::Done(tail_at(a, n[0], k))
+    Reading::Done(tail_at(a, n[0], k, total))
 }
 
 // The powers of v up to `order`: refusals 1, 2, 3, 4, 5.

@@ -29,11 +29,11 @@ fn places_to(n: usize, k: usize) -> usize
     n
 }
 
-// The tail of n places from k on.
-pub fn tail_at(a: &[f64], n: usize, k: usize) -> f64
+// The tail of n places from k on, as a part of a total.
+pub fn tail_at(a: &[f64], n: usize, k: usize, total: f64) -> f64
     requires { ⌜ min n (k + 1) ≤ length (now a) ⌝ }
-    ensures { λ r. ⌜ r ≡ tailOf (now (a .entry)) n k ⌝ }
+    ensures { λ r. ⌜ r ≡ tailOf (now (a .entry)) n k total ⌝ }
 {
     let many = places_to(n, k);
-    1.0 - sum_to(a, many)
+    (total - sum_to(a, many)) / total
 }

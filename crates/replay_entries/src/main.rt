@@ -48,7 +48,8 @@ fn read(op: u64, head: u64, a: &[f64], x: [u64; 7]) {
     } else if op == 23 {
         show_linear(readings::extract_linear(head, a));
     } else if op == 24 {
-        show_reading(readings::tail(head, a, x[0] as usize));
+        let total = sheet_bits::float_of(x[1]);
+        show_reading(readings::tail(head, a, x[0] as usize, total));
     } else {
         show_unknown();
     }

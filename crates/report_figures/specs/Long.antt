@@ -14,7 +14,7 @@ use Rattle.model.specs.Header.{len, stored}
 use Rattle.model_texts.specs.Hex.{digitFor, hexDigit}
 use Rattle.model.specs.Places.{index}
 use Rattle.model_texts.specs.Printed.{decimal}
-use Rattle.model.specs.Readings.{sumTo}
+use Rattle.model.specs.Readings.{oneF, sumTo}
 use Rattle.model.specs.Tail.{tailOf}
 use Rattle.model_texts.specs.Number.{isWholeWord, sizeOf, signedText, hexText, wordText, numberText}
 use Rattle.model_texts.specs.Figures.{filled, partText, indexText, headingText, sumLine, plainLine, figureText, figuresText}
@@ -73,7 +73,7 @@ module _ (h : Header) (xs : List Float) (g : Lengths (h .lengths)) where
     unfolding sumLine bytes
     sum-rest =
         rest-then (filled-piece 7 index-piece (omega arith))
-        (rest-then (column (getD xs p nan)) (rest-then (column (sumTo xs (p + 1))) (rest-then (float-piece (tailOf xs (len h 0) p)) newline-rest)))
+        (rest-then (column (getD xs p nan)) (rest-then (column (sumTo xs (p + 1))) (rest-then (float-piece (tailOf xs (len h 0) p oneF)) newline-rest)))
 
     plain-rest : Rest 33 34 (plainLine h xs p)
     unfolding plainLine bytes

@@ -109,7 +109,7 @@ fn put_sums(h: Header, xs: &[f64], p: usize, at: usize, to: &mut [u8]) -> usize
     let a = put_place(7, h, p, at, to);
     let b = put_column(20, xs[p], a, to);
     let c = put_column(20, sum_to(xs, p + 1), b, to);
-    let d = put_float(tail_at(xs, lengths[0], p), c, to);
+    let d = put_float(tail_at(xs, lengths[0], p, 1.0), c, to);
     put(b"\n", d, to)
 }
 

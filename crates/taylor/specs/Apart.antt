@@ -23,7 +23,7 @@ use Rattle.model.specs.Header.{limit, zeroWith, varWith}
 use Rattle.model.specs.Word.{headerOf, goodWord, wordOf}
 use Rattle.model.specs.Places.{inside}
 use Rattle.model.specs.Refusals.{refusedAt, noRefusal, isNone, ask, fits, roomy, answerBy, readBy, linearBy}
-use Rattle.model.specs.Gates.{full, noMissing, readGate, indexGate, tailGate, oneGate, workGate, inGate, pairGate}
+use Rattle.model.specs.Gates.{full, noMissing, readGate, indexGate, goodTotal, tailGate, oneGate, workGate, inGate, pairGate}
 use Rattle.model.specs.Gates.{goodLimit, goodLimits, withGate, varWithGate, varHeader, varGate, announcedOne}
 use Rattle.model.specs.Gates.{announcedPair}
 use Rattle.model.specs.Poly.{Poly, Block, blockOf, held}
@@ -129,9 +129,17 @@ index-few : (w m : ℕ) (i : List ℕ) → indexGate w m i .number < 32
 unfolding indexGate
 index-few w m i = asked (goodWord w) (full w m) (noMissing (headerOf w) i) (inside (headerOf w .limits) i) true true
 
-tail-few : (w m k : ℕ) → tailGate w m k .number < 32
+-- two tests by one number are one
+ask-both : (a b : Bool) (k : ℕ) (r : Refusal) → ask a k (ask b k r) ≡ ask (a && b) k r
+ask-both true b k r = refl
+ask-both false b k r = refl
+
+tail-few : (w m k : ℕ) (total : Float) → tailGate w m k total .number < 32
 unfolding tailGate
-tail-few w m k = asked (goodWord w) (full w m) (eqb (headerOf w .vars) 1) (ltb k (limit (headerOf w) 0)) true true
+tail-few w m k total =
+    let b : Bool = ltb k (limit (headerOf w) 0) in
+    rw (ask-both b (goodTotal total) 4 noRefusal)
+    (asked (goodWord w) (full w m) (eqb (headerOf w .vars) 1) (b && goodTotal total) true true)
 
 one-few : (f : Family) (w m n : ℕ) → oneGate f w m n .number < 32
 unfolding oneGate
@@ -195,9 +203,9 @@ module _ (w : ℕ) (a : List Float) where
   unfolding evaluateAllOneAnswer
   evaluate-all-one-low = read-low (readGate w (length a)) (read-few w (length a)) _
 
-  pub tail-low : (k : ℕ) → wordOfReading (tailAnswer w a k) % 32 ≡ tailGate w (length a) k .number
+  pub tail-low : (k : ℕ) (total : Float) → wordOfReading (tailAnswer w a k total) % 32 ≡ tailGate w (length a) k total .number
   unfolding tailAnswer
-  tail-low k = read-low (tailGate w (length a) k) (tail-few w (length a) k) _
+  tail-low k total = read-low (tailGate w (length a) k total) (tail-few w (length a) k total) _
 
   module _ (out : List Float) where
     pub taylor-polynomial-back : (v n : ℕ) → answerFrom (wordOfAnswer (taylorPolynomialAnswer w a v n out)) ≡ taylorPolynomialAnswer w a v n out

@@ -211,13 +211,13 @@ pub extern "C" fn taylor_extract_linear(head: u64, a: &[f64], c: &mut f64, m: &m
     put_linear(readings::extract_linear(head, a), c, m)
 }
 
-// One variable: 1.0 less the sum of the stored coefficients 0 to k; refusals 1, 2, 3, 4.
+// One variable: a total less the sum of the stored coefficients 0 to k, over the total; refusals 1, 2, 3, 4.
 #[no_mangle]
-pub extern "C" fn taylor_tail(head: u64, a: &[f64], k: u64, value: &mut f64) -> u64
-    ensures answer { λ r. ⌜ r ≡ wordOfReading (tailAnswer head (now (a .entry)) k) ⌝ }
-    ensures value { λ r. ⌜ now (value .exit) ≡ valueAfter (tailAnswer head (now (a .entry)) k) (now (value .entry)) ⌝ }
+pub extern "C" fn taylor_tail(head: u64, a: &[f64], k: u64, total: f64, value: &mut f64) -> u64
+    ensures answer { λ r. ⌜ r ≡ wordOfReading (tailAnswer head (now (a .entry)) k total) ⌝ }
+    ensures value { λ r. ⌜ now (value .exit) ≡ valueAfter (tailAnswer head (now (a .entry)) k total) (now (value .entry)) ⌝ }
 {
-    put(readings::tail(head, a, k as usize), value)
+    put(readings::tail(head, a, k as usize, total), value)
 }
 
 // The powers of v up to `order`: refusals 1, 2, 3, 4, 5.

@@ -2,7 +2,8 @@ use mathlib.Core.Path.{_≡_, sym, ap, _∙_}
 use native.Mathlib.Omega.{arith}
 use lib.ListN.{length}
 use Rattle.model.specs.Tail.{tailAnswer}
-use Rattle.gates.specs.Gate.{TailReady, tail-ready, read-refused, read-done}
+use Rattle.gates.specs.Gate.{read-refused, read-done}
+use Rattle.gates.specs.Sole.{TailReady, tail-ready}
 use Rattle.readings.specs.Read.{tail-room}
 use borrow.Author.Needs.{needs}
 use Rattle.readings.proofs.tail.Statement.{statement}
@@ -10,8 +11,8 @@ use Rattle.readings.proofs.tail.Tie as tie
 
 ready : (c : tie.Else1) →
     let start = c .before .before .before .before in
-    TailReady (start .args .head) (length (start .args .a .now)) (start .args .k)
-ready c = tail-ready _ _ _ (ap (λ r. r .number) (sym (c .before .before .tail-gate .ensures)) ∙ c .if1 .left)
+    TailReady (start .args .head) (length (start .args .a .now)) (start .args .k) (start .args .total)
+ready c = tail-ready _ _ _ _ (ap (λ r. r .number) (sym (c .before .before .tail-gate .ensures)) ∙ c .if1 .left)
 
 returns : tie.Need-returns
 unfolding tailAnswer
@@ -19,7 +20,7 @@ returns c = read-refused (c .before .before .tail-gate .ensures) (c .if1 .taken)
 
 tail-at-requires : tie.Need-tail-at-requires
 tail-at-requires c κs =
-    rw (c .before .header-of .ensures) (let t = tail-room (ready (c .before .before) .read) in omega arith)
+    rw (c .before .header-of .ensures) (let t = tail-room (ready (c .before .before) .sole .read) in omega arith)
 
 returns-2 : tie.Need-returns-2
 unfolding tailAnswer

@@ -1,7 +1,7 @@
 use mathlib.Core.Path.{ap, _∙_}
 use native.Mathlib.Omega.{arith}
-use lib.Ieee.{sub, binary64}
-use Rattle.model.specs.Readings.{oneF, sumTo}
+use lib.Ieee.{Float, sub, div, binary64}
+use Rattle.model.specs.Readings.{sumTo}
 use Rattle.model.specs.Tail.{tailOf}
 use borrow.Author.Needs.{needs}
 use Rattle.readings_sums.proofs.tail_at.Statement.{statement}
@@ -12,7 +12,9 @@ sum-to-requires c κs = omega (arith, c .places-to .ensures)
 
 returns : tie.Need-returns
 unfolding tailOf
-returns c = ap (sub binary64 oneF) (c .sum-to .ensures ∙ ap (sumTo _) (c .before .places-to .ensures))
+returns c =
+    let total : Float = c .before .before .before .args .total in
+    ap (λ (s : Float). div binary64 (sub binary64 total s) total) (c .sum-to .ensures ∙ ap (sumTo _) (c .before .places-to .ensures))
 
 pub tail-at-spec : {M : Type 1} → statement M
 tail-at-spec = tie.close (tie.spec (λ c κs. search needs) sum-to-requires returns)
