@@ -8,14 +8,14 @@
  *   - A function that makes a polynomial answers its header word, whose low five bits are zero, or a refusal, whose low
  *     five bits are not: number + 256 * place. Done, the announced places of `out` hold the coefficients, then +0.0,
  *     and 8 times as many of `scratch` hold +0.0; the rest is untouched. Refused, no buffer changes.
- *   - A function that reads a float answers 0 and writes it through its last pointer, or answers a refusal and writes
+ *   - A function that reads a number answers 0 and writes it through its last pointer, or answers a refusal and writes
  *     nothing.
  *   - taylor_extract_linear answers 0 for no and 1 + variable for yes, or a refusal + 2^32.
  *
  * Refusals: 1 header word or limit breaks the rules; 2 fewer coefficients than the header says; 3 variable, or a
  * missing variable's index; 4 k, order or index not below the limit, or a total not finite or not above zero; 5 more
- * than 4,096 places, or `out` too short; 6 `scratch` shorter than 8 times the announced count. The lowest wins. The
- * place of these refusals is 64, for none in particular.
+ * than 4,096 places, or `out` too short; 6 `scratch` shorter than 8 times the announced count; 11 no running sum
+ * reaches q. The lowest wins. The place of these refusals is 64, for none in particular.
  *
  * A buffer is a pointer and a count of doubles. The pointer is aligned and not null, also where the count is 0. `out`,
  * `scratch` and what a float is written to overlap nothing else that is passed. */
@@ -31,7 +31,7 @@ extern "C" {
 
 /* ---- answers */
 
-/* whether a polynomial was made, or a float read */
+/* whether a polynomial was made, or a number read */
 static inline int taylor_done(uint64_t answer) { return (answer & 31) == 0; }
 static inline unsigned taylor_refusal_number(uint64_t answer) { return (unsigned)(answer & 255); }
 static inline unsigned taylor_refusal_place(uint64_t answer) { return (unsigned)((answer >> 8) & 255); }
@@ -71,6 +71,10 @@ uint64_t taylor_extract_linear(uint64_t head, const double *a, size_t a_len, dou
 
 /* one variable: (total less the sum of the stored coefficients 0 to k) over total; refusals 1, 2, 3, 4 */
 uint64_t taylor_tail(uint64_t head, const double *a, size_t a_len, uint64_t k, double total, double *value);
+
+/* one variable: through k the least k whose running sum, of the stored coefficients 0 to k from +0.0 upwards, is at
+   least q; refusals 1, 2, 3, and 11 where no running sum is */
+uint64_t taylor_least(uint64_t head, const double *a, size_t a_len, double q, uint64_t *k);
 
 /* the powers of v up to `order`; the row `order` of v: refusals 1, 2, 3, 4, 5 */
 uint64_t taylor_taylor_polynomial(uint64_t head, const double *a, size_t a_len, uint64_t v, uint64_t order, double *out, size_t out_len);

@@ -24,6 +24,7 @@ mod face {
         pub fn taylor_evaluate_all_one(head: u64, a: *const f64, a_len: usize, value: *mut f64) -> u64;
         pub fn taylor_extract_linear(head: u64, a: *const f64, a_len: usize, c: *mut f64, m: *mut f64) -> u64;
         pub fn taylor_tail(head: u64, a: *const f64, a_len: usize, k: u64, total: f64, value: *mut f64) -> u64;
+        pub fn taylor_least(head: u64, a: *const f64, a_len: usize, q: f64, k: *mut u64) -> u64;
         pub fn taylor_taylor_polynomial(head: u64, a: *const f64, a_len: usize, v: u64, order: u64, out: *mut f64, out_len: usize) -> u64;
         pub fn taylor_coefficients_of_term(head: u64, a: *const f64, a_len: usize, v: u64, order: u64, out: *mut f64, out_len: usize) -> u64;
         pub fn taylor_negate(head: u64, a: *const f64, a_len: usize, out: *mut f64, out_len: usize) -> u64;
@@ -199,6 +200,15 @@ pub fn extract_linear(head: u64, a: &[f64]) -> Result<Option<(f64, f64, usize)>,
 /// One variable: a total less the sum of the stored coefficients 0 to k, over the total.
 pub fn tail(head: u64, a: &[f64], k: u64, total: f64) -> Result<f64, Refusal> {
     reading(|value| unsafe { face::taylor_tail(head, a.as_ptr(), a.len(), k, total, value) })
+}
+
+/// One variable: the least k whose running sum, of the stored coefficients 0 to k, is at least q.
+pub fn least(head: u64, a: &[f64], q: f64) -> Result<u64, Refusal> {
+    let mut k = 0;
+    match unsafe { face::taylor_least(head, a.as_ptr(), a.len(), q, &mut k) } {
+        0 => Ok(k),
+        word => Err(refusal(word)),
+    }
 }
 
 /// The powers of v up to `order`.

@@ -1,11 +1,13 @@
 """Stored cases for crates/replay_entries and what has to come out, worked out from document 01 (port order 2 to 4,
-'Tail', 'Refusal numbers') and document 02 (W1) and from nothing of the crates. Python's floats are IEEE 754 binary64.
+'Tail', 'Refusal numbers') and document 02 (W1, W6) and from nothing of the crates. Python's floats are IEEE 754
+binary64.
 
     python3 tests/sums.py cases      a line a case
     python3 tests/sums.py answers    what has to come out
 
 tests/stored puts them at the front of crates/replay_entries/stdin and stdout.
 """
+import functools
 import itertools
 import math
 import struct
@@ -178,7 +180,7 @@ class Case:
     def numbers(self):
         v, x, at, c, variables = self.v, self.x, bits(self.at), self.c, self.variables
         of = {3: x[:2], 4: x[:2], 10: (variables, *x), 11: (c,), 12: (c, variables, *x), 13: (v, x[0]), 14: (v, at, x[0])}
-        of.update({15: (v, at, variables, *x), 20: x, 24: (x[0], at)})
+        of.update({15: (v, at, variables, *x), 20: x, 24: (x[0], at), 25: (at,)})
         return of.get(self.op, ())
 
     def text(self):
@@ -285,9 +287,13 @@ class Case:
             tests += [(lambda: all(i == 0 for i in index[len(limits()) :]), 3), (lambda: all(i < l for i, l in zip(index, limits())), 4)]
         if self.op == 24:
             tests += [(lambda: len(limits()) == 1, 3), (lambda: index[0] < limits()[0], 4), (lambda: 0 < self.at < INF, 4)]
+        if self.op == 25:
+            tests += [(lambda: len(limits()) == 1, 3), (lambda: self.reaching() is not None, 11)]
         r = first_refusal(*tests)
         if r:
             return "refused %d 64" % r
+        if self.op == 25:
+            return "done %016x" % self.reaching()
         ls, lengths, values = held(self.ah, self.a)
         stored = [values[i] for i in indices(lengths)]
         if self.op == 23:
@@ -304,6 +310,10 @@ class Case:
                 total = total + y
             x = total if self.op == 22 else (self.at - total) / self.at
         return "done %016x" % bits(x)
+
+    def reaching(self):
+        """The least k whose running sum is at least the wanted chance."""
+        return next((k for k in range(count(read(self.ah)[1])) if functools.reduce(float.__add__, self.a[: k + 1], 0.0) >= self.at), None)
 
 
 def cases():
@@ -401,6 +411,15 @@ def cases():
     yield Case(24, none, [0.25], x=(0, 0, 0, 0), at=1.0)
     yield Case(24, line, [0.25, 0.5], x=(9, 0, 0, 0), at=0.0)
     yield Case(24, line + 1, [0.25, 0.5], x=(9, 0, 0, 0), at=0.0)
+    # the least k: at, below and above each sum; sums that fall; signed zeros, infinities, NaN; past the stored length
+    for q in (0.0, -0.0, 0.25, 0.2500000000000001, 0.75, 1.0, 1.0000000000000002, -1.0, 5e-324, INF, -INF, NAN):
+        for a in ([0.25, 0.5, 0.25], [-1.0, 0.5, 2.0], [2.0, -3.0, 2.0], [-0.0, -0.0, 0.0], [NAN, 1.0, 1.0], [0.5, INF, -INF], [-1.0, 0.5, 0.25]):
+            yield Case(25, line, a + [9.0], at=q)
+        yield Case(25, square, [0.25] * 4, at=q)
+    yield Case(25, none, [1.0], at=0.5)
+    yield Case(25, line, [1.0, 1.0], at=NAN)
+    yield Case(25, line + 1, [1.0, 1.0], at=0.5)
+    yield Case(25, word([64], [1]), [0.5], at=0.5)
     for op in (3, 4):
         for v, n in ((0, 0), (0, 1), (0, 2), (0, 3), (1, 0), (1, 2), (1, 3), (1, 4), (2, 0), (2, 1), (2, 2), (3, 0), (2**64 - 1, 0)):
             yield Case(op, cube, values, x=(v, n, 0, 0), lent=6)

@@ -82,6 +82,7 @@ static uint64_t make(const double *a, const double *b, double *out, double *scra
     case 22: return taylor_evaluate_all_one(ah, a, na, out);
     case 23: return taylor_extract_linear(ah, a, na, out, out + 1);
     case 24: return taylor_tail(ah, a, na, n[0], as_float(n[1]), out);
+    case 25: return taylor_least(ah, a, na, as_float(n[0]), (uint64_t *)out);
     case 30: return taylor_pow(ah, a, na, (uint32_t)n[0], out, no, scratch, ns);
     case 31: return taylor_derivative(ah, a, na, n[0], n[1], out, no);
     case 32: return taylor_taylor_expansion_of_coeff(ah, a, na, n[0], n[1], out, no);

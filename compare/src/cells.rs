@@ -9,6 +9,7 @@ extern "C" {
     fn taylor_evaluate_all_one(head: u64, a: *const f64, a_len: usize, value: *mut f64) -> u64;
     fn taylor_extract_linear(head: u64, a: *const f64, a_len: usize, c: *mut f64, m: *mut f64) -> u64;
     fn taylor_tail(head: u64, a: *const f64, a_len: usize, k: u64, total: f64, value: *mut f64) -> u64;
+    fn taylor_least(head: u64, a: *const f64, a_len: usize, q: f64, k: *mut u64) -> u64;
 }
 
 /// The word that a reading answers, and its cells written; nothing for what is no reading.
@@ -23,6 +24,7 @@ pub fn word(case: &Case, a: &[f64], cells: &mut [f64]) -> Option<u64> {
             "evaluate_all_one" => Some(taylor_evaluate_all_one(head, a, len, cells)),
             "extract_linear" => Some(taylor_extract_linear(head, a, len, cells, cells.add(1))),
             "tail" => Some(taylor_tail(head, a, len, n[0], f64::from_bits(n[1]), cells)),
+            "least" => Some(taylor_least(head, a, len, f64::from_bits(n[0]), cells.cast())),
             _ => None,
         }
     }

@@ -16,7 +16,7 @@ pub struct Tally {
     pub cases: usize,
     pub differences: usize,
     /// accepted calls, then those refused by 1, 2, ..
-    answers: [usize; 10],
+    answers: [usize; 12],
 }
 
 impl Tally {
@@ -40,7 +40,7 @@ impl Tally {
 
     fn line(&self, name: &str, seconds: f64) -> String {
         let refused: String =
-            (1..10).filter(|n| self.answers[*n] > 0).map(|n| format!(", {} refused by {n}", self.answers[n])).collect();
+            (1..12).filter(|n| self.answers[*n] > 0).map(|n| format!(", {} refused by {n}", self.answers[n])).collect();
         let (cases, accepted, differences) = (self.cases, self.answers[0], self.differences);
         format!("{name}: {cases} cases, {accepted} accepted{refused}: {differences} differences, {seconds:.1} s")
     }

@@ -114,6 +114,7 @@ functions! {
     taylor_extract_linear(head: u64, a: From, na: usize, c: To, m: To) line(head, (a, na), c, m);
     taylor_tail(head: u64, a: From, na: usize, k: u64, total: f64, value: To)
         change(24, head, (a, na), &[k, total.to_bits()], (value, 1));
+    taylor_least(head: u64, a: From, na: usize, q: f64, k: *mut u64) change(25, head, (a, na), &[q.to_bits()], (k.cast(), 1));
     taylor_taylor_polynomial(head: u64, a: From, na: usize, v: u64, order: u64, out: To, n: usize)
         change(3, head, (a, na), &[v, order], (out, n));
     taylor_coefficients_of_term(head: u64, a: From, na: usize, v: u64, order: u64, out: To, n: usize)

@@ -65,17 +65,24 @@ fn draft(op: &'static Operation, rng: &mut Rng, heads: (Header, Header), numbers
     };
     let (ah, a) = operand(&heads.0, op.operands > 0);
     let (bh, b) = operand(&heads.1, op.operands > 1);
-    let numbers = op.numbers.iter().zip(numbers).map(|(kind, number)| head(*kind, &a).unwrap_or(number)).collect();
+    let numbers = op.numbers.iter().zip(numbers).map(|(kind, number)| head(*kind, &a, rng).unwrap_or(number)).collect();
     Case { op, numbers, ah, a, bh, b, out: usize::MAX, scratch: usize::MAX }
 }
 
-/// The head of exp or log, from the constant term.
-fn head(kind: Kind, a: &[f64]) -> Option<u64> {
+/// The head of exp or log, from the constant term; a wanted chance, mostly about a running sum.
+fn head(kind: Kind, a: &[f64], rng: &mut Rng) -> Option<u64> {
     match kind {
+        Kind::Wanted => rng.chance(600).then(|| about_sum(a, rng)),
         Kind::Exp => Some(oracle::exp_head(a[0]).to_bits()),
         Kind::Log => Some(oracle::log_head(a[0]).to_bits()),
         _ => None,
     }
+}
+
+/// The running sum of some first coefficients, or a float next to it.
+fn about_sum(a: &[f64], rng: &mut Rng) -> u64 {
+    let sum = a.iter().take(rng.between(1, a.len().max(1))).fold(0.0, |sum, x| sum + x).to_bits();
+    rng.pick(&[sum, sum, sum.wrapping_add(1), sum.wrapping_sub(1)])
 }
 
 /// The count that a draft announces, 0 where its numbers are refused, one more than 4,096 where that count is above it.
@@ -150,6 +157,7 @@ fn number(op: &Operation, rng: &mut Rng, a: &Header, kind: Kind, so_far: &[u64])
         Kind::Exponent => rng.pick(&[63, 64, 1 << 31, 0x5555_5555, u32::MAX - 1, u32::MAX]).into(),
         Kind::Float => values::any(rng).to_bits(),
         Kind::Total => total(rng).to_bits(),
+        Kind::Wanted => values::any(rng).to_bits(),
         Kind::Exp | Kind::Log => 0,
         _ => rng.pick(&HUGE),
     }
@@ -200,6 +208,7 @@ fn short_numbers(kind: Kind) -> Vec<u64> {
         Kind::Exponent => vec![0, 1, 2, 3, 6, u64::from(u32::MAX)],
         Kind::Float => [0.0, -0.0, 1.0, f64::NAN].map(f64::to_bits).to_vec(),
         Kind::Total => [1.0, 2.0, 5e-324, f64::MAX].into_iter().chain(REFUSED_TOTALS).map(f64::to_bits).collect(),
+        Kind::Wanted => [0.0, -0.0, 0.5, 2.0, f64::INFINITY, f64::NEG_INFINITY, f64::NAN].map(f64::to_bits).to_vec(),
         Kind::Exp | Kind::Log => vec![0],
     }
 }

@@ -24,6 +24,8 @@ pub enum Kind {
     Float,
     /// the bits of a total that a tail is a part of
     Total,
+    /// the bits of a wanted chance; in many cases a running sum of the first operand or one of its neighbours
+    Wanted,
     /// the bits of the source's own exp, or log, of the first operand's constant term
     Exp,
     Log,
@@ -55,7 +57,7 @@ impl Operation {
         self.gives == Gives::Polynomial
     }
 
-    /// How many floats a reading writes.
+    /// How many floats a reading writes; `least` writes a word, which is taken for a float's bits.
     pub fn cells(&self) -> usize {
         match self.gives {
             Gives::Polynomial => 0,
@@ -95,7 +97,7 @@ const fn read(row: Operation) -> Operation {
     Operation { operands: 1, gives: Gives::Float, ..row }
 }
 
-use Kind::{Constant, Exp, Exponent, Float, Index, Limit, Log, Order, Total, Variable, Vars};
+use Kind::{Constant, Exp, Exponent, Float, Index, Limit, Log, Order, Total, Variable, Vars, Wanted};
 const INDEX: &[Kind] = &[Index, Index, Index, Index];
 const LIMITS: &[Kind] = &[Vars, Limit, Limit, Limit, Limit];
 const CONSTANT_LIMITS: &[Kind] = &[Constant, Vars, Limit, Limit, Limit, Limit];
@@ -115,6 +117,7 @@ pub static OPERATIONS: &[Operation] = &[
     read(row("evaluate_all_one", 22, &[], refusals::reading, oracle::evaluate_all_one)),
     Operation { gives: Gives::Line, ..read(row("extract_linear", 23, &[], refusals::reading, oracle::extract_linear)) },
     read(row("tail", 24, &[Order, Total], refusals::tail, oracle::tail)),
+    read(row("least", 25, &[Wanted], refusals::least, oracle::least)),
     one(row("taylor_polynomial", 3, &[Variable, Order], refusals::taylor_polynomial, oracle::taylor_polynomial)),
     one(row("coefficients_of_term", 4, &[Variable, Order], refusals::coefficients_of_term, oracle::coefficients_of_term)),
     one(row("negate", 0, &[], refusals::negate, oracle::negate)),

@@ -219,3 +219,16 @@ pub fn tail(case: &Case) -> Given {
     let (sum, total) = (a(case).taylor_polynomial(Var(0), number(case, 0)).evaluate_all_one(), float(case, 1));
     reads((total - sum) / total)
 }
+
+/// Not in the source: a walk over all running sums, each made anew; refusals::least has found that one reaches q.
+pub fn least(case: &Case) -> Given {
+    let k = reaching(case).expect("a sum that reaches q");
+    Given::Read(0, vec![f64::from_bits(k)])
+}
+
+/// The least k whose running sum is at least q.
+pub fn reaching(case: &Case) -> Option<u64> {
+    let (count, q) = (Header::read(case.ah)?.count(), f64::from_bits(case.numbers[0]));
+    let sums = (0..count).map(|k| case.a[..=k].iter().fold(0.0, |sum, x| sum + x));
+    sums.zip(0..).filter(|(sum, _)| *sum >= q).map(|(_, k)| k).min()
+}

@@ -74,6 +74,7 @@ calls! {
     "evaluate_all_one" => |l| l.put(taylor::evaluate_all_one(l.case.ah, l.a));
     "extract_linear" => |l| l.put_line(taylor::extract_linear(l.case.ah, l.a));
     "tail" => |l| l.put(taylor::tail(l.case.ah, l.a, l.number(0), l.float(1)));
+    "least" => |l| l.put(taylor::least(l.case.ah, l.a, l.float(0)).map(f64::from_bits));
     "taylor_polynomial" => |l| taylor::taylor_polynomial(l.case.ah, l.a, l.number(0), l.number(1), l.out);
     "coefficients_of_term" => |l| taylor::coefficients_of_term(l.case.ah, l.a, l.number(0), l.number(1), l.out);
     "negate" => |l| taylor::negate(l.case.ah, l.a, l.out);

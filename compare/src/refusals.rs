@@ -3,6 +3,7 @@
 //! is from it.
 
 use crate::case::Case;
+use crate::oracle;
 use crate::words::{Header, COUNT, LIMIT, VARIABLES};
 
 /// A refusal's number. Its place is 64 in a single operation.
@@ -204,6 +205,14 @@ pub fn tail(case: &Case) -> Gate {
     below_limit(&a, 0, case.numbers[0])?;
     let total = f64::from_bits(case.numbers[1]);
     demand(total.is_finite() && total > 0.0, 4)?;
+    Ok(a)
+}
+
+/// Number q.
+pub fn least(case: &Case) -> Gate {
+    let a = operand(case)?;
+    demand(a.vars == 1, 3)?;
+    demand(oracle::reaching(case).is_some(), 11)?;
     Ok(a)
 }
 

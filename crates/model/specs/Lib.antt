@@ -11,6 +11,7 @@ pub mod Linear
 pub mod Negate
 pub mod Readings
 pub mod Tail
+pub mod Least
 pub mod Constructed
 pub mod Add
 pub mod General

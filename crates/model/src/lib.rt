@@ -32,6 +32,12 @@ pub enum Reading {
     Refused(Refusal),
 }
 
+// A number of places that was read off a polynomial.
+pub enum CountReading {
+    Done(usize),
+    Refused(Refusal),
+}
+
 // c + m * v, where `yes`; else all 0.
 pub struct Linear {
     pub yes: bool,

@@ -1,13 +1,16 @@
-// Constructors and readings (document 01, port order 2, and 'Tail'; document 02, W1). Each takes any words, numbers and
-// buffers.
+// Constructors and readings (document 01, port order 2, and 'Tail'; document 02, W1, W6). Each takes any words, numbers
+// and buffers.
 pub mod line;
 
 use gates::stored_of;
 use model::Answer;
+use model::CountReading;
 use model::Family;
 use model::Header;
 use model::LinearReading;
 use model::Reading;
+use model::Refusal;
+use readings_sums::least_at;
 use readings_sums::sum_to;
 use readings_sums::tail_at;
 use shape::announce::announced_of;
@@ -24,6 +27,7 @@ ghost use Rattle.model.specs.Readings.{oneF, coefficientAnswer, constantTermAns
 ghost use Rattle.model.specs.Readings.{extractLinearAnswer, taylorPolynomialAnswer, taylorPolynomialOut};
 ghost use Rattle.model.specs.Readings.{coefficientsOfTermAnswer, coefficientsOfTermOut};
 ghost use Rattle.model.specs.Tail.{tailAnswer};
+ghost use Rattle.model.specs.Least.{leastAnswer};
 
 // +0.0, with no variables: refusal 5.
 pub fn zero(out: &mut [f64]) -> Answer
@@ -177,6 +181,23 @@ pub fn tail(head: u64, a: &[f64], k: usize, total: f64) -> Reading
     let h = header_of(head);
     let n = h.lengths;
     Reading::Done(tail_at(a, n[0], k, total))
+}
+
+// One variable: the least k whose running sum, of the stored coefficients 0 to k, is at least q; refusals 1, 2, 3, 11.
+pub fn least(head: u64, a: &[f64], q: f64) -> CountReading
+    ensures { λ r. ⌜ r ≡ leastAnswer head (now (a .entry)) q ⌝ }
+{
+    let refusal = gates::sole_gate(head, a.len());
+    if refusal.number != 0 {
+        return CountReading::Refused(refusal);
+    }
+    let h = header_of(head);
+    let n = h.lengths;
+    let k = least_at(a, n[0], q);
+    if n[0] <= k {
+        return CountReading::Refused(Refusal::by(11));
+    }
+    CountReading::Done(k)
 }
 
 // The powers of v up to `order`: refusals 1, 2, 3, 4, 5.

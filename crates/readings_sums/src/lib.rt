@@ -4,6 +4,7 @@ ghost use Prim.Native.Nat.{_+_, _≤_, min};
 ghost use lib.ListN.{length};
 ghost use Rattle.model.specs.Readings.{sumTo};
 ghost use Rattle.model.specs.Tail.{tailOf};
+ghost use Rattle.model.specs.Least.{leastOf};
 
 // The sum of the first n places.
 pub fn sum_to(a: &[f64], n: usize) -> f64
@@ -36,4 +37,21 @@ pub fn tail_at(a: &[f64], n: usize, k: usize, total: f64) -> f64
 {
     let many = places_to(n, k);
     (total - sum_to(a, many)) / total
+}
+
+// The least of n places whose running sum is at least q; n where there is none.
+pub fn least_at(a: &[f64], n: usize, q: f64) -> usize
+    requires { ⌜ n ≤ length (now a) ⌝ }
+    ensures { λ r. ⌜ r ≡ leastOf (now (a .entry)) n q ⌝ }
+{
+    let mut sum = 0.0;
+    let mut k = 0;
+    while k < n {
+        sum = sum + a[k];
+        if q <= sum {
+            return k;
+        }
+        k += 1;
+    }
+    n
 }

@@ -14,6 +14,7 @@ use libc::STDIN_FILENO;
 use libc::STDOUT_FILENO;
 use show::show_all;
 use show::show_answer;
+use show::show_count;
 use show::show_linear;
 use show::show_number;
 use show::show_reading;
@@ -50,6 +51,8 @@ fn read(op: u64, head: u64, a: &[f64], x: [u64; 7]) {
     } else if op == 24 {
         let total = sheet_bits::float_of(x[1]);
         show_reading(readings::tail(head, a, x[0] as usize, total));
+    } else if op == 25 {
+        show_count(readings::least(head, a, sheet_bits::float_of(x[0])));
     } else {
         show_unknown();
     }

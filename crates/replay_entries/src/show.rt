@@ -1,6 +1,7 @@
 // Printing of answers: a word behind a space, a count behind a space, an answer's line as far as it goes.
 use libc::STDOUT_FILENO;
 use model::Answer;
+use model::CountReading;
 use model::LinearReading;
 use model::Reading;
 use model::Refusal;
@@ -46,6 +47,16 @@ pub fn show_reading(r: Reading) {
             show_word(sheet_bits::word_of(x));
         }
         Reading::Refused(e) => show_refusal(e),
+    }
+}
+
+pub fn show_count(r: CountReading) {
+    match r {
+        CountReading::Done(k) => {
+            io::write_all(STDOUT_FILENO, b"done");
+            show_word(k as u64);
+        }
+        CountReading::Refused(e) => show_refusal(e),
     }
 }
 

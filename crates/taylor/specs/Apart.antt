@@ -1,6 +1,6 @@
 -- The face: the two kinds of answer cannot be confused. The low five bits of an answered word are the refusal's number,
--- 0 where there is none: a header word ends in 13 zero bits, and gates refuse by 1 to 6. What was answered is read back
--- from the word.
+-- 0 where there is none: a header word ends in 13 zero bits, and gates refuse by 1 to 6, `least` by 11 too. What was
+-- answered is read back from the word.
 use Prim.Native.Nat.{ℕ, zero, suc, _+_, _/_, _%_, _^_, _≤_, _<_}
 use mathlib.Core.List.{List}
 use mathlib.Core.Bool.{Bool, true, false, cond}
@@ -19,7 +19,7 @@ use Rattle.model.specs.declared.Linear.{Linear}
 use Rattle.model.specs.declared.LinearReading.{LinearReading}
 use Rattle.model.specs.declared.Family.{Family}
 use Rattle.model.specs.declared.Family.the-variants.{Same, Sum, Product, Quotient, Series, Power, Shift, Substitution, Term, Order}
-use Rattle.model.specs.Header.{limit, zeroWith, varWith}
+use Rattle.model.specs.Header.{limit, len, zeroWith, varWith}
 use Rattle.model.specs.Word.{headerOf, goodWord, wordOf}
 use Rattle.model.specs.Places.{inside}
 use Rattle.model.specs.Refusals.{refusedAt, noRefusal, isNone, ask, fits, roomy, answerBy, readBy, linearBy}
@@ -33,6 +33,7 @@ use Rattle.model.specs.Readings.{coefficientAnswer, constantTermAnswer, evaluat
 use Rattle.model.specs.Readings.{taylorPolynomialGate, taylorPolynomialAnswer, coefficientsOfTermGate}
 use Rattle.model.specs.Readings.{coefficientsOfTermAnswer}
 use Rattle.model.specs.Tail.{tailAnswer}
+use Rattle.model.specs.Least.{leastOf, countBy, leastRefusal, leastAnswer}
 use Rattle.model.specs.Negate.{negateGate, negateAnswer}
 use Rattle.model.specs.Add.{sumGate, sumAnswer}
 use Rattle.model.specs.Product.{productGate, productAnswer}
@@ -41,7 +42,7 @@ use Rattle.model.specs.Series.{seriesGate, expAnswer, logAnswer}
 use Rattle.model.specs.Shifts.{shiftGate, derivativeAnswer, expansionAnswer, shiftDownAnswer}
 use Rattle.model.specs.Power.{powerGate, powerAnswer}
 use Rattle.model.specs.Substitute.{substituteGate, substituteAnswer}
-use Rattle.taylor.specs.Face.{wordOfRefusal, wordOfAnswer, wordOfReading, wordOfLinear, variableOf}
+use Rattle.taylor.specs.Face.{wordOfRefusal, wordOfAnswer, wordOfReading, wordOfCount, wordOfLinear, variableOf}
 
 -- ---- any answer, by the refusal r that decides it
 
@@ -53,6 +54,10 @@ module _ (r : Refusal) (few : r .number < 32) where
   pub read-low : (x : Float) → wordOfReading (readBy r x) % 32 ≡ r .number
   unfolding readBy
   read-low x = decide (isNone r) (λ t. simp t (omega (arith, eqb-true (r .number) 0 t))) (λ t. simp t (omega arith))
+
+  pub count-low : (k : ℕ) → wordOfCount (countBy r k) % 32 ≡ r .number
+  unfolding countBy
+  count-low k = decide (isNone r) (λ t. simp t (omega (arith, eqb-true (r .number) 0 t))) (λ t. simp t (omega arith))
 
 -- the refusal that a word stands for
 abbrev pub refusalFrom : ℕ → Refusal
@@ -110,7 +115,7 @@ pub extract-small : (w : ℕ) (a : List Float) → variableOf (extractLinearAnsw
 unfolding extractLinearAnswer
 extract-small w a = linear-small (blockOf (held w a)) (readGate w (length a))
 
--- ---- the gates refuse by 1 to 6
+-- ---- the gates refuse by 1 to 6, or by 11
 
 asked : (a b c d e f : Bool) → ask a 1 (ask b 2 (ask c 3 (ask d 4 (ask e 5 (ask f 6 noRefusal))))) .number < 32
 asked false b c d e f = lit< tt
@@ -140,6 +145,19 @@ tail-few w m k total =
     let b : Bool = ltb k (limit (headerOf w) 0) in
     rw (ask-both b (goodTotal total) 4 noRefusal)
     (asked (goodWord w) (full w m) (eqb (headerOf w .vars) 1) (b && goodTotal total) true true)
+
+-- 11 after three tests
+reached : (a b c d : Bool) → ask a 1 (ask b 2 (ask c 3 (ask d 11 noRefusal))) .number < 32
+reached false b c d = lit< tt
+reached true false c d = lit< tt
+reached true true false d = lit< tt
+reached true true true false = lit< tt
+reached true true true true = lit< tt
+
+least-few : (w : ℕ) (a : List Float) (q : Float) → leastRefusal w a q .number < 32
+unfolding leastRefusal
+least-few w a q =
+    reached (goodWord w) (full w (length a)) (eqb (headerOf w .vars) 1) (ltb (leastOf a (len (headerOf w) 0) q) (len (headerOf w) 0))
 
 one-few : (f : Family) (w m n : ℕ) → oneGate f w m n .number < 32
 unfolding oneGate
@@ -206,6 +224,10 @@ module _ (w : ℕ) (a : List Float) where
   pub tail-low : (k : ℕ) (total : Float) → wordOfReading (tailAnswer w a k total) % 32 ≡ tailGate w (length a) k total .number
   unfolding tailAnswer
   tail-low k total = read-low (tailGate w (length a) k total) (tail-few w (length a) k total) _
+
+  pub least-low : (q : Float) → wordOfCount (leastAnswer w a q) % 32 ≡ leastRefusal w a q .number
+  unfolding leastAnswer
+  least-low q = count-low (leastRefusal w a q) (least-few w a q) _
 
   module _ (out : List Float) where
     pub taylor-polynomial-back : (v n : ℕ) → answerFrom (wordOfAnswer (taylorPolynomialAnswer w a v n out)) ≡ taylorPolynomialAnswer w a v n out

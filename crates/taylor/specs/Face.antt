@@ -1,5 +1,5 @@
--- The face: one word an answer. Done, the header word; refused, number + 256 * place. A reading that gives a float
--- answers 0 and writes the float, or answers the refusal and writes nothing; `extract_linear` answers 0 for no, 1 +
+-- The face: one word an answer. Done, the header word; refused, number + 256 * place. A reading that gives a number
+-- answers 0 and writes the number, or answers the refusal and writes nothing; `extract_linear` answers 0 for no, 1 +
 -- variable for yes, and a refusal + 2^32.
 use Prim.Native.Nat.{ℕ, _+_, _*_, _^_}
 use mathlib.Core.Bool.{cond}
@@ -11,6 +11,8 @@ use Rattle.model.specs.declared.Answer.{Answer}
 use Rattle.model.specs.declared.Answer.the-variants as answer
 use Rattle.model.specs.declared.Reading.{Reading}
 use Rattle.model.specs.declared.Reading.the-variants as reading
+use Rattle.model.specs.declared.CountReading.{CountReading}
+use Rattle.model.specs.declared.CountReading.the-variants as count-reading
 use Rattle.model.specs.declared.LinearReading.{LinearReading}
 use Rattle.model.specs.declared.LinearReading.the-variants as linear-reading
 use Rattle.model_recipes.specs.declared.CheckAnswer.{CheckAnswer}
@@ -42,6 +44,15 @@ wordOfReading (reading.Refused r) = wordOfRefusal r
 abbrev pub valueAfter : Reading → Float → Float
 valueAfter (reading.Done x) old = x
 valueAfter (reading.Refused r) old = old
+
+-- a number of places was read, or not
+abbrev pub wordOfCount : CountReading → ℕ
+wordOfCount (count-reading.Done k) = 0
+wordOfCount (count-reading.Refused r) = wordOfRefusal r
+
+abbrev pub countAfter : CountReading → ℕ → ℕ
+countAfter (count-reading.Done k) old = k
+countAfter (count-reading.Refused r) old = old
 
 -- the linear test
 abbrev pub wordOfLinear : LinearReading → ℕ

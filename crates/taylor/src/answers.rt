@@ -1,5 +1,6 @@
 // Answers as words, and what a reading writes.
 use model::Answer;
+use model::CountReading;
 use model::LinearReading;
 use model::Reading;
 use model::Refusal;
@@ -11,7 +12,7 @@ ghost use Prim.Native.Nat.{_<_};
 ghost use Rattle.taylor.specs.Face.{wordOfRefusal, wordOfAnswer, wordOfReading, valueAfter, variableOf};
 ghost use Rattle.taylor.specs.Face.{wordOfLinear, constantAfter, factorAfter, wordOfCheck, poolAfter};
 ghost use Rattle.taylor.specs.Face.{largestAfter, inputsAfter, wordOfRun};
-ghost use Rattle.taylor.specs.Face.{wordOfWritten, lengthAfter};
+ghost use Rattle.taylor.specs.Face.{wordOfCount, countAfter, wordOfWritten, lengthAfter};
 
 // A refusal as one word.
 fn refusal_word(r: Refusal) -> u64
@@ -41,6 +42,20 @@ pub fn put(r: Reading, value: &mut f64) -> u64
             0
         }
         Reading::Refused(e) => refusal_word(e),
+    }
+}
+
+// A number of places that was read, written through `count`; a refusal writes nothing.
+pub fn put_count(r: CountReading, count: &mut u64) -> u64
+    ensures answer { λ w. ⌜ w ≡ wordOfCount r ⌝ }
+    ensures count { λ w. ⌜ now (count .exit) ≡ countAfter r (now (count .entry)) ⌝ }
+{
+    match r {
+        CountReading::Done(k) => {
+            *count = k as u64;
+            0
+        }
+        CountReading::Refused(e) => refusal_word(e),
     }
 }
 

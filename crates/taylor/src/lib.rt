@@ -5,6 +5,7 @@ mod answers;
 mod settings;
 
 use answers::put;
+use answers::put_count;
 use answers::put_linear;
 use answers::put_totals;
 use answers::put_written;
@@ -22,6 +23,7 @@ ghost use Rattle.model.specs.Readings.{oneF, coefficientAnswer, constantTermAns
 ghost use Rattle.model.specs.Readings.{extractLinearAnswer, taylorPolynomialAnswer, taylorPolynomialOut};
 ghost use Rattle.model.specs.Readings.{coefficientsOfTermAnswer, coefficientsOfTermOut};
 ghost use Rattle.model.specs.Tail.{tailAnswer};
+ghost use Rattle.model.specs.Least.{leastAnswer};
 ghost use Rattle.model.specs.Negate.{negateAnswer, negateOut};
 ghost use Rattle.model.specs.Add.{sumAnswer, sumOut, sumScratch};
 ghost use Rattle.model.specs.Product.{productAnswer, productOut, productScratch};
@@ -35,7 +37,7 @@ ghost use Rattle.model_recipes.specs.Run.{runAnswer, runPool, runWords, runScra
 ghost use Rattle.npy_files.specs.Writes.{writeAnswer, writeFile};
 ghost use Rattle.taylor.specs.Face.{fourOf, wordOfAnswer, wordOfReading, valueAfter, wordOfLinear, constantAfter};
 ghost use Rattle.taylor.specs.Face.{factorAfter, wordOfCheck, poolAfter, largestAfter, inputsAfter, wordOfRun};
-ghost use Rattle.taylor.specs.Face.{FileRead, wordOfWritten, lengthAfter};
+ghost use Rattle.taylor.specs.Face.{wordOfCount, countAfter, FileRead, wordOfWritten, lengthAfter};
 
 // +0.0, with no variables: refusal 5.
 #[no_mangle]
@@ -218,6 +220,15 @@ pub extern "C" fn taylor_tail(head: u64, a: &[f64], k: u64, total: f64, value: &
     ensures value { λ r. ⌜ now (value .exit) ≡ valueAfter (tailAnswer head (now (a .entry)) k total) (now (value .entry)) ⌝ }
 {
     put(readings::tail(head, a, k as usize, total), value)
+}
+
+// One variable: the least k whose running sum, of the stored coefficients 0 to k, is at least q; refusals 1, 2, 3, 11.
+#[no_mangle]
+pub extern "C" fn taylor_least(head: u64, a: &[f64], q: f64, k: &mut u64) -> u64
+    ensures answer { λ r. ⌜ r ≡ wordOfCount (leastAnswer head (now (a .entry)) q) ⌝ }
+    ensures k { λ r. ⌜ now (k .exit) ≡ countAfter (leastAnswer head (now (a .entry)) q) (now (k .entry)) ⌝ }
+{
+    put_count(readings::least(head, a, q), k)
 }
 
 // The powers of v up to `order`: refusals 1, 2, 3, 4, 5.
