@@ -1,2 +1,6 @@
 pub mod Own
 pub mod Tails
+pub mod Order
+pub mod Rising
+pub mod Leasts
+pub mod Textbook
