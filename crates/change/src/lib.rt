@@ -4,13 +4,11 @@ pub mod kernel;
 use model::Answer;
 use model::Family;
 use shape_words::word::pack;
-ghost use mathlib.Core.Path.{_≡_};
-ghost use Rattle.model.specs.Shifts.{derivativeAnswer, derivativeOut, expansionAnswer, expansionOut, shiftDownAnswer, shiftDownOut};
+ghost use Rattle.model.specs.Promises.{DerivativePromise, TaylorExpansionOfCoeffPromise, ShiftDownPromise};
 
 // The n-th derivative in v: refusals 1, 2, 3, 4, 5.
 pub fn derivative(head: u64, a: &[f64], v: usize, n: usize, out: &mut [f64]) -> Answer
-    ensures answer { λ r. ⌜ r ≡ derivativeAnswer head (now (a .entry)) v n (now (out .entry)) ⌝ }
-    ensures written { λ r. ⌜ now (out .exit) ≡ derivativeOut head (now (a .entry)) v n (now (out .entry)) ⌝ }
+    ensures { λ r. ⌜ DerivativePromise head (now (a .entry)) v n (now (out .entry)) r (now (out .exit)) ⌝ }
 {
     kernel::scaled(false, head, a, v, n, out)
 }
@@ -23,16 +21,14 @@ pub fn taylor_expansion_of_coeff(
     n: usize,
     out: &mut [f64],
 ) -> Answer
-    ensures answer { λ r. ⌜ r ≡ expansionAnswer head (now (a .entry)) v n (now (out .entry)) ⌝ }
-    ensures written { λ r. ⌜ now (out .exit) ≡ expansionOut head (now (a .entry)) v n (now (out .entry)) ⌝ }
+    ensures { λ r. ⌜ TaylorExpansionOfCoeffPromise head (now (a .entry)) v n (now (out .entry)) r (now (out .exit)) ⌝ }
 {
     kernel::scaled(true, head, a, v, n, out)
 }
 
 // The coefficients of v moved down by n, the sum of those that would leave added at 0: refusals 1, 2, 3, 4, 5.
 pub fn shift_down(head: u64, a: &[f64], v: usize, n: usize, out: &mut [f64]) -> Answer
-    ensures answer { λ r. ⌜ r ≡ shiftDownAnswer head (now (a .entry)) v n (now (out .entry)) ⌝ }
-    ensures written { λ r. ⌜ now (out .exit) ≡ shiftDownOut head (now (a .entry)) v n (now (out .entry)) ⌝ }
+    ensures { λ r. ⌜ ShiftDownPromise head (now (a .entry)) v n (now (out .entry)) r (now (out .exit)) ⌝ }
 {
     let o = gates::open_in(Family::Shift(v, n), v, n, head, a.len(), out.len());
     let refusal = o.refusal;

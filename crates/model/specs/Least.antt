@@ -12,9 +12,9 @@ use Rattle.model.specs.declared.Refusal.{Refusal}
 use Rattle.model.specs.declared.CountReading.{CountReading}
 use Rattle.model.specs.declared.CountReading.the-variants as count-reading
 use Rattle.model.specs.Header.{len}
-use Rattle.model.specs.Word.{headerOf, goodWord}
+use Rattle.model.specs.Word.{headerOf}
 use Rattle.model.specs.Refusals.{ask, noRefusal, isNone}
-use Rattle.model.specs.Gates.{full}
+use Rattle.model.specs.Gates.{askWord, full}
 use Rattle.model.specs.Readings.{sumTo}
 
 -- number k is the sum, from +0.0 upwards, of the coefficients 0 to k; n the stored length
@@ -38,7 +38,7 @@ module _ (w : ℕ) (a : List Float) (q : Float) where
   -- 3 for other than one variable, then 11 where no stored running sum reaches q
   unfoldable pub leastRefusal : Refusal
   leastRefusal =
-      ask (goodWord w) 1
+      askWord w
       (ask (full w (length a)) 2
       (ask (eqb (headerOf w .vars) 1) 3
       (ask (ltb (leastOf a (len (headerOf w) 0) q) (len (headerOf w) 0)) 11

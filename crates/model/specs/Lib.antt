@@ -21,3 +21,5 @@ pub mod Series
 pub mod Shifts
 pub mod Power
 pub mod Substitute
+pub mod Promises
+pub mod Numbers

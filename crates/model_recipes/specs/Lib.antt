@@ -4,3 +4,4 @@ pub mod Recipe
 pub mod Check
 pub mod Reasons
 pub mod Run
+pub mod Promises

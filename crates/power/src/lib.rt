@@ -5,14 +5,11 @@ use model::Answer;
 use model::Family;
 use model::Header;
 use shape_words::word::pack;
-ghost use mathlib.Core.Path.{_≡_};
-ghost use Rattle.model.specs.Power.{powerAnswer, powerOut, powerScratch};
+ghost use Rattle.model.specs.Promises.{PowPromise};
 
 // a to the power e, cut to its limits: refusals 1, 2, 5, 6. 0 gives one with no variables, 1 a copy.
 pub fn pow(head: u64, a: &[f64], e: u32, out: &mut [f64], scratch: &mut [f64]) -> Answer
-    ensures answer { λ r. ⌜ r ≡ powerAnswer head (now (a .entry)) e (now (out .entry)) (now (scratch .entry)) ⌝ }
-    ensures written { λ r. ⌜ now (out .exit) ≡ powerOut head (now (a .entry)) e (now (out .entry)) (now (scratch .entry)) ⌝ }
-    ensures cleared { λ r. ⌜ now (scratch .exit) ≡ powerScratch head (now (a .entry)) e (now (out .entry)) (now (scratch .entry)) ⌝ }
+    ensures { λ r. ⌜ PowPromise head (now (a .entry)) e (now (out .entry)) (now (scratch .entry)) r (now (out .exit)) (now (scratch .exit)) ⌝ }
 {
     let o = gates::open_work(Family::Power(e), head, a.len(), out.len(), scratch.len());
     let refusal = o.refusal;

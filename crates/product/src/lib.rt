@@ -7,6 +7,7 @@ use model::Header;
 use shape_words::word::pack;
 ghost use mathlib.Core.Path.{_≡_};
 ghost use Rattle.model.specs.Product.{productAnswer, productOut, productScratch};
+ghost use Rattle.model.specs.Promises.{MultiplyPromise};
 
 // The product, whatever the limits and the ways.
 fn multiply_opened(
@@ -19,7 +20,8 @@ fn multiply_opened(
 ) -> Answer
     ensures answer { λ r. ⌜ r ≡ productAnswer ah (now (a .entry)) bh (now (b .entry)) (now (out .entry)) (now (scratch .entry)) ⌝ }
     ensures written { λ r. ⌜ now (out .exit) ≡ productOut ah (now (a .entry)) bh (now (b .entry)) (now (out .entry)) (now (scratch .entry)) ⌝ }
-    ensures cleared { λ r. ⌜ now (scratch .exit) ≡ productScratch ah (now (a .entry)) bh (now (b .entry)) (now (out .entry)) (now (scratch .entry)) ⌝ }
+    ensures cleared { λ r. ⌜ now (scratch .exit) ≡ productScratch ah (now (a .entry)) bh (now (b .entry))
+        (now (out .entry)) (now (scratch .entry)) ⌝ }
 {
     let o = gates::open_product(ah, a.len(), bh, b.len(), out.len(), scratch.len());
     let refusal = o.refusal;
@@ -63,9 +65,8 @@ pub fn multiply(
     out: &mut [f64],
     scratch: &mut [f64],
 ) -> Answer
-    ensures answer { λ r. ⌜ r ≡ productAnswer ah (now (a .entry)) bh (now (b .entry)) (now (out .entry)) (now (scratch .entry)) ⌝ }
-    ensures written { λ r. ⌜ now (out .exit) ≡ productOut ah (now (a .entry)) bh (now (b .entry)) (now (out .entry)) (now (scratch .entry)) ⌝ }
-    ensures cleared { λ r. ⌜ now (scratch .exit) ≡ productScratch ah (now (a .entry)) bh (now (b .entry)) (now (out .entry)) (now (scratch .entry)) ⌝ }
+    ensures { λ r. ⌜ MultiplyPromise ah (now (a .entry)) bh (now (b .entry)) (now (out .entry))
+        (now (scratch .entry)) r (now (out .exit)) (now (scratch .exit)) ⌝ }
 {
     let w = own::short_way(ah, a, bh, b, out.len(), scratch.len());
     if w.kind != 6 {

@@ -4,8 +4,7 @@ pub mod kernel;
 use model::Answer;
 use model::Family;
 use shape_words::word::pack;
-ghost use mathlib.Core.Path.{_≡_};
-ghost use Rattle.model.specs.Quotient.{quotientAnswer, quotientOut, quotientScratch};
+ghost use Rattle.model.specs.Promises.{DividePromise};
 
 // a / b, cut to the smaller limits: refusals 1, 2, 5, 6. Division by zero, infinities and NaN go as IEEE 754 says and
 // refuse nothing.
@@ -17,9 +16,8 @@ pub fn divide(
     out: &mut [f64],
     scratch: &mut [f64],
 ) -> Answer
-    ensures answer { λ r. ⌜ r ≡ quotientAnswer ah (now (a .entry)) bh (now (b .entry)) (now (out .entry)) (now (scratch .entry)) ⌝ }
-    ensures written { λ r. ⌜ now (out .exit) ≡ quotientOut ah (now (a .entry)) bh (now (b .entry)) (now (out .entry)) (now (scratch .entry)) ⌝ }
-    ensures cleared { λ r. ⌜ now (scratch .exit) ≡ quotientScratch ah (now (a .entry)) bh (now (b .entry)) (now (out .entry)) (now (scratch .entry)) ⌝ }
+    ensures { λ r. ⌜ DividePromise ah (now (a .entry)) bh (now (b .entry)) (now (out .entry)) (now (scratch .entry))
+        r (now (out .exit)) (now (scratch .exit)) ⌝ }
 {
     let o = gates::open_pair(
         Family::Quotient,

@@ -16,58 +16,41 @@ use readings_sums::tail_at;
 use shape::announce::announced_of;
 use shape_words::word::header_of;
 use shape_words::word::pack;
-ghost use mathlib.Core.Path.{_≡_};
-ghost use lib.ListN.{length};
-ghost use Rattle.model.specs.Header.{ones, noHeader, zeroWith, varWith};
-ghost use Rattle.model.specs.Refusals.{zeroF};
-ghost use Rattle.model.specs.Gates.{withGate, varWithGate, varHeader, varGate};
-ghost use Rattle.model.specs.Answers.{answered, outAfter};
-ghost use Rattle.model.specs.Constructed.{constant, wholeF, variable};
-ghost use Rattle.model.specs.Readings.{oneF, coefficientAnswer, constantTermAnswer, evaluateAllOneAnswer};
-ghost use Rattle.model.specs.Readings.{extractLinearAnswer, taylorPolynomialAnswer, taylorPolynomialOut};
-ghost use Rattle.model.specs.Readings.{coefficientsOfTermAnswer, coefficientsOfTermOut};
-ghost use Rattle.model.specs.Tail.{tailAnswer};
-ghost use Rattle.model.specs.Least.{leastAnswer};
+ghost use Rattle.model.specs.Promises.{ZeroPromise, OnePromise, FromU32Promise, ZeroWithPromise, FromU32WithPromise, VarWithDegreesP1Promise};
+ghost use Rattle.model.specs.Promises.{VarPromise, VarAtZeroPromise, CoefficientPromise, ConstantTermPromise, EvaluateAllOnePromise};
+ghost use Rattle.model.specs.Promises.{ExtractLinearPromise, TailPromise, LeastPromise, TaylorPolynomialPromise, CoefficientsOfTermPromise};
 
 // +0.0, with no variables: refusal 5.
 pub fn zero(out: &mut [f64]) -> Answer
-    ensures answer { λ r. ⌜ r ≡ answered (withGate 0 ones (length (now (out .entry)))) (constant noHeader zeroF) ⌝ }
-    ensures written { λ r. ⌜ now (out .exit) ≡ outAfter (withGate 0 ones (length (now (out .entry)))) noHeader (constant noHeader zeroF) (now (out .entry)) ⌝ }
+    ensures { λ r. ⌜ ZeroPromise (now (out .entry)) r (now (out .exit)) ⌝ }
 {
     readings_short::constant_with(0.0, 0, [1, 1, 1, 1], out)
 }
 
 // 1.0, with no variables: refusal 5.
 pub fn one(out: &mut [f64]) -> Answer
-    ensures answer { λ r. ⌜ r ≡ answered (withGate 0 ones (length (now (out .entry)))) (constant noHeader oneF) ⌝ }
-    ensures written { λ r. ⌜ now (out .exit) ≡ outAfter (withGate 0 ones (length (now (out .entry)))) noHeader (constant noHeader oneF) (now (out .entry)) ⌝ }
+    ensures { λ r. ⌜ OnePromise (now (out .entry)) r (now (out .exit)) ⌝ }
 {
     readings_short::constant_with(1.0, 0, [1, 1, 1, 1], out)
 }
 
 // c, with no variables: refusal 5.
 pub fn from_u32(c: u32, out: &mut [f64]) -> Answer
-    ensures answer { λ r. ⌜ r ≡ answered (withGate 0 ones (length (now (out .entry)))) (constant noHeader (wholeF c)) ⌝ }
-    ensures written { λ r. ⌜ now (out .exit) ≡ outAfter (withGate 0 ones (length (now (out .entry)))) noHeader
-        (constant noHeader (wholeF c)) (now (out .entry)) ⌝ }
+    ensures { λ r. ⌜ FromU32Promise c (now (out .entry)) r (now (out .exit)) ⌝ }
 {
     readings_short::constant_with(c as f64, 0, [1, 1, 1, 1], out)
 }
 
 // +0.0 under the first `vars` of the limits: refusals 1, 5.
 pub fn zero_with(vars: usize, limits: [usize; 4], out: &mut [f64]) -> Answer
-    ensures answer { λ r. ⌜ r ≡ answered (withGate vars limits (length (now (out .entry)))) (constant (zeroWith vars limits) zeroF) ⌝ }
-    ensures written { λ r. ⌜ now (out .exit) ≡ outAfter (withGate vars limits (length (now (out .entry)))) (zeroWith vars limits)
-        (constant (zeroWith vars limits) zeroF) (now (out .entry)) ⌝ }
+    ensures { λ r. ⌜ ZeroWithPromise vars limits (now (out .entry)) r (now (out .exit)) ⌝ }
 {
     readings_short::constant_with(0.0, vars, limits, out)
 }
 
 // c under the first `vars` of the limits: refusals 1, 5.
 pub fn from_u32_with(c: u32, vars: usize, limits: [usize; 4], out: &mut [f64]) -> Answer
-    ensures answer { λ r. ⌜ r ≡ answered (withGate vars limits (length (now (out .entry)))) (constant (zeroWith vars limits) (wholeF c)) ⌝ }
-    ensures written { λ r. ⌜ now (out .exit) ≡ outAfter (withGate vars limits (length (now (out .entry)))) (zeroWith vars limits)
-        (constant (zeroWith vars limits) (wholeF c)) (now (out .entry)) ⌝ }
+    ensures { λ r. ⌜ FromU32WithPromise c vars limits (now (out .entry)) r (now (out .exit)) ⌝ }
 {
     readings_short::constant_with(c as f64, vars, limits, out)
 }
@@ -80,9 +63,7 @@ pub fn var_with_degrees_p1(
     limits: [usize; 4],
     out: &mut [f64],
 ) -> Answer
-    ensures answer { λ r. ⌜ r ≡ answered (varWithGate v vars limits (length (now (out .entry)))) (variable (varWith v vars limits) x) ⌝ }
-    ensures written { λ r. ⌜ now (out .exit) ≡ outAfter (varWithGate v vars limits (length (now (out .entry))))
-        (varWith v vars limits) (variable (varWith v vars limits) x) (now (out .entry)) ⌝ }
+    ensures { λ r. ⌜ VarWithDegreesP1Promise v x vars limits (now (out .entry)) r (now (out .exit)) ⌝ }
 {
     let refusal = gates::var_with_gate(v, vars, limits, out.len());
     if refusal.number != 0 {
@@ -93,9 +74,7 @@ pub fn var_with_degrees_p1(
 
 // x + v, every variable up to v under one limit: refusals 1, 3, 5.
 pub fn var(v: usize, x: f64, limit: usize, out: &mut [f64]) -> Answer
-    ensures answer { λ r. ⌜ r ≡ answered (varGate v limit (length (now (out .entry)))) (variable (varHeader v limit) x) ⌝ }
-    ensures written { λ r. ⌜ now (out .exit) ≡ outAfter (varGate v limit (length (now (out .entry)))) (varHeader v limit)
-        (variable (varHeader v limit) x) (now (out .entry)) ⌝ }
+    ensures { λ r. ⌜ VarPromise v x limit (now (out .entry)) r (now (out .exit)) ⌝ }
 {
     let refusal = gates::var_gate(v, limit, out.len());
     if refusal.number != 0 {
@@ -110,16 +89,14 @@ pub fn var(v: usize, x: f64, limit: usize, out: &mut [f64]) -> Answer
 
 // v itself, every variable up to it under one limit: refusals 1, 3, 5.
 pub fn var_at_zero(v: usize, limit: usize, out: &mut [f64]) -> Answer
-    ensures answer { λ r. ⌜ r ≡ answered (varGate v limit (length (now (out .entry)))) (variable (varHeader v limit) zeroF) ⌝ }
-    ensures written { λ r. ⌜ now (out .exit) ≡ outAfter (varGate v limit (length (now (out .entry)))) (varHeader v limit)
-        (variable (varHeader v limit) zeroF) (now (out .entry)) ⌝ }
+    ensures { λ r. ⌜ VarAtZeroPromise v limit (now (out .entry)) r (now (out .exit)) ⌝ }
 {
     var(v, 0.0, limit, out)
 }
 
 // The coefficient at an index, +0.0 past a stored length: refusals 1, 2, 3, 4.
 pub fn coefficient(head: u64, a: &[f64], index: [usize; 4]) -> Reading
-    ensures { λ r. ⌜ r ≡ coefficientAnswer head (now (a .entry)) index ⌝ }
+    ensures { λ r. ⌜ CoefficientPromise head (now (a .entry)) index r ⌝ }
 {
     let refusal = gates::index_gate(head, a.len(), index);
     if refusal.number != 0 {
@@ -136,7 +113,7 @@ pub fn coefficient(head: u64, a: &[f64], index: [usize; 4]) -> Reading
 
 // The coefficient at the index 0, 0, 0, 0: refusals 1, 2.
 pub fn constant_term(head: u64, a: &[f64]) -> Reading
-    ensures { λ r. ⌜ r ≡ constantTermAnswer head (now (a .entry)) ⌝ }
+    ensures { λ r. ⌜ ConstantTermPromise head (now (a .entry)) r ⌝ }
 {
     let refusal = gates::read_gate(head, a.len());
     if refusal.number != 0 {
@@ -147,7 +124,7 @@ pub fn constant_term(head: u64, a: &[f64]) -> Reading
 
 // The value where every variable is 1: refusals 1, 2.
 pub fn evaluate_all_one(head: u64, a: &[f64]) -> Reading
-    ensures { λ r. ⌜ r ≡ evaluateAllOneAnswer head (now (a .entry)) ⌝ }
+    ensures { λ r. ⌜ EvaluateAllOnePromise head (now (a .entry)) r ⌝ }
 {
     let refusal = gates::read_gate(head, a.len());
     if refusal.number != 0 {
@@ -158,7 +135,7 @@ pub fn evaluate_all_one(head: u64, a: &[f64]) -> Reading
 
 // Whether the polynomial is c + m * v: refusals 1, 2.
 pub fn extract_linear(head: u64, a: &[f64]) -> LinearReading
-    ensures { λ r. ⌜ r ≡ extractLinearAnswer head (now (a .entry)) ⌝ }
+    ensures { λ r. ⌜ ExtractLinearPromise head (now (a .entry)) r ⌝ }
 {
     let refusal = gates::read_gate(head, a.len());
     if refusal.number != 0 {
@@ -172,7 +149,7 @@ pub fn extract_linear(head: u64, a: &[f64]) -> LinearReading
 
 // One variable: a total less the sum of the stored coefficients 0 to k, over the total; refusals 1, 2, 3, 4.
 pub fn tail(head: u64, a: &[f64], k: usize, total: f64) -> Reading
-    ensures { λ r. ⌜ r ≡ tailAnswer head (now (a .entry)) k total ⌝ }
+    ensures { λ r. ⌜ TailPromise head (now (a .entry)) k total r ⌝ }
 {
     let refusal = gates::tail_gate(head, a.len(), k, total);
     if refusal.number != 0 {
@@ -185,7 +162,7 @@ pub fn tail(head: u64, a: &[f64], k: usize, total: f64) -> Reading
 
 // One variable: the least k whose running sum, of the stored coefficients 0 to k, is at least q; refusals 1, 2, 3, 11.
 pub fn least(head: u64, a: &[f64], q: f64) -> CountReading
-    ensures { λ r. ⌜ r ≡ leastAnswer head (now (a .entry)) q ⌝ }
+    ensures { λ r. ⌜ LeastPromise head (now (a .entry)) q r ⌝ }
 {
     let refusal = gates::sole_gate(head, a.len());
     if refusal.number != 0 {
@@ -202,8 +179,7 @@ pub fn least(head: u64, a: &[f64], q: f64) -> CountReading
 
 // The powers of v up to `order`: refusals 1, 2, 3, 4, 5.
 pub fn taylor_polynomial(head: u64, a: &[f64], v: usize, order: usize, out: &mut [f64]) -> Answer
-    ensures answer { λ r. ⌜ r ≡ taylorPolynomialAnswer head (now (a .entry)) v order (now (out .entry)) ⌝ }
-    ensures written { λ r. ⌜ now (out .exit) ≡ taylorPolynomialOut head (now (a .entry)) v order (now (out .entry)) ⌝ }
+    ensures { λ r. ⌜ TaylorPolynomialPromise head (now (a .entry)) v order (now (out .entry)) r (now (out .exit)) ⌝ }
 {
     let refusal = gates::in_gate(Family::Order(v, order), v, order, head, a.len(), out.len());
     if refusal.number != 0 {
@@ -221,8 +197,7 @@ pub fn taylor_polynomial(head: u64, a: &[f64], v: usize, order: usize, out: &mut
 
 // The row `order` of v, a zero past the stored length: refusals 1, 2, 3, 4, 5.
 pub fn coefficients_of_term(head: u64, a: &[f64], v: usize, order: usize, out: &mut [f64]) -> Answer
-    ensures answer { λ r. ⌜ r ≡ coefficientsOfTermAnswer head (now (a .entry)) v order (now (out .entry)) ⌝ }
-    ensures written { λ r. ⌜ now (out .exit) ≡ coefficientsOfTermOut head (now (a .entry)) v order (now (out .entry)) ⌝ }
+    ensures { λ r. ⌜ CoefficientsOfTermPromise head (now (a .entry)) v order (now (out .entry)) r (now (out .exit)) ⌝ }
 {
     let refusal = gates::in_gate(Family::Term(v), v, order, head, a.len(), out.len());
     if refusal.number != 0 {

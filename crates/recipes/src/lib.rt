@@ -9,13 +9,11 @@ use model_recipes::RunAnswer;
 use recipes_check::judge;
 use recipes_check::largest_of;
 use recipes_check::total_of;
-ghost use mathlib.Core.Path.{_≡_};
-ghost use Rattle.model_recipes.specs.Check.{checkAnswer};
-ghost use Rattle.model_recipes.specs.Run.{runAnswer, runPool, runWords, runScratch};
+ghost use Rattle.model_recipes.specs.Promises.{CheckPromise, RunPromise};
 
 // What a run of the recipe takes, or why there is none: refusals 7, 1, 3, 4, 5.
 pub fn check(headers: &[u64], steps: &[u64]) -> CheckAnswer
-    ensures { λ r. ⌜ r ≡ checkAnswer (now (headers .entry)) (now (steps .entry)) ⌝ }
+    ensures { λ r. ⌜ CheckPromise (now (headers .entry)) (now (steps .entry)) r ⌝ }
 {
     let mut known = [0u64; 64];
     let refusal = judge(headers, steps, &mut known);
@@ -44,14 +42,9 @@ pub fn run(
     words: &mut [u64],
     scratch: &mut [f64],
 ) -> RunAnswer
-    ensures answer { λ r. ⌜ r ≡ runAnswer (now (headers .entry)) (now (coefficients .entry)) (now (steps .entry))
-        (now (pool .entry)) (now (words .entry)) (now (scratch .entry)) ⌝ }
-    ensures values { λ r. ⌜ now (pool .exit) ≡ runPool (now (headers .entry)) (now (coefficients .entry)) (now (steps .entry))
-        (now (pool .entry)) (now (words .entry)) (now (scratch .entry)) ⌝ }
-    ensures heads { λ r. ⌜ now (words .exit) ≡ runWords (now (headers .entry)) (now (coefficients .entry))
-        (now (steps .entry)) (now (pool .entry)) (now (words .entry)) (now (scratch .entry)) ⌝ }
-    ensures cleared { λ r. ⌜ now (scratch .exit) ≡ runScratch (now (headers .entry)) (now (coefficients .entry))
-        (now (steps .entry)) (now (pool .entry)) (now (words .entry)) (now (scratch .entry)) ⌝ }
+    ensures { λ r. ⌜ RunPromise (now (headers .entry)) (now (coefficients .entry)) (now (steps .entry))
+        (now (pool .entry)) (now (words .entry)) (now (scratch .entry)) r (now (pool .exit)) (now (words .exit))
+        (now (scratch .exit)) ⌝ }
 {
     let mut known = [0u64; 64];
     let refused = admit(

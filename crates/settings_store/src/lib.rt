@@ -16,14 +16,11 @@ use model_settings::Settled;
 use test::is_kept;
 use test::is_valid;
 use test::slot;
-ghost use mathlib.Core.Path.{_≡_};
-ghost use Rattle.model_settings.specs.Words.{freshAnswer, freshWords, readWords, readVersionWords};
-ghost use Rattle.model_settings.specs.Words.{saveWords, wordsSaved, bringWords, wordsBrought};
+ghost use Rattle.model_settings.specs.Promises.{FreshPromise, ReadPromise, ReadVersionPromise, SavePromise, BringBackPromise};
 
 // A fresh store: every department at version 0, 0.0, 1, 0. Refusal 18.
 pub fn fresh(words: &mut [u64]) -> Settled
-    ensures answer { λ r. ⌜ r ≡ freshAnswer (now (words .entry)) ⌝ }
-    ensures words { λ r. ⌜ now (words .exit) ≡ freshWords (now (words .entry)) ⌝ }
+    ensures { λ r. ⌜ FreshPromise (now (words .entry)) r (now (words .exit)) ⌝ }
 {
     if words.len() < 544 {
         return refused(18);
@@ -45,7 +42,7 @@ pub fn fresh(words: &mut [u64]) -> Settled
 
 // The current version and its content: refusals 18, 3.
 pub fn read(words: &[u64], department: u64) -> Settled
-    ensures { λ r. ⌜ r ≡ readWords (now (words .entry)) department ⌝ }
+    ensures { λ r. ⌜ ReadPromise (now (words .entry)) department r ⌝ }
 {
     if !is_valid(words) {
         return refused(18);
@@ -61,7 +58,7 @@ pub fn read(words: &[u64], department: u64) -> Settled
 
 // The content of a kept version: refusals 18, 3, 14.
 pub fn read_version(words: &[u64], department: u64, version: u64) -> Settled
-    ensures { λ r. ⌜ r ≡ readVersionWords (now (words .entry)) department version ⌝ }
+    ensures { λ r. ⌜ ReadVersionPromise (now (words .entry)) department version r ⌝ }
 {
     if !is_valid(words) {
         return refused(18);
@@ -79,8 +76,7 @@ pub fn read_version(words: &[u64], department: u64, version: u64) -> Settled
 
 // A new version from the one that the planner started from, and its number: refusals 18, 3, 4, 13, 15.
 pub fn save(words: &mut [u64], department: u64, from: u64, content: Content) -> Settled
-    ensures answer { λ r. ⌜ r ≡ saveWords (now (words .entry)) department from content ⌝ }
-    ensures words { λ r. ⌜ now (words .exit) ≡ wordsSaved (now (words .entry)) department from content ⌝ }
+    ensures { λ r. ⌜ SavePromise (now (words .entry)) department from content r (now (words .exit)) ⌝ }
 {
     let a = save_answer(words, department, from, content);
     if a.number == 0 {
@@ -91,8 +87,7 @@ pub fn save(words: &mut [u64], department: u64, from: u64, content: Content) -> 
 
 // The content of a kept version saved again, as a new version, and its number: refusals 18, 3, 13, 14, 15.
 pub fn bring_back(words: &mut [u64], department: u64, from: u64, version: u64) -> Settled
-    ensures answer { λ r. ⌜ r ≡ bringWords (now (words .entry)) department from version ⌝ }
-    ensures words { λ r. ⌜ now (words .exit) ≡ wordsBrought (now (words .entry)) department from version ⌝ }
+    ensures { λ r. ⌜ BringBackPromise (now (words .entry)) department from version r (now (words .exit)) ⌝ }
 {
     let a = bring_answer(words, department, from, version);
     if a.number == 0 {

@@ -6,8 +6,7 @@ use model::Answer;
 use model::Family;
 use shape_operands::Operand;
 use shape_words::word::pack;
-ghost use mathlib.Core.Path.{_≡_};
-ghost use Rattle.model.specs.Substitute.{substituteAnswer, substituteOut, substituteScratch};
+ghost use Rattle.model.specs.Promises.{SubstVarPromise};
 
 // b for the variable v of a, cut to the smaller limits; a unchanged, where it lacks v: refusals 1, 2, 5, 6.
 pub fn subst_var(
@@ -19,9 +18,8 @@ pub fn subst_var(
     out: &mut [f64],
     scratch: &mut [f64],
 ) -> Answer
-    ensures answer { λ r. ⌜ r ≡ substituteAnswer v ah (now (a .entry)) bh (now (b .entry)) (now (out .entry)) (now (scratch .entry)) ⌝ }
-    ensures written { λ r. ⌜ now (out .exit) ≡ substituteOut v ah (now (a .entry)) bh (now (b .entry)) (now (out .entry)) (now (scratch .entry)) ⌝ }
-    ensures cleared { λ r. ⌜ now (scratch .exit) ≡ substituteScratch v ah (now (a .entry)) bh (now (b .entry)) (now (out .entry)) (now (scratch .entry)) ⌝ }
+    ensures { λ r. ⌜ SubstVarPromise ah (now (a .entry)) bh (now (b .entry)) v (now (out .entry))
+        (now (scratch .entry)) r (now (out .exit)) (now (scratch .exit)) ⌝ }
 {
     let o = gates::open_pair(
         Family::Substitution(v),

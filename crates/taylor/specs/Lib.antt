@@ -1,3 +1,5 @@
 pub mod Face
 pub mod Apart
 pub mod Recipes
+pub mod Promises
+pub mod Once

@@ -6,15 +6,13 @@ use settings_face::put_horizon;
 use settings_face::put_recipe;
 use settings_face::put_version;
 use settings_face::word_of;
-ghost use mathlib.Core.Path.{_≡_};
-ghost use Rattle.model_settings.specs.Words.{freshAnswer, freshWords, readWords, readVersionWords, bringWords, wordsBrought};
-ghost use Rattle.settings_face.specs.Face.{wordOf, versionAfter, horizonAfter, recipeAfter, chanceAfter, saveHanded, wordsHanded};
+ghost use Rattle.taylor.specs.Promises.{SettingsFreshPromise, SettingsReadPromise, SettingsReadVersionPromise, SettingsSavePromise};
+ghost use Rattle.taylor.specs.Promises.{SettingsBringBackPromise};
 
 // A fresh store in the first 544 words: refusal 18.
 #[no_mangle]
 pub extern "C" fn settings_fresh(words: &mut [u64]) -> u64
-    ensures answer { λ r. ⌜ r ≡ wordOf (freshAnswer (now (words .entry))) ⌝ }
-    ensures words { λ r. ⌜ now (words .exit) ≡ freshWords (now (words .entry)) ⌝ }
+    ensures { λ r. ⌜ SettingsFreshPromise (now (words .entry)) r (now (words .exit)) ⌝ }
 {
     word_of(settings_store::fresh(words))
 }
@@ -29,11 +27,9 @@ pub extern "C" fn settings_read(
     horizon: &mut u64,
     recipe: &mut u64,
 ) -> u64
-    ensures answer { λ r. ⌜ r ≡ wordOf (readWords (now (words .entry)) department) ⌝ }
-    ensures version { λ r. ⌜ now (version .exit) ≡ versionAfter (readWords (now (words .entry)) department) (now (version .entry)) ⌝ }
-    ensures chance { λ r. ⌜ now (chance .exit) ≡ chanceAfter (readWords (now (words .entry)) department) (now (chance .entry)) ⌝ }
-    ensures horizon { λ r. ⌜ now (horizon .exit) ≡ horizonAfter (readWords (now (words .entry)) department) (now (horizon .entry)) ⌝ }
-    ensures recipe { λ r. ⌜ now (recipe .exit) ≡ recipeAfter (readWords (now (words .entry)) department) (now (recipe .entry)) ⌝ }
+    ensures { λ r. ⌜ SettingsReadPromise (now (words .entry)) department (now (version .entry)) (now (chance .entry))
+        (now (horizon .entry)) (now (recipe .entry)) r (now (version .exit)) (now (chance .exit))
+        (now (horizon .exit)) (now (recipe .exit)) ⌝ }
 {
     let a = settings_store::read(words, department);
     put_version(a, version);
@@ -53,10 +49,9 @@ pub extern "C" fn settings_read_version(
     horizon: &mut u64,
     recipe: &mut u64,
 ) -> u64
-    ensures answer { λ r. ⌜ r ≡ wordOf (readVersionWords (now (words .entry)) department version) ⌝ }
-    ensures chance { λ r. ⌜ now (chance .exit) ≡ chanceAfter (readVersionWords (now (words .entry)) department version) (now (chance .entry)) ⌝ }
-    ensures horizon { λ r. ⌜ now (horizon .exit) ≡ horizonAfter (readVersionWords (now (words .entry)) department version) (now (horizon .entry)) ⌝ }
-    ensures recipe { λ r. ⌜ now (recipe .exit) ≡ recipeAfter (readVersionWords (now (words .entry)) department version) (now (recipe .entry)) ⌝ }
+    ensures { λ r. ⌜ SettingsReadVersionPromise (now (words .entry)) department version (now (chance .entry))
+        (now (horizon .entry)) (now (recipe .entry)) r (now (chance .exit)) (now (horizon .exit))
+        (now (recipe .exit)) ⌝ }
 {
     let a = settings_store::read_version(words, department, version);
     put_chance(a, chance);
@@ -76,9 +71,8 @@ pub extern "C" fn settings_save(
     recipe: u64,
     version: &mut u64,
 ) -> u64
-    ensures answer { λ r. ⌜ r ≡ wordOf (saveHanded (now (words .entry)) department from chance horizon recipe) ⌝ }
-    ensures told { λ r. ⌜ now (version .exit) ≡ versionAfter (saveHanded (now (words .entry)) department from chance horizon recipe) (now (version .entry)) ⌝ }
-    ensures words { λ r. ⌜ now (words .exit) ≡ wordsHanded (now (words .entry)) department from chance horizon recipe ⌝ }
+    ensures { λ r. ⌜ SettingsSavePromise (now (words .entry)) department from chance horizon recipe
+        (now (version .entry)) r (now (words .exit)) (now (version .exit)) ⌝ }
 {
     let content = Content {
         chance: sheet_bits::word_of(chance),
@@ -99,9 +93,8 @@ pub extern "C" fn settings_bring_back(
     kept: u64,
     version: &mut u64,
 ) -> u64
-    ensures answer { λ r. ⌜ r ≡ wordOf (bringWords (now (words .entry)) department from kept) ⌝ }
-    ensures version { λ r. ⌜ now (version .exit) ≡ versionAfter (bringWords (now (words .entry)) department from kept) (now (version .entry)) ⌝ }
-    ensures words { λ r. ⌜ now (words .exit) ≡ wordsBrought (now (words .entry)) department from kept ⌝ }
+    ensures { λ r. ⌜ SettingsBringBackPromise (now (words .entry)) department from kept (now (version .entry)) r
+        (now (words .exit)) (now (version .exit)) ⌝ }
 {
     let a = settings_store::bring_back(words, department, from, kept);
     put_version(a, version);
