@@ -1,0 +1,9 @@
+pub mod Nearest
+pub mod Rounded
+pub mod Billionths
+pub mod Digits
+pub mod Word
+pub mod Says
+pub mod Long
+pub mod Whole
+pub mod Examples
