@@ -43,8 +43,8 @@ module _ {p : Operand} {given before : List Float} (w : Within p given before) w
   within-is e = e ∙ ap (λ (k : ℕ). take k (drop (p .from) (source (p .input) given before))) (w .full)
 
 -- what was written to the front of a buffer
-pub kept-front : {n : ℕ} {xs w w' : List Float} → Kept 0 (0 + n) xs w w' → w' ≡ xs ++ drop n w
-kept-front {n} {xs} {w} {w'} k =
+pub kept-front : (n : ℕ) {xs w w' : List Float} → Kept 0 (0 + n) xs w w' → w' ≡ xs ++ drop n w
+kept-front n {xs} {w} {w'} k =
     let i : 0 + n - 0 ≡ n = omega arith in
     let j : 0 + n ≡ n = omega arith in
     let f : take n w' ≡ xs = ap (λ (m : ℕ). take m w') (sym i) ∙ k .holds in

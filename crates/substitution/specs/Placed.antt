@@ -141,7 +141,7 @@ pub kept-again : {at e : ℕ} {xs ys w w' w'' : List Float} → Kept at e xs w w
 kept-again p q = record { below = below-then (p .below) (q .below); holds = q .holds; above = q .above ∙ p .above }
 
 -- the header of what was written, and +0.0 after it
-module _ {h : Header} {m : Block} {v : Poly} (e : polyOf h m ≡ v) {at n : ℕ} {p p' : List Float} {r : List ℕ} (s : Wrote at n m p p' r) where
+module _ (h : Header) {m : Block} {v : Poly} (e : polyOf h m ≡ v) {at n : ℕ} {p p' : List Float} {r : List ℕ} (s : Wrote at n m p p' r) where
   pub wrote-head : header (h .vars) (h .limits) r ≡ v .head
   wrote-head = rw (s .stands .lengths) (ap (λ (q : Poly). q .head) e)
 
@@ -226,9 +226,9 @@ module _ {v : ℕ} {x y h : Header} {n : ℕ} (g : Announces (Substitution v) x 
     value-count e = into-small given a b la (s .stands) e
 
     pub value-head : header (h .vars) (h .limits) r ≡ substitutePoly v (poly x a) (poly y b) .head
-    value-head = wrote-head (sym (poly-is v x y a b (g .is))) s
+    value-head = wrote-head h (sym (poly-is v x y a b (g .is))) s
 
     pub value-kept : {c : ℕ} {p'' : List Float} → c ≡ count r
         → Kept (at + c) (at + n) (zeros ((at + n) - (at + c))) p' p''
         → Kept at (at + n) (padded n (substitutePoly v (poly x a) (poly y b) .coeffs)) p p''
-    value-kept ec last = wrote-padded (sym (poly-is v x y a b (g .is))) s (into-full given a b la (s .stands) ec) (value-count ec) last
+    value-kept ec last = wrote-padded h (sym (poly-is v x y a b (g .is))) s (into-full given a b la (s .stands) ec) (value-count ec) last

@@ -81,5 +81,5 @@ front-to-spec =
     tie.close
     (tie.spec
     (λ c. search needs) slice-aggregate-way-from way-from-requires horner-to-requires (λ c. search needs)
-    (λ c. search needs) returns plain-given-requires (λ c. search needs) (λ c. search needs) returns-2
+    (λ c. search needs) returns plain-given-requires (λ c. search needs) returns-2
     plain-earlier-requires (λ c. search needs) (λ c. search needs) returns-3)
