@@ -6,7 +6,7 @@ use mathlib.Core.Path.{_≡_, refl, sym, ap, _∙_, subst}
 use native.Mathlib.Omega.{arith}
 use lib.Dec.{leb, ltb}
 use lib.ListN.{length, getD, take, drop, List·getD-eq-default}
-use lib.Seq.{length-take-le, getD-take, take-at}
+use lib.Seq.{length-take-le, getD-take, take-at, take-all}
 use lib.Ieee.{Float}
 use borrow.Author.Tests.{le-leb, ltb-true, ltb-false}
 use Rattle.lists.specs.Four.{at, four, each, four-same}
@@ -22,7 +22,8 @@ use Rattle.shape_words.specs.Words.{good-word, unpack-pack}
 use Rattle.npy_files.specs.Shapes.{allInRange, product, goodShape, lengthsOf, headOf, shapeOf}
 use Rattle.npy_files.specs.Sizes.{product-count}
 use Rattle.npy_files.specs.Reads.{Reading}
-use Rattle.npy_files.specs.Writes.{fileOut, fileLength, writeGate, writeFile}
+use Rattle.npy_files.specs.declared.Written.the-variants as Written
+use Rattle.npy_files.specs.Writes.{fileOut, fileLength, writeGate, writeAnswer, writeFile}
 use Rattle.npy_reading.specs.Heads.{range-in, shape-regular}
 use Rattle.npy_laws.specs.Back.{allFit, file-long, read-back}
 
@@ -109,3 +110,11 @@ module _ (w : ℕ) (a : List Float) (file : List ℕ) (good : goodWord w ≡ tru
   pub written-lengths : headerOf (wordOf (headOf s)) .lengths ≡ headerOf w .lengths
   written-lengths =
       ap (λ (h : Header). h .lengths) (word-shape s (shape-good (headerOf w) (good-word w good))) ∙ lengths-back (headerOf w) (good-word w good)
+
+-- what is written of a word and as many coefficients as it says, into a buffer that is long enough
+pub write-done : (w : ℕ) (xs : List Float) (file : List ℕ) → goodWord w ≡ true → length xs ≡ stored (headerOf w) → fileLength w ≤ length file
+    → (writeAnswer w xs file ≡ Written.Done (fileLength w)) × (writeFile w xs file ≡ over (fileOut (shapeOf (headerOf w)) xs) file)
+unfolding writeAnswer writeFile
+write-done w xs file good many room =
+    let g : writeGate w (length xs) (length file) ≡ noRefusal = open-gate w xs file good (omega (arith, many)) room in
+    (rw g, rw g (ap (λ (a : List Float). over (fileOut (shapeOf (headerOf w)) a) file) (take-all (stored (headerOf w)) xs (omega (arith, many)))))
