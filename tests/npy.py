@@ -1,11 +1,12 @@
 #!/usr/bin/env python3
-"""Compares the program `from_npy` with NumPy (any 1.x or 2.x) and with the grammar of document 02's W2 written as a regular expression.
+"""Compares the programs `from_npy` and `to_npy` with NumPy (any 1.x or 2.x) and with the grammar of document 02's W2 written as a regular expression.
 
-    tests/npy.py PROGRAM SEED COUNT
+    tests/npy.py FROM TO SEED COUNT
 
-PROGRAM is the built program (and, where it needs one, an emulator before it, in one word with spaces). A good file is first damaged at every place: each byte
-changed, cut and doubled. Then COUNT random files follow, some of them damaged. What is read has to be what NumPy reads; a file that is refused by 10 has to be
-outside the grammar. Needs NumPy; the gate does not run it."""
+FROM and TO are the built programs (and, where they need one, an emulator before each, in one word with spaces). A good file is first damaged at every place:
+each byte changed, cut and doubled. Then COUNT random files follow, some of them damaged. What is read has to be what NumPy reads; a file that is refused by 10
+has to be outside the grammar. What is read then goes back through TO as an answer of `recipe`, and the bytes have to be those of `np.save`. Needs NumPy; the
+gate does not run it."""
 import io, random, re, struct, subprocess, sys
 import numpy as np
 
@@ -32,12 +33,20 @@ def by_rules(f):
     if len(shape) > 4 or any(not 1 <= x <= 64 for x in shape) or count > 4096: return 5
     return shape if len(data) == 8 * count else 10
 
+def refused(number): return "refused %d 64\n" % number
+
 def expected(f):
     r = by_rules(f)
-    if isinstance(r, int): return "refused %d 64\n" % r
-    table = np.load(io.BytesIO(f), allow_pickle=False)
+    if isinstance(r, int): return refused(r)
+    table = loaded(f)
     assert table.shape == r and table.dtype == np.dtype("<f8"), (table.shape, r)
-    w = len(r)
+    return lines(table)
+
+def loaded(f): return np.load(io.BytesIO(f), allow_pickle=False)
+
+def lines(table):
+    """header word, then coefficients"""
+    r = table.shape; w = len(r)
     for k in range(4):
         n = r[k] if k < len(r) else 1
         w = w << 12 | (n - 1) << 6 | (n - 1)
@@ -45,7 +54,8 @@ def expected(f):
     return "".join("%016x\n" % x for x in words)
 
 def saved(table):
-    b = io.BytesIO(); np.save(b, table); return b.getvalue()
+    """what np.save writes, NaN as the one that is written here"""
+    b = io.BytesIO(); np.save(b, np.where(np.isnan(table), np.nan, table) if table.dtype == np.dtype("<f8") else table); return b.getvalue()
 
 def damaged(r, f):
     p = r.randrange(len(f)); k = r.randrange(3)
@@ -65,17 +75,25 @@ def files(r, count):
         f = saved(table.astype(r.choice(["<f8"] * 6 + ["<f4", ">f8", "<i8"])))
         yield damaged(r, f) if r.random() < 0.5 else f
 
+def run(program, given): return subprocess.run(program, input=given, capture_output=True).stdout
+
 def main():
-    program, seed, count = sys.argv[1].split(), int(sys.argv[2]), int(sys.argv[3])
+    there, back, seed, count = sys.argv[1].split(), sys.argv[2].split(), int(sys.argv[3]), int(sys.argv[4])
     r = random.Random(seed); seen = {}; wrong = 0
     for f in files(r, count):
-        want = expected(f)
-        got = subprocess.run(program, input=f, capture_output=True).stdout.decode()
-        kind = want.strip() if want.startswith("refused") else "read"
+        want = expected(f).encode()
+        got = run(there, f)
+        kind = want.decode().strip() if want.startswith(b"refused") else "read"
         seen[kind] = seen.get(kind, 0) + 1
         if got != want:
             wrong += 1
             print("differs:", f[:160], "want", want[:60], "got", got[:60])
+        if kind == "read" and run(back, b"done 1\n" + want) != saved(loaded(f)):
+            wrong += 1
+            print("not written as np.save writes it:", f[:160])
+        if kind != "read" and run(back, want) != want:
+            wrong += 1
+            print("a refusal that does not go through:", want)
     print(sum(seen.values()), "files,", wrong, "differ;", seen)
 
-main()
+if __name__ == "__main__": main()

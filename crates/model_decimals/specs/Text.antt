@@ -1,4 +1,4 @@
--- REFERENCE 10.1. A float for people: the decimal with nine digits behind the point that is nearest to it, zeros at the
+-- REFERENCE 11.1. A float for people: the decimal with nine digits behind the point that is nearest to it, zeros at the
 -- end dropped, and a mark where that is not the float itself.
 use Prim.Native.Nat.{ℕ, zero, suc, _*_, _/_, _%_, _^_}
 use mathlib.Core.Bool.{Bool, not, _&&_, cond}

@@ -1,4 +1,4 @@
--- REFERENCE 10.2. A number as people type it: digits, or digits, a point and digits; at most 15 significant digits, at
+-- REFERENCE 11.2. A number as people type it: digits, or digits, a point and digits; at most 15 significant digits, at
 -- most 22 behind the point. It is read as the float nearest to it; any other text is refused.
 use Prim.Native.Nat.{ℕ, _+_, _-_, _*_, _^_}
 use mathlib.Core.Bool.{Bool, true, false, not, _&&_, _||_, cond}

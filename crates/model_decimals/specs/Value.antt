@@ -1,4 +1,4 @@
--- REFERENCE 10.1. The value of a float as a fraction: how many of the smallest floats, 2 ^ -1074 each, it is.
+-- REFERENCE 11.1. The value of a float as a fraction: how many of the smallest floats, 2 ^ -1074 each, it is.
 use Prim.Native.Nat.{ℕ, _+_, _-_, _*_, _%_, _^_}
 use mathlib.Core.Bool.{Bool, cond}
 use lib.Dec.{leb, eqb}

@@ -1,1 +1,5 @@
 pub mod Shown
+pub mod Arrays
+pub mod Prints
+pub mod Front
+pub mod Back

@@ -1,18 +1,27 @@
-// What the program `from_npy` prints: the lines of a sheet for an array file (document 02, W2), or the line of its
-// refusal.
+// What the programs `from_npy` and `to_npy` print (document 02, W2): the lines of a sheet for an array file, the array
+// file of an answer, or the line of a refusal.
 use gates::stored_of;
 use model::Answer;
 use model::Refusal;
+use npy_answers::fill_values;
+use npy_answers::is_answer;
+use npy_answers::is_refusal;
+use npy_answers::lines_start;
+use npy_files::Written;
 use shape_words::word::header_of;
+use sheet_text::line::word_at;
 use sheet_text::print::put_byte;
 use sheet_text::print::put_bytes;
 use sheet_text::print::put_decimal;
 use sheet_text::print::put_floats;
 use sheet_text::print::put_line;
+ghost use mathlib.Core.Bool.{true};
 ghost use mathlib.Core.Path.{_≡_};
 ghost use Prim.Native.Nat.{_+_, _*_, _≤_};
 ghost use lib.ListN.{length};
 ghost use Rattle.model_texts.specs.Printed.{refusedText};
+ghost use Rattle.npy_answers.specs.Answer.{isAnswer};
+ghost use Rattle.npy_sheets.specs.Arrays.{Arrayed};
 ghost use Rattle.npy_sheets.specs.Shown.{sheetText, Shown};
 ghost use Rattle.sheet_text.specs.Put.{Put};
 
@@ -50,4 +59,33 @@ pub fn show(file: &[u8], values: &mut [f64], output: &mut [u8]) -> usize
         }
         Answer::Refused(e) => put_refusal(e, output),
     }
+}
+
+// The array file of an answer that is done. `values` is memory for the coefficients.
+fn put_array(text: &[u8], values: &mut [f64], output: &mut [u8]) -> usize
+    requires { ⌜ isAnswer (now text) ≡ true ⌝ ∗ ⌜ (length (now values) ≡ 4096) × (32896 ≤ length (now output)) ⌝ }
+    ensures { λ n. ⌜ Arrayed (now (text .entry)) (now (values .entry)) (now (values .exit)) (now (output .entry)) (now (output .exit)) n ⌝ }
+{
+    let start = lines_start(text);
+    let head = word_at(text, start);
+    let count = stored_of(header_of(head));
+    fill_values(text, start, &mut values[..count]);
+    match npy::write(head, &values[..count], output) {
+        Written::Done(n) => n,
+        Written::Refused(e) => put_refusal(e, output),
+    }
+}
+
+// What is printed for an answer of `recipe`, at the front of `output`; answers how long it is.
+pub fn convert(text: &[u8], values: &mut [f64], output: &mut [u8]) -> usize
+    requires { ⌜ (length (now values) ≡ 4096) × (32896 ≤ length (now output)) ⌝ }
+    ensures { λ n. ⌜ Arrayed (now (text .entry)) (now (values .entry)) (now (values .exit)) (now (output .entry)) (now (output .exit)) n ⌝ }
+{
+    if is_answer(text) {
+        return put_array(text, values, output);
+    }
+    if is_refusal(text) {
+        return put_bytes(text, 0, output);
+    }
+    put_refusal(Refusal::by(8), output)
 }

@@ -1,0 +1,75 @@
+// Runs stored array files and answers of standard input through `npy_sheets::show` and `npy_sheets::convert`, and
+// prints what each writes. tests/stored_npy says where they and the stored output are from; none is from this code.
+//
+// Before each stands a line of 16 hex digits: 0 for an array file or 1 for an answer in the first eight, and in the
+// others how many bytes follow, at most 65,536.
+// No contract can say what is read or printed; `show` and `convert` say what is printed for bytes.
+use libc::STDIN_FILENO;
+use libc::STDOUT_FILENO;
+use shape::limits::least;
+use sheet_text::line::word_at;
+ghost use mathlib.Core.Path.{_≡_};
+ghost use lib.ListN.{length};
+
+const BYTES: usize = 65536;
+
+// More cases than any input has.
+const CASES: u64 = 1000000000000;
+
+fn show(file: &[u8]) {
+    let mut values = [0.0f64; 4096];
+    let mut output = [0u8; 69649];
+    let n = npy_sheets::show(file, &mut values, &mut output);
+    io::write_all(STDOUT_FILENO, &output[..n]);
+}
+
+fn convert(text: &[u8]) {
+    let mut values = [0.0f64; 4096];
+    let mut output = [0u8; 32896];
+    let n = npy_sheets::convert(text, &mut values, &mut output);
+    io::write_all(STDOUT_FILENO, &output[..n]);
+}
+
+fn either(kind: u64, bytes: &[u8]) {
+    if kind == 0 {
+        show(bytes);
+    } else {
+        convert(bytes);
+    }
+}
+
+// The case behind a line, in lent memory.
+fn go_on(word: u64, text: &mut [u8])
+    requires { ⌜ 65536 ≡ length (now text) ⌝ }
+{
+    let n = least((word % 4294967296) as usize, BYTES);
+    io::read_full(STDIN_FILENO, &mut text[..n]);
+    either(word / 4294967296, &text[..n]);
+}
+
+// The case behind the line `begin`.
+fn run(begin: &[u8]) {
+    let mut text = io::large_buffer();
+    go_on(word_at(begin, 0), &mut text);
+}
+
+// The next case; whether there was one.
+fn next() -> bool {
+    let mut begin = [0u8; 17];
+    let got = io::read_full(STDIN_FILENO, &mut begin);
+    if got == 0 {
+        return false;
+    }
+    run(&begin[..got]);
+    true
+}
+
+fn main() {
+    let mut left = CASES;
+    while 0 < left {
+        if !next() {
+            return;
+        }
+        left -= 1;
+    }
+}
