@@ -131,8 +131,13 @@ pub fn open_read(word: u64, given: usize) -> Read
 pub fn read_gate(word: u64, given: usize) -> Refusal
     ensures { λ r. ⌜ r ≡ readGate word given ⌝ }
 {
-    let x = open_read(word, given);
-    x.refusal
+    if !is_good(word) {
+        return bad_word(word, Refusal::NOWHERE);
+    }
+    if !is_full(header_of(word), given) {
+        return Refusal::by(2);
+    }
+    Refusal::none()
 }
 
 // Whether the index of every missing variable is 0.
@@ -150,12 +155,11 @@ fn no_missing(h: Header, i: [usize; 4]) -> bool
 pub fn index_gate(word: u64, given: usize, i: [usize; 4]) -> Refusal
     ensures { λ r. ⌜ r ≡ indexGate word given i ⌝ }
 {
-    let x = open_read(word, given);
-    let first = x.refusal;
+    let first = read_gate(word, given);
     if first.number != 0 {
         return first;
     }
-    let h = x.head;
+    let h = header_of(word);
     if !no_missing(h, i) {
         return Refusal::by(3);
     }
@@ -306,12 +310,23 @@ pub fn one_gate(f: Family, word: u64, given: usize, lent: usize) -> Refusal
     o.refusal
 }
 
-// The refusal alone of `open_in`.
+// One operand, a variable v and a number d below its limit: refusals 1, 2, 3, 4, 5.
 pub fn in_gate(f: Family, v: usize, d: usize, word: u64, given: usize, lent: usize) -> Refusal
     ensures { λ r. ⌜ r ≡ inGate f v d word given lent ⌝ }
 {
-    let o = open_in(f, v, d, word, given, lent);
-    o.refusal
+    let first = read_gate(word, given);
+    if first.number != 0 {
+        return first;
+    }
+    let h = header_of(word);
+    if h.vars <= v {
+        return Refusal::by(3);
+    }
+    let l = h.limits;
+    if l[v] <= d {
+        return Refusal::by(4);
+    }
+    fits_gate(announced_of(f, h, Header::none()), lent)
 }
 
 // Two operands, ah and bh their words, am and bm the coefficients given: refusals 1, 2, 5, 6.
