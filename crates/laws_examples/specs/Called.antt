@@ -14,7 +14,7 @@ use Rattle.model.specs.declared.Answer.the-variants.{Done, Refused}
 use Rattle.laws_examples.specs.Examples.{Operand, operand, nothing, Row, row, Tail, shown, answer, same, equal, hold, rows, examples-hold}
 
 abbrev noRow : Row
-noRow = row (Tail 0) nothing nothing nothing
+noRow = row (Tail 0 0) nothing nothing nothing
 
 abbrev holds : Row → Type 0
 holds r = equal (answer (r .operation) (r .left) (r .right)) (r .wanted) ≡ true

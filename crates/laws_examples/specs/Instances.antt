@@ -89,7 +89,7 @@ multiplies : productAnswer (left .word) (floats left) (right .word) (floats righ
 unfolding rows
 multiplies =
     shown-done _ (productOut (left .word) (floats left) (right .word) (floats right) (places squares) (scratch squares)) _
-    (lit< tt) (in-row 1 (lit< tt))
+    (lit< tt) (in-row 2 (lit< tt))
 
 sixty : Whole (getD (productOut (left .word) (floats left) (right .word) (floats right) (places squares) (scratch squares)) 3 nan) (pos 60)
 unfolding headerOf span weight times seriesOf truncated inside strides offset box upTo indexMinus minDegreesP1 minLimit
@@ -132,7 +132,7 @@ over = announcedPair Quotient (unity .word) (ones .word)
 
 divides : quotientAnswer (unity .word) (floats unity) (ones .word) (floats ones) (places over) (scratch over) ≡ Done 0x2104000000000000
 unfolding rows
-divides = shown-done _ (quotientOut (unity .word) (floats unity) (ones .word) (floats ones) (places over) (scratch over)) _ (lit< tt) (in-row 3 (lit< tt))
+divides = shown-done _ (quotientOut (unity .word) (floats unity) (ones .word) (floats ones) (places over) (scratch over)) _ (lit< tt) (in-row 4 (lit< tt))
 
 minus-one : Whole (getD (quotientOut (unity .word) (floats unity) (ones .word) (floats ones) (places over) (scratch over)) 1 nan) (negsuc 0)
 unfolding headerOf span weight quotient turns rest degree times seriesOf truncated inside strides offset box upTo indexMinus minDegreesP1 minLimit
@@ -164,7 +164,7 @@ put = announcedPair (Substitution 0) (into .word) (ones .word)
 
 substitutes : substituteAnswer 0 (into .word) (floats into) (ones .word) (floats ones) (places put) (scratch put) ≡ Done (into .word)
 unfolding rows
-substitutes = shown-done _ (substituteOut 0 (into .word) (floats into) (ones .word) (floats ones) (places put) (scratch put)) _ (lit< tt) (in-row 12 (lit< tt))
+substitutes = shown-done _ (substituteOut 0 (into .word) (floats into) (ones .word) (floats ones) (places put) (scratch put)) _ (lit< tt) (in-row 13 (lit< tt))
 
 eight : Whole (getD (substituteOut 0 (into .word) (floats into) (ones .word) (floats ones) (places put) (scratch put)) 1 nan) (pos 8)
 unfolding headerOf span weight substitute power one degree coefficientOf times seriesOf truncated inside strides offset box sum upTo indexMinus
@@ -195,7 +195,7 @@ lower = announcedOne (Shift 0 1) (down .word)
 
 shifts : shiftDownAnswer (down .word) (floats down) 0 1 (places lower) ≡ Done 0x2082000000000000
 unfolding rows
-shifts = shown-done _ (shiftDownOut (down .word) (floats down) 0 1 (places lower)) _ (lit< tt) (in-row 6 (lit< tt))
+shifts = shown-done _ (shiftDownOut (down .word) (floats down) 0 1 (places lower)) _ (lit< tt) (in-row 7 (lit< tt))
 
 five : Whole (getD (shiftDownOut (down .word) (floats down) 0 1 (places lower)) 0 nan) (pos 5)
 unfolding headerOf span weight shifted seriesOf truncated inside strides offset box sum
