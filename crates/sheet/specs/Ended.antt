@@ -115,18 +115,19 @@ module _ {t hs : List ℕ} (o : Opening t hs) where
   judged-refused {ss} {old} {new} {r} es j z =
       sym (opening-refusal es ∙ (ap (λ (x : Refusal). orElse x (ranRefusal hs (sheetCoefficients t) ss)) (sym (j .answer)) ∙ or-first _ z))
 
-  pub running : {ss old new : List ℕ} {r : Refusal} {end : ℕ} → ss ≡ sheetSteps t → OwnJudged hs ss old new r
-      → r .number ≡ 0 → end ≡ length hs + length ss → Running t hs ss (take end new)
-  running {ss} {old} {new} {r} {end} es j z ee =
+  pub running : {ss old new : List ℕ} {r : Refusal} {end c : ℕ} → ss ≡ sheetSteps t → OwnJudged hs ss old new r
+      → r .number ≡ 0 → end ≡ length hs + length ss → c ≡ total (map headerOf hs) → Running t hs ss (take end new) c
+  running es j z ee ec =
       record {
         opened = o;
         steps = es;
         judged = ap (λ (x : Refusal). x .number) (sym (j .answer)) ∙ z;
         places = rw ee (j .noted z);
+        given = ec;
       }
 
 -- the run has ended: its n steps stand at the front of `steps`, the words of its k places at the front of `known`
-module _ {t hs : List ℕ} (steps known : List ℕ) {pool : List Float} {n k : ℕ} {s : Solved} (r : Running t hs (take n steps) (take k known))
+module _ {t hs : List ℕ} (steps known : List ℕ) {pool : List Float} {n k c : ℕ} {s : Solved} (r : Running t hs (take n steps) (take k known) c)
     (en : n ≡ stepCount t) (ek : k ≡ length hs + n) (e : Ends t hs (take n steps) pool s) where
   ended-steps : length (take n steps) ≡ n
   ended-steps = ap length (r .steps) ∙ (steps-many t ∙ sym en)

@@ -1,6 +1,6 @@
 -- A run of a sheet's recipe, refused or done, and where its last value lies.
 use Prim.Native.Nat.{ℕ, zero, suc, _+_, _-_, _*_, _≤_, _<_}
-use mathlib.Core.List.{List, [], _∷_}
+use mathlib.Core.List.{List, [], _∷_, _++_, map}
 use mathlib.Core.Path.{_≡_, refl, sym, ap, _∙_}
 use native.Mathlib.Omega.{arith}
 use lib.Ieee.{Float, ofBits, binary64}
@@ -9,13 +9,12 @@ use lib.Seq.{take-take, take-at, getD-drop}
 use Rattle.lists.specs.Table.{table, length-table}
 use Rattle.model.specs.declared.Header.{Header}
 use Rattle.model.specs.declared.Refusal.{Refusal}
-use Rattle.model_recipes.specs.declared.RunAnswer.the-variants.{Done, Refused}
 use Rattle.model.specs.Header.{noHeader, stored}
 use Rattle.model.specs.Word.{headerOf, wordOf}
 use Rattle.model.specs.Refusals.{noRefusal, zeroF, zeros, padded}
 use Rattle.model.specs.Poly.{Poly}
 use Rattle.model_recipes.specs.Recipe.{headAt, inputHeads, announcedPlaces, announcedSteps, total, largest}
-use Rattle.model_recipes.specs.Run.{noValue, valueAt, values, stepValues, runRefusal, runEnd, runAnswer, runPool, runWords}
+use Rattle.model_recipes.specs.Run.{noValue, valueAt, values, stepValues, laid, done, runRefusal, runEnd, runPool, runWords}
 use Rattle.model_texts.specs.Sheet.{wordOn, inputCount, stepCount, coefficientCount, sheetCoefficients, sheetRefusal, lastValue}
 use Rattle.shape_words.specs.Rules.{Ruled}
 use Rattle.shape_words.specs.Words.{unpack-pack}
@@ -23,14 +22,15 @@ use Rattle.shape.specs.Keeps.{Keeps}
 use Rattle.shape.specs.Under.{count-under}
 use Rattle.recipes_check.specs.Asks.{or-next}
 use Rattle.recipes_laws.specs.Follows.{Follows}
-use Rattle.recipes_laws.specs.Ends.{answer-refused, answer-done}
+use Rattle.recipes_laws.specs.Ends.{end-done}
 use Rattle.recipes_laws.specs.Refuses.{run-none}
 use Rattle.recipes_laws.specs.Ahead.{announced-at, length-announced, step-largest}
 use Rattle.recipes_laws.specs.Values.{follows-all}
 use Rattle.recipes_laws.specs.Buffers.{word-kept, coeffs-kept}
+use Rattle.recipes.specs.Running.{Admitted}
 use Rattle.sheet.specs.Opened.{headers-many, steps-many}
 use Rattle.sheet.specs.declared.Solved.{Solved}
-use Rattle.sheet.specs.Running.{RunningIn, passed, steps-largest}
+use Rattle.sheet.specs.Running.{RunningIn, Passed, passed, steps-largest}
 use Rattle.sheet.specs.Solves.{solvedBy, LastAt, Ends}
 use Rattle.sheet.specs.Ended.{ranRefusal, opening-few, opening-count, opening-refusal}
 
@@ -41,17 +41,23 @@ total-take [] i l = absurd (omega arith)
 total-take (h ∷ hs) zero l = omega arith
 total-take (h ∷ hs) (suc i) l = omega (arith, total-take hs i (omega arith))
 
--- f: where the last value lies in the pool; c: how many coefficients are given
-module _ {t hs ss : List ℕ} {f c : ℕ} (pool : List Float) (words : List ℕ) (scratch : List Float)
-    (r : RunningIn t hs ss f c (length pool) (length words) (length scratch)) where
+-- c: how many coefficients are given; pool, words and scratch as they came
+module _ {t hs ss known : List ℕ} {c : ℕ} (pool : List Float) (words : List ℕ) (scratch : List Float)
+    (r : RunningIn t hs ss known c (length pool) (length words) (length scratch)) where
   in-steps : length ss ≡ stepCount t
   in-steps = ap length (r .steps) ∙ steps-many t
 
+  in-passed : Passed hs ss
+  in-passed = passed hs ss (r .judged)
+
   pub in-few : 1 + length hs + c ≤ 65600
-  in-few = omega (arith, opening-few (r .opened), r .given, passed hs ss (r .judged) .inputs)
+  in-few = omega (arith, opening-few (r .opened), r .given, in-passed .inputs)
 
   pub in-some : 1 ≤ length ss
-  in-some = passed hs ss (r .judged) .accepts .sizes .some
+  in-some = in-passed .accepts .sizes .some
+
+  pub in-words : length ss ≤ length words
+  in-words = omega (arith, r .words, in-passed .accepts .sizes .fit)
 
   -- the coefficients, as they were read
   pub floats-read : {n : ℕ} {cs : List Float} → n ≡ c → cs ≡ table n (λ j. ofBits binary64 (wordOn t (1 + length hs + j))) → cs ≡ sheetCoefficients t
@@ -62,26 +68,6 @@ module _ {t hs ss : List ℕ} {f c : ℕ} (pool : List Float) (words : List ℕ)
       e ∙ rw (ec, eh) refl
 
   module _ {cs : List Float} (e : cs ≡ sheetCoefficients t) where
-    -- buffers count by their lengths alone
-    same-lengths : runRefusal hs cs ss pool words scratch ≡ ranRefusal hs cs ss
-    unfolding runRefusal
-    same-lengths =
-        rw (
-          r .pool,
-          r .words,
-          r .scratch,
-          length-table (λ (k : ℕ). zeroF) (total (announcedSteps hs ss)),
-          length-table {A = ℕ} (λ k. 0) (length ss),
-          length-table (λ (k : ℕ). zeroF) (8 * largest (announcedSteps hs ss)),
-        )
-
-    run-refusal : sheetRefusal t ≡ runRefusal hs cs ss pool words scratch
-    run-refusal = opening-refusal (r .opened) (r .steps) ∙ (or-next _ _ (r .judged) ∙ rw (← e) (sym same-lengths))
-
-    pub ran-refused : {q : Refusal} → Refused q ≡ runAnswer hs cs ss pool words scratch → (q ≡ sheetRefusal t) × (q .number ≡ 0 → ⊥)
-    unfolding runAnswer runEnd
-    ran-refused a = let b = answer-refused _ a in (sym (run-refusal ∙ b .0), b .1)
-
     given-len : total (inputHeads hs) ≤ length cs
     unfolding sheetCoefficients
     given-len =
@@ -91,16 +77,56 @@ module _ {t hs ss : List ℕ} {f c : ℕ} (pool : List Float) (words : List ℕ)
           opening-count (r .opened),
         )
 
-    -- ws, ps: words and pool as the run left them, of which `from f on` is read
-    module _ (a : Done ≡ runAnswer hs cs ss pool words scratch) {ws : List ℕ} {ps : List Float} (ew : ws ≡ runWords hs cs ss pool words scratch)
-        (ep : ps ≡ runPool hs cs ss pool words scratch) (lp : length ps ≡ length pool) where
-      none : runRefusal hs cs ss pool words scratch .number ≡ 0
-      unfolding runAnswer runEnd
-      none = answer-done _ a
+    pub in-admitted : Admitted hs cs ss known (length pool) (length scratch)
+    in-admitted =
+        record {
+          none = in-passed .check;
+          full = given-len;
+          pool = omega (arith, r .pool, in-passed .pool);
+          room = omega (arith, r .scratch, steps-largest in-passed);
+          noted = r .places;
+          many = r .many;
+        }
+
+    -- no run refuses, in this memory or in memory of exactly the lengths that it takes
+    none : runRefusal hs cs ss pool words scratch .number ≡ 0
+    none =
+        ap (λ (x : Refusal). x .number) (run-none hs cs ss pool words scratch (in-passed .check)
+        (record { coeffs = given-len; pool = in-admitted .pool; words = in-words; scratch = in-admitted .room }))
+
+    ran-none : noRefusal ≡ sheetRefusal t
+    ran-none =
+        let p : ℕ = total (announcedSteps hs ss) in
+        let s : ℕ = 8 * largest (announcedSteps hs ss) in
+        let exact : ranRefusal hs cs ss ≡ noRefusal =
+        run-none hs cs ss (zeros p) (table (length ss) (λ k. 0)) (zeros s) (in-passed .check)
+        (record {
+          coeffs = given-len;
+          pool = omega (arith, length-table (λ (k : ℕ). zeroF) p);
+          words = omega (arith, length-table {A = ℕ} (λ k. 0) (length ss));
+          scratch = omega (arith, length-table (λ (k : ℕ). zeroF) s);
+        }) in
+        sym (opening-refusal (r .opened) (r .steps) ∙ (or-next _ _ (r .judged) ∙ rw (← e) exact))
+
+    -- ws, ps: words and pool as the run left them; the last value lies from the place f on
+    module _ {ws : List ℕ} {ps : List Float} {f : ℕ}
+        (pe : ps ≡ laid (announcedSteps hs ss) (stepValues hs cs ss) ++ drop (total (announcedSteps hs ss)) pool)
+        (we : ws ≡ map (λ v. wordOf (v .head)) (stepValues hs cs ss) ++ drop (length ss) words)
+        (ef : f ≡ total (take (length ss - 1) (announcedSteps hs ss))) (lp : length ps ≡ length pool) where
+      ended : runEnd hs cs ss pool words scratch ≡ done
+      unfolding runEnd
+      ended = end-done (runRefusal hs cs ss pool words scratch) none
+
+      ep : ps ≡ runPool hs cs ss pool words scratch
+      unfolding runPool
+      ep = rw ended pe
+
+      ew : ws ≡ runWords hs cs ss pool words scratch
+      unfolding runWords
+      ew = rw ended we
 
       follow : Follows (announcedPlaces hs ss) (values hs cs ss)
-      follow = let room : 8 * largest (announcedSteps hs ss) ≤ length scratch = omega (arith, r .scratch) in
-          follows-all hs cs ss (passed hs ss (r .judged) .check) given-len room
+      follow = follows-all hs cs ss (in-passed .check) given-len (in-admitted .room)
 
       value-last : valueAt (values hs cs ss) (length hs + (length ss - 1)) ≡ lastValue t
       unfolding lastValue stepValues
@@ -133,12 +159,12 @@ module _ {t hs ss : List ℕ} {f c : ℕ} (pool : List Float) (words : List ℕ)
       value-fits : length (lastValue t .coeffs) ≤ most
       value-fits = omega (arith, keep .full, count-under (keep .under))
 
-      places-fit : f + most ≤ length ps
+      places-in : f + most ≤ total (announcedSteps hs ss)
       unfolding announcedSteps
-      places-fit =
+      places-in =
           let s : stored (getD (announcedSteps hs ss) (length ss - 1) noHeader) ≡ most =
           ap stored (getD-drop (length hs) (announcedPlaces hs ss) (length ss - 1) noHeader) in
-          omega (arith, lp, r .pool, r .from, total-take (announcedSteps hs ss) (length ss - 1) (omega (arith, length-announced hs ss, in-some)), s)
+          omega (arith, ef, total-take (announcedSteps hs ss) (length ss - 1) (omega (arith, length-announced hs ss, in-some)), s)
 
       pub ran-ruled : Ruled (headerOf (getD ws (length ss - 1) 0))
       ran-ruled = rw head-is (keep .regular .rules)
@@ -147,31 +173,24 @@ module _ {t hs ss : List ℕ} {f c : ℕ} (pool : List Float) (words : List ℕ)
       coefficients-are =
           let xs : List Float = lastValue t .coeffs in
           let kept : take most (drop f ps) ≡ padded most xs =
-          rw (ep, r .from) (coeffs-kept hs cs ss follow pool words scratch none (length ss - 1) last-in
+          rw (ep, ef) (coeffs-kept hs cs ss follow pool words scratch none (length ss - 1) last-in
           ∙ ap (λ (v : Poly). padded most (v .coeffs)) value-last) in
           ap (λ (i : ℕ). take i (drop f ps)) count-is
           ∙ (sym (take-take (length xs) most (drop f ps) value-fits) ∙ (ap (take (length xs)) kept ∙ take-at xs (zeros (most - length xs)) (length xs) refl))
 
       ran-last : LastAt t ps (getD ws (length ss - 1) 0) f (stored (headerOf (getD ws (length ss - 1) 0)))
       ran-last =
-          let p = passed hs ss (r .judged) in
+          let p = in-passed in
           let l : most ≤ largest (announcedSteps hs ss) = rw (announced-at hs ss (length ss - 1) last-in) (step-largest hs ss (length ss - 1) last-in) in
           record {
             header = word-is;
             count = count-is;
             full = refl;
             few = omega (arith, count-is, value-fits, l, steps-largest p);
-            within = omega (arith, count-is, value-fits, places-fit, lp, r .pool, p .pool);
-            held = omega (arith, count-is, value-fits, places-fit);
+            within = omega (arith, count-is, value-fits, places-in, p .pool);
+            held = omega (arith, count-is, value-fits, places-in, lp, in-admitted .pool);
             coefficients = coefficients-are;
           }
-
-      -- nothing else refuses
-      ran-none : noRefusal ≡ sheetRefusal t
-      ran-none =
-          sym (run-refusal
-          ∙ run-none hs cs ss pool words scratch (passed hs ss (r .judged) .check)
-          (record { coeffs = given-len; pool = omega (arith, r .pool); words = omega (arith, r .words); scratch = omega (arith, r .scratch) }))
 
       pub ran-done : {s : Solved} → s ≡ solvedBy (length hs) (length ss) (getD ws (length ss - 1) 0) f → Ends t hs ss ps s
       ran-done e = rw e (record { refusal = ran-none; done = λ z. record { inputs = refl; steps = refl; last = ran-last } })

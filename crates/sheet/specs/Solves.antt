@@ -1,11 +1,9 @@
 -- How a sheet ends, and where its last value lies: what `solve` ensures, and the functions below it.
 use Prim.Native.Nat.{ℕ, _+_, _≤_}
-use mathlib.Core.List.{List, _++_, map}
-use mathlib.Core.Path.{_≡_, ap, _∙_}
-use native.Mathlib.Omega.{arith}
+use mathlib.Core.List.{List, map}
+use mathlib.Core.Path.{_≡_}
 use lib.Ieee.{Float}
-use lib.ListN.{length, take, drop, length-append, length-drop}
-use lib.Seq.{take-append-le, drop-append-le}
+use lib.ListN.{length, take, drop}
 use Rattle.model.specs.Header.{stored}
 use Rattle.model.specs.Word.{headerOf, wordOf}
 use Rattle.model.specs.Refusals.{noRefusal}
@@ -28,21 +26,6 @@ pub record LastAt (t : List ℕ) (pool : List Float) (w f c : ℕ) : Type 0 wher
   pub held : f + c ≤ length pool
   pub coefficients : take c (drop f pool) ≡ lastValue t .coeffs
 
--- it lies in the front of a longer pool
-pub last-more : {t : List ℕ} {pool : List Float} {w f c : ℕ} (more : List Float) → LastAt t pool w f c → LastAt t (pool ++ more) w f c
-last-more {t} {pool} {w} {f} {c} more l =
-    record {
-      header = l .header;
-      count = l .count;
-      full = l .full;
-      few = l .few;
-      within = l .within;
-      held = omega (arith, l .held, length-append pool more);
-      coefficients =
-          ap (take c) (drop-append-le f pool more (omega (arith, l .held)))
-          ∙ (take-append-le c (drop f pool) more (omega (arith, l .held, length-drop f pool)) ∙ l .coefficients);
-    }
-
 -- a run of the headers hs and the steps ss of the sheet t has ended
 pub record Ending (t hs ss : List ℕ) (pool : List Float) (s : Solved) : Type 0 where
   pub inputs : s .inputs ≡ length hs
@@ -52,13 +35,6 @@ pub record Ending (t hs ss : List ℕ) (pool : List Float) (s : Solved) : Type 0
 pub record Ends (t hs ss : List ℕ) (pool : List Float) (s : Solved) : Type 0 where
   pub refusal : s .refusal ≡ sheetRefusal t
   pub done : s .refusal .number ≡ 0 → Ending t hs ss pool s
-
-pub ends-more : {t hs ss : List ℕ} {pool : List Float} {s : Solved} (more : List Float) → Ends t hs ss pool s → Ends t hs ss (pool ++ more) s
-ends-more more e =
-    record {
-      refusal = e .refusal;
-      done = λ z. record { inputs = e .done z .inputs; steps = e .done z .steps; last = last-more more (e .done z .last) };
-    }
 
 -- the sheet t is not refused; hs, ss, ks, ps: the buffers for headers, steps, places and the pool, as they are left
 pub record Solution (t hs ss ks : List ℕ) (ps : List Float) (s : Solved) : Type 0 where

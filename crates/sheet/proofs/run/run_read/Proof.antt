@@ -114,7 +114,7 @@ run-judged-requires c κs =
           (c14 .total-of .ensures) (start .pre .1 .steps) (c12 .fill-words .ensures))
           (c .before .before .before .before .before .before .before .judge-own .ensures)
           (c .before .before .before .if1 .left) (ap (λ n. length (start .args .headers .now) + n)
-          (slice-aggregate-run-judged (c .before .before))),
+          (slice-aggregate-run-judged (c .before .before))) (c14 .total-of .ensures),
       start .pre .1 .pool,
     )
 
@@ -128,14 +128,15 @@ returns-2 c =
     (c17 .total-of .ensures) (start .pre .1 .steps) (c15 .fill-words .ensures)) (c10 .judge-own .ensures)
     (c .before .before .before .before .before .before .if1 .left)
     (ap (λ n. length (start .args .headers .now) + n)
-    (slice-aggregate-run-judged (c .before .before .before .before .before)))) (c18 .step-count .ensures) refl
+    (slice-aggregate-run-judged (c .before .before .before .before .before))) (c17 .total-of .ensures))
+    (c18 .step-count .ensures) refl
     (c .before .before .run-judged .ensures)
 
 pub run-read-spec : {M : Type 1} → statement M
 run-read-spec =
     tie.close
     (tie.spec
-    (λ c κs. search needs) add-end (λ c. search needs) total-of-requires add-fill-words-2 slice-relend-prefix-fill-words
+    (λ c κs. search needs) add-end total-of-requires (λ c. search needs) add-fill-words-2 slice-relend-prefix-fill-words
     slice-aggregate-fill-words fill-words-requires slice-reshare-prefix-judge-own slice-aggregate-judge-own
     (λ c κs. search needs) (λ c κs. search needs) (λ c. search needs) (λ c. search needs) returns
     slice-reshare-prefix-run-judged slice-aggregate-run-judged slice-reshare-prefix-run-judged-2
