@@ -4,3 +4,4 @@ pub mod Order
 pub mod Rising
 pub mod Leasts
 pub mod Textbook
+pub mod Wanted

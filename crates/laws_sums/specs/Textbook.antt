@@ -30,12 +30,12 @@ atMost (negsuc a) (pos b) = true
 atMost (negsuc a) (negsuc b) = leb b a
 
 -- a number with a minus that is not below 0
-zero-only : (n : ℕ) → negℤ (pos n) ≡ pos n → n ≡ 0
+pub zero-only : (n : ℕ) → negℤ (pos n) ≡ pos n → n ≡ 0
 zero-only zero e = refl
 zero-only (suc n) e = absurd (pos-ne-negsuc (suc n) n (sym e))
 
 -- sizes with signs, and the numbers that they are
-of-signs : (s t : Bool) (a b : ℤ) → signed s (natAbs a) ≡ a → signed t (natAbs b) ≡ b → AtMost s (natAbs a) t (natAbs b) → atMost a b ≡ true
+pub of-signs : (s t : Bool) (a b : ℤ) → signed s (natAbs a) ≡ a → signed t (natAbs b) ≡ b → AtMost s (natAbs a) t (natAbs b) → atMost a b ≡ true
 of-signs false false (pos n) (pos m) p q h = le-leb n m h
 of-signs false false (pos n) (negsuc m) p q h = absurd (pos-ne-negsuc (suc m) m q)
 of-signs false false (negsuc n) (pos m) p q h = absurd (pos-ne-negsuc (suc n) n p)
@@ -53,7 +53,7 @@ of-signs true true (pos n) (negsuc m) p q h = absurd (omega (arith, zero-only n 
 of-signs true true (negsuc n) (pos m) p q h = refl
 of-signs true true (negsuc n) (negsuc m) p q h = le-leb m n (omega (arith, h))
 
-to-signs : (s t : Bool) (a b : ℤ) → signed s (natAbs a) ≡ a → signed t (natAbs b) ≡ b → atMost a b ≡ true → AtMost s (natAbs a) t (natAbs b)
+pub to-signs : (s t : Bool) (a b : ℤ) → signed s (natAbs a) ≡ a → signed t (natAbs b) ≡ b → atMost a b ≡ true → AtMost s (natAbs a) t (natAbs b)
 to-signs false false (pos n) (pos m) p q h = leb-true n m h
 to-signs false false (pos n) (negsuc m) p q h = absurd (pos-ne-negsuc (suc m) m q)
 to-signs false false (negsuc n) (pos m) p q h = absurd (pos-ne-negsuc (suc n) n p)
@@ -73,19 +73,19 @@ to-signs true true (negsuc n) (negsuc m) p q h = omega (arith, leb-true m n h)
 
 -- over one denominator
 module _ (a b c : ℕ) (p : 0 < c) where
-  cancelled : (s t : Bool) → AtMost s (a * c) t (b * c) → AtMost s a t b
+  pub cancelled : (s t : Bool) → AtMost s (a * c) t (b * c) → AtMost s a t b
   cancelled false false h = le-of-mul-le-mul-right h p
   cancelled false true h = (none a c p (h .0), none b c p (h .1))
   cancelled true false h = omega arith
   cancelled true true h = le-of-mul-le-mul-right h p
 
-  scaled : (s t : Bool) → AtMost s a t b → AtMost s (a * c) t (b * c)
+  pub scaled : (s t : Bool) → AtMost s a t b → AtMost s (a * c) t (b * c)
   scaled false false h = mul-le-mul-right c h
   scaled false true h = (none-of a c (h .0), none-of b c (h .1))
   scaled true false h = omega arith
   scaled true true h = mul-le-mul-right c h
 
-same-truth : (x y : Bool) → (x ≡ true → y ≡ true) → (y ≡ true → x ≡ true) → x ≡ y
+pub same-truth : (x y : Bool) → (x ≡ true → y ≡ true) → (y ≡ true → x ≡ true) → x ≡ y
 same-truth true y f g = sym (f refl)
 same-truth false true f g = g refl
 same-truth false false f g = refl
@@ -105,20 +105,22 @@ whole-le {a} {b} p q =
     (λ h. of-signs s t a b (own-sign s m e p) (own-sign t n d q) (cancelled A B c C s t (at-most s (A * c) t (B * c) h)))
     (λ h. most-at s (A * c) t (B * c) (scaled A B c C s t (to-signs s t a b (own-sign s m e p) (own-sign t n d q) h)))))
 
--- e the coefficients, z the wanted number
-module _ (a : List Float) (n : ℕ) (e : ℕ → ℤ) (q : Float) (z : ℤ) (wanted : Whole q z)
-    (known : (j : ℕ) → j < n → Whole (getD a j nan) (e j)) (sizes : sumN (λ j. natAbs (e j)) n 0 ≤ 2 ^ 53) where
-  sum-whole : (j : ℕ) → j < n → Whole (sumTo a (j + 1)) (sumZ e (j + 1) 0)
+-- e the coefficients
+module _ (a : List Float) (n : ℕ) (e : ℕ → ℤ) (known : (j : ℕ) → j < n → Whole (getD a j nan) (e j))
+    (sizes : sumN (λ j. natAbs (e j)) n 0 ≤ 2 ^ 53) where
+  pub sum-whole : (j : ℕ) → j < n → Whole (sumTo a (j + 1)) (sumZ e (j + 1) 0)
   unfolding sumTo
   sum-whole j h =
       whole-list a e (j + 1) (λ i l. known i (omega arith))
       (omega (arith, sumN-part (λ j. natAbs (e j)) (j + 1) 0 n 0 (omega arith) (omega arith)))
 
-  pub exact-sums : (j : ℕ) → j < n → le q (sumTo a (j + 1)) ≡ atMost z (sumZ e (j + 1) 0)
-  exact-sums j h = whole-le wanted (sum-whole j h)
+  -- z the wanted number
+  module _ (q : Float) (z : ℤ) (wanted : Whole q z) where
+    pub exact-sums : (j : ℕ) → j < n → le q (sumTo a (j + 1)) ≡ atMost z (sumZ e (j + 1) 0)
+    exact-sums j h = whole-le wanted (sum-whole j h)
 
-  pub textbook-least : (k : ℕ) → k < n → atMost z (sumZ e (k + 1) 0) ≡ true → ((j : ℕ) → j < k → atMost z (sumZ e (j + 1) 0) ≡ false) → leastOf a n q ≡ k
-  textbook-least k h t f = least-found a n q k h (exact-sums k h ∙ t) (λ j l. exact-sums j (omega arith) ∙ f j l)
+    pub textbook-least : (k : ℕ) → k < n → atMost z (sumZ e (k + 1) 0) ≡ true → ((j : ℕ) → j < k → atMost z (sumZ e (j + 1) 0) ≡ false) → leastOf a n q ≡ k
+    textbook-least k h t f = least-found a n q k h (exact-sums k h ∙ t) (λ j l. exact-sums j (omega arith) ∙ f j l)
 
-  pub textbook-none : ((j : ℕ) → j < n → atMost z (sumZ e (j + 1) 0) ≡ false) → leastOf a n q ≡ n
-  textbook-none f = least-none a n q (λ j h. exact-sums j h ∙ f j h)
+    pub textbook-none : ((j : ℕ) → j < n → atMost z (sumZ e (j + 1) 0) ≡ false) → leastOf a n q ≡ n
+    textbook-none f = least-none a n q (λ j h. exact-sums j h ∙ f j h)
