@@ -9,25 +9,25 @@ use Rattle.model.specs.declared.Linear.{Linear}
 use Rattle.model.specs.Refusals.{isNone, zeroF, answerBy, readBy, linearBy}
 use Rattle.model.specs.Linear.{noLinear}
 use Rattle.model.specs.Least.{countBy}
-use Rattle.model.specs.Numbers.{numberOf, placeOf, headOf, readNumber, readPlace, readValue, countNumber, countPlace, countValue}
-use Rattle.model.specs.Numbers.{linearNumber, linearPlace, linearValue}
+use Rattle.model.specs.Numbers.{answerNumber, answerPlace, answerHead, readingNumber, readingPlace, readingValue, countNumber, countPlace, countValue}
+use Rattle.model.specs.Numbers.{linearTestNumber, linearTestPlace, linearTestValue}
 
 module _ (g : Refusal) where
-  pub answer-done : (w : ℕ) → isNone g ≡ true → (numberOf (answerBy g w) ≡ 0) × ((placeOf (answerBy g w) ≡ 64) × (headOf (answerBy g w) ≡ w))
+  pub answer-done : (w : ℕ) → isNone g ≡ true → (answerNumber (answerBy g w) ≡ 0) × ((answerPlace (answerBy g w) ≡ 64) × (answerHead (answerBy g w) ≡ w))
   unfolding answerBy
   answer-done w e = rw e (refl, (refl, refl))
 
   pub answer-refused : (w : ℕ) → isNone g ≡ false
-      → (numberOf (answerBy g w) ≡ g .number) × ((placeOf (answerBy g w) ≡ g .place) × (headOf (answerBy g w) ≡ 0))
+      → (answerNumber (answerBy g w) ≡ g .number) × ((answerPlace (answerBy g w) ≡ g .place) × (answerHead (answerBy g w) ≡ 0))
   unfolding answerBy
   answer-refused w e = rw e (refl, (refl, refl))
 
-  pub reading-done : (x : Float) → isNone g ≡ true → (readNumber (readBy g x) ≡ 0) × ((readPlace (readBy g x) ≡ 64) × (readValue (readBy g x) ≡ x))
+  pub reading-done : (x : Float) → isNone g ≡ true → (readingNumber (readBy g x) ≡ 0) × ((readingPlace (readBy g x) ≡ 64) × (readingValue (readBy g x) ≡ x))
   unfolding readBy
   reading-done x e = rw e (refl, (refl, refl))
 
   pub reading-refused : (x : Float) → isNone g ≡ false
-      → (readNumber (readBy g x) ≡ g .number) × ((readPlace (readBy g x) ≡ g .place) × (readValue (readBy g x) ≡ zeroF))
+      → (readingNumber (readBy g x) ≡ g .number) × ((readingPlace (readBy g x) ≡ g .place) × (readingValue (readBy g x) ≡ zeroF))
   unfolding readBy
   reading-refused x e = rw e (refl, (refl, refl))
 
@@ -41,11 +41,11 @@ module _ (g : Refusal) where
   count-refused k e = rw e (refl, (refl, refl))
 
   pub linear-done : (x : Linear) → isNone g ≡ true
-      → (linearNumber (linearBy g x) ≡ 0) × ((linearPlace (linearBy g x) ≡ 64) × (linearValue (linearBy g x) ≡ x))
+      → (linearTestNumber (linearBy g x) ≡ 0) × ((linearTestPlace (linearBy g x) ≡ 64) × (linearTestValue (linearBy g x) ≡ x))
   unfolding linearBy
   linear-done x e = rw e (refl, (refl, refl))
 
   pub linear-refused : (x : Linear) → isNone g ≡ false
-      → (linearNumber (linearBy g x) ≡ g .number) × ((linearPlace (linearBy g x) ≡ g .place) × (linearValue (linearBy g x) ≡ noLinear))
+      → (linearTestNumber (linearBy g x) ≡ g .number) × ((linearTestPlace (linearBy g x) ≡ g .place) × (linearTestValue (linearBy g x) ≡ noLinear))
   unfolding linearBy
   linear-refused x e = rw e (refl, (refl, refl))

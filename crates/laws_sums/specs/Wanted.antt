@@ -21,22 +21,22 @@ use Rattle.laws_sums.specs.Order.{at-most, most-at}
 use Rattle.laws_sums.specs.Textbook.{atMost, zero-only, of-signs, to-signs, cancelled, scaled, same-truth, sum-whole}
 
 -- z times c
-abbrev pub times : ℤ → ℕ → ℤ
-times (pos n) c = pos (n * c)
-times (negsuc n) c = negℤ (pos (suc n * c))
+abbrev pub wholeTimes : ℤ → ℕ → ℤ
+wholeTimes (pos n) c = pos (n * c)
+wholeTimes (negsuc n) c = negℤ (pos (suc n * c))
 
 -- q at most z, as numbers: a finite q is the fraction m * up e / down e with its sign
 abbrev pub reachedBy : Float → ℤ → Bool
 reachedBy nan z = false
 reachedBy (inf true) z = true
 reachedBy (inf false) z = false
-reachedBy (fin s m e) z = atMost (signed s (m * up e)) (times z (down e))
+reachedBy (fin s m e) z = atMost (signed s (m * up e)) (wholeTimes z (down e))
 
-abs-times : (z : ℤ) (c : ℕ) → natAbs (times z c) ≡ natAbs z * c
+abs-times : (z : ℤ) (c : ℕ) → natAbs (wholeTimes z c) ≡ natAbs z * c
 abs-times (pos n) c = refl
 abs-times (negsuc n) c = abs-neg (pos (suc n * c))
 
-sign-times : (t : Bool) (z : ℤ) (c : ℕ) → signed t (natAbs z) ≡ z → signed t (natAbs (times z c)) ≡ times z c
+sign-times : (t : Bool) (z : ℤ) (c : ℕ) → signed t (natAbs z) ≡ z → signed t (natAbs (wholeTimes z c)) ≡ wholeTimes z c
 sign-times false (pos n) c e = refl
 sign-times false (negsuc n) c e = absurd (pos-ne-negsuc (suc n) n e)
 sign-times true (pos n) c e = let o : n ≡ 0 = zero-only n e in rw (o, zero-mul c) refl
@@ -55,7 +55,7 @@ any-le (fin s m e) {b = b} w =
     ap (λ (x : ℕ). x * down e) (fraction t n d v) ∙ (mul-assoc (natAbs b) (down d) (down e)
     ∙ (ap (λ (x : ℕ). natAbs b * x) (mul-comm (down d) (down e)) ∙ sym (mul-assoc (natAbs b) (down e) (down d)))) in
     let a : ℤ = signed s A in
-    let z : ℤ = times b (down e) in
+    let z : ℤ = wholeTimes b (down e) in
     let na : natAbs a ≡ A = abs-signed s A in
     let nz : natAbs z ≡ B = abs-times b (down e) in
     let sa : signed s (natAbs a) ≡ a = ap (signed s) na in

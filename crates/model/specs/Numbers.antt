@@ -16,30 +16,30 @@ use Rattle.model.specs.Refusals.{zeroF}
 use Rattle.model.specs.Linear.{noLinear}
 
 -- a polynomial made: its true header's word
-abbrev pub numberOf : Answer → ℕ
-numberOf (answer.Done w) = 0
-numberOf (answer.Refused r) = r .number
+abbrev pub answerNumber : Answer → ℕ
+answerNumber (answer.Done w) = 0
+answerNumber (answer.Refused r) = r .number
 
-abbrev pub placeOf : Answer → ℕ
-placeOf (answer.Done w) = 64
-placeOf (answer.Refused r) = r .place
+abbrev pub answerPlace : Answer → ℕ
+answerPlace (answer.Done w) = 64
+answerPlace (answer.Refused r) = r .place
 
-abbrev pub headOf : Answer → ℕ
-headOf (answer.Done w) = w
-headOf (answer.Refused r) = 0
+abbrev pub answerHead : Answer → ℕ
+answerHead (answer.Done w) = w
+answerHead (answer.Refused r) = 0
 
 -- a number read
-abbrev pub readNumber : Reading → ℕ
-readNumber (reading.Done x) = 0
-readNumber (reading.Refused r) = r .number
+abbrev pub readingNumber : Reading → ℕ
+readingNumber (reading.Done x) = 0
+readingNumber (reading.Refused r) = r .number
 
-abbrev pub readPlace : Reading → ℕ
-readPlace (reading.Done x) = 64
-readPlace (reading.Refused r) = r .place
+abbrev pub readingPlace : Reading → ℕ
+readingPlace (reading.Done x) = 64
+readingPlace (reading.Refused r) = r .place
 
-abbrev pub readValue : Reading → Float
-readValue (reading.Done x) = x
-readValue (reading.Refused r) = zeroF
+abbrev pub readingValue : Reading → Float
+readingValue (reading.Done x) = x
+readingValue (reading.Refused r) = zeroF
 
 -- a count read
 abbrev pub countNumber : CountReading → ℕ
@@ -55,14 +55,14 @@ countValue (count-reading.Done k) = k
 countValue (count-reading.Refused r) = 0
 
 -- the linear test: yes or no with c, m and a variable
-abbrev pub linearNumber : LinearReading → ℕ
-linearNumber (linear-reading.Done x) = 0
-linearNumber (linear-reading.Refused r) = r .number
+abbrev pub linearTestNumber : LinearReading → ℕ
+linearTestNumber (linear-reading.Done x) = 0
+linearTestNumber (linear-reading.Refused r) = r .number
 
-abbrev pub linearPlace : LinearReading → ℕ
-linearPlace (linear-reading.Done x) = 64
-linearPlace (linear-reading.Refused r) = r .place
+abbrev pub linearTestPlace : LinearReading → ℕ
+linearTestPlace (linear-reading.Done x) = 64
+linearTestPlace (linear-reading.Refused r) = r .place
 
-abbrev pub linearValue : LinearReading → Linear
-linearValue (linear-reading.Done x) = x
-linearValue (linear-reading.Refused r) = noLinear
+abbrev pub linearTestValue : LinearReading → Linear
+linearTestValue (linear-reading.Done x) = x
+linearTestValue (linear-reading.Refused r) = noLinear
