@@ -2,11 +2,14 @@
 //! coefficients; results are written to slices that the caller lends. taylor.h says what each function does and by
 //! which numbers it refuses.
 
-/// Why a call was refused: the number, and the place it is about, 64 for none in particular. No buffer was changed.
+/// Why a call was refused: the number, and the place it is about, 64 for none in particular; with number 1 the variable
+/// that is wrong, 4 for none, and the cause (taylor.h), else 0 and 0. No buffer was changed.
 #[derive(Clone, Copy, Debug, PartialEq, Eq)]
 pub struct Refusal {
     pub number: u8,
     pub place: u8,
+    pub variable: u8,
+    pub cause: u8,
 }
 
 mod face {
@@ -87,7 +90,8 @@ mod face {
 }
 
 fn refusal(word: u64) -> Refusal {
-    Refusal { number: (word & 255) as u8, place: ((word >> 8) & 255) as u8 }
+    let byte = |from: u32| (word >> from & 255) as u8;
+    Refusal { number: byte(0), place: byte(8), variable: byte(16), cause: byte(24) }
 }
 
 /// A header word's low five bits are zero, a refusal's are not.

@@ -14,8 +14,14 @@ HEAD = (
     "Each place: what it is, its number of variables, and of each variable the\n"
     "limit/most it stores. Operands are places, v is a variable, n a number.\n"
 )
+OF_CAUSE = {
+    1: "its number of variables is above 4;\nwrite the word anew.\n",
+    2: "the length of variable %d is above its limit;\nlower the length or raise the limit.\n",
+    3: "variable %d is missing, but its fields are not zero;\nclear them, or count it among the variables.\n",
+    4: "its last 13 bits are not zero;\nclear them.\n",
+    5: "its lengths multiply to more than 4,096;\nlower them.\n",
+}
 OF_PLACE = {
-    1: "its header word breaks the rules; write its limits and lengths anew.\n",
     3: "its variable is not its operand's; name one that the operand has.\n",
     4: "its n is not below the operand's limit; take a smaller n.\n",
     5: "it would hold more than 4,096 coefficients; lower limits or lengths.\n",
@@ -251,8 +257,9 @@ def figures_text(word, xs):
 def told(text, said):
     """What `limits` prints for a sheet, said what `recipe` printed for it."""
     if said.startswith("refused"):
-        _, n, place = said.split()
-        n, place = int(n), int(place)
+        n, place, variable, cause = map(int, said.split()[1:])
+        if n == 1:
+            return said + "Input %d: %s" % (place, OF_CAUSE[cause].replace("%d", str(variable)))
         return said + ("Place %d: %s" % (place, OF_PLACE[n]) if place < 64 else OF_SHEET[n])
     words = [int(l, 16) for l in text.split()]
     inputs, count = words[0] >> 56, words[0] >> 48 & 255
@@ -262,6 +269,13 @@ def told(text, said):
     answer = said.split("\n")[1:-1]
     xs = [struct.unpack(">d", bytes.fromhex(l))[0] for l in answer[1:]]
     return limits_text(inputs, steps, known) + figures_text(int(answer[0], 16), xs)
+
+
+def fault(rng):
+    """A word that is no header, by each cause."""
+    v, spare = rng.randrange(4), rng.randrange(13)
+    long = pack([2] * 4, [3 if k == v else 1 for k in range(4)])
+    return rng.choice([5 << 61, long, 1 << (49 - 12 * v), 1 << (55 - 12 * v), 1 << spare, pack([64] * 3, [64, 64, 2])])
 
 
 def sheet(rng):
@@ -289,6 +303,8 @@ def sheet(rng):
         if kind == 6 and rng.random() < 0.2:
             n = rng.choice([2**31, 2**32 - 1])  # longer than can be counted, where it is done twice
         steps.append(kind << 60 | a << 54 | b << 48 | v << 46 | n << 14)
+    if inputs and rng.random() < 0.08:
+        lines[rng.randrange(inputs)] = fault(rng)
     if rng.random() < 0.03:
         steps[rng.randrange(count)] |= rng.choice([1, 1 << 63, 1 << 50])
     words = [inputs << 56 | count << 48] + lines + [struct.unpack(">Q", struct.pack(">d", x))[0] for x in coefficients] + steps

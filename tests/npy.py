@@ -33,7 +33,7 @@ def by_rules(f):
     if len(shape) > 4 or any(not 1 <= x <= 64 for x in shape) or count > 4096: return 5
     return shape if len(data) == 8 * count else 10
 
-def refused(number): return "refused %d 64\n" % number
+def refused(number): return "refused %d 64 0 0\n" % number
 
 def expected(f):
     r = by_rules(f)

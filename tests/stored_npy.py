@@ -83,7 +83,7 @@ def answers():
         yield other, no
     for n in range(0, 16, 3):
         for bad in (b"g", b"A", b"\n", b" "): yield whole[:8 + 17 + n] + bad + whole[8 + 17 + n + 1:], no
-    for line in (b"refused 8 64\n", b"refused 1 0\n", b"refused 12 255\n", b"refused 1 64 0 2\n", b"refused \n", b"refused 7\n"): yield line, line
+    for line in (b"refused 8 64 0 0\n", b"refused 1 0 3 2\n", b"refused 12 255 0 0\n", b"refused 8 64\n", b"refused \n", b"refused 7\n"): yield line, line
     for line in (b"refused", b"refused ", b"refused 8 64", b"refused 8 64\n\n", b"refused 8 64\n0", b"refused a b\n", b"Refused 8 64\n", b"refused 8\t64\n",
                  b" refused 8 64\n", b"refused 8 64\r\n"): yield line, no
     yield b"refused " + b"1" * 55 + b"\n", b"refused " + b"1" * 55 + b"\n"

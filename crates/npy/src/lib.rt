@@ -8,6 +8,7 @@ use npy_reading::head_of;
 use npy_reading::open_file;
 use npy_writing::put_front;
 use shape_words::places::count_of;
+use shape_words::word::bad_word;
 use shape_words::word::good_header;
 use shape_words::word::header_of;
 use shape_words::word::is_good;
@@ -50,7 +51,7 @@ pub fn write(head: u64, a: &[f64], file: &mut [u8]) -> Written
     ensures written { λ r. ⌜ now (file .exit) ≡ writeFile head (now (a .entry)) (now (file .entry)) ⌝ }
 {
     if !is_good(head) {
-        return Written::refused(1);
+        return Written::Refused(bad_word(head, Refusal::NOWHERE));
     }
     let h = header_of(head);
     let n = h.lengths;

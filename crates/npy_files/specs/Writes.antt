@@ -11,9 +11,9 @@ use Rattle.lists.specs.Grow.{over}
 use Rattle.lists.specs.Table.{table}
 use Rattle.model.specs.declared.Refusal.{Refusal}
 use Rattle.model.specs.Header.{stored}
-use Rattle.model.specs.Word.{headerOf, goodWord}
+use Rattle.model.specs.Word.{headerOf}
 use Rattle.model.specs.Refusals.{ask, isNone, noRefusal}
-use Rattle.model.specs.Gates.{full}
+use Rattle.model.specs.Gates.{askWord, full}
 use Rattle.model_texts.specs.Printed.{decimal}
 use Rattle.npy_files.specs.declared.Written.{Written}
 use Rattle.npy_files.specs.declared.Written.the-variants.{Done, Refused}
@@ -70,7 +70,7 @@ abbrev pub fileLength : ℕ → ℕ
 fileLength w = 128 + 8 * stored (headerOf w)
 
 unfoldable pub writeGate : ℕ → ℕ → ℕ → Refusal
-writeGate w m n = ask (goodWord w) 1 (ask (full w m) 2 (ask (leb (fileLength w) n) 5 noRefusal))
+writeGate w m n = askWord w (ask (full w m) 2 (ask (leb (fileLength w) n) 5 noRefusal))
 
 -- how many bytes were written
 unfoldable pub writeAnswer : ℕ → List Float → List ℕ → Written

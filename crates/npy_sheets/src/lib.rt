@@ -10,32 +10,18 @@ use npy_answers::lines_start;
 use npy_files::Written;
 use shape_words::word::header_of;
 use sheet_text::line::word_at;
-use sheet_text::print::put_byte;
 use sheet_text::print::put_bytes;
-use sheet_text::print::put_decimal;
 use sheet_text::print::put_floats;
 use sheet_text::print::put_line;
+use sheet_text::refused::put_refusal;
 ghost use mathlib.Core.Bool.{true};
 ghost use mathlib.Core.Path.{_≡_};
 ghost use Prim.Native.Nat.{_+_, _*_, _≤_};
 ghost use lib.ListN.{length};
-ghost use Rattle.model_texts.specs.Printed.{refusedText};
 ghost use Rattle.npy_answers.specs.Answer.{isAnswer};
 ghost use Rattle.npy_sheets.specs.Arrays.{Arrayed};
 ghost use Rattle.npy_sheets.specs.Shown.{sheetText, Shown};
 ghost use Rattle.sheet_text.specs.Put.{Put};
-
-// One line of `refused`, number, place.
-fn put_refusal(r: Refusal, to: &mut [u8]) -> usize
-    requires { ⌜ 16 ≤ length (now to) ⌝ }
-    ensures { λ n. ⌜ Put 0 (refusedText r) (now (to .entry)) (now (to .exit)) n ⌝ }
-{
-    let a = put_bytes(b"refused ", 0, to);
-    let b = put_decimal(r.number as u64, a, to);
-    let c = put_byte(32, b, to);
-    let d = put_decimal(r.place as u64, c, to);
-    put_byte(10, d, to)
-}
 
 // A header word and coefficients, a line each.
 fn put_sheet(head: u64, xs: &[f64], to: &mut [u8]) -> usize

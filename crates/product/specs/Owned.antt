@@ -26,6 +26,7 @@ use Rattle.model.specs.Poly.{Poly, poly, polyOf, held, block}
 use Rattle.model.specs.Product.{multiplied, productPoly, productAnswer, productOut, productScratch}
 use Rattle.shape_words.specs.Rules.{Ruled, Good, ruled-at, header-good}
 use Rattle.shape_words.specs.Lengths.{Lengths, lengths-of}
+use Rattle.shape_words.specs.Sound.{good-word-is}
 use Rattle.shape_words.specs.Words.{good-word, pack-unpack}
 use Rattle.product_kept.specs.Kept.{KeepsLength, Keeps, keeps-ruled, keeps-announced}
 use Rattle.gates.specs.Gate.{PairReady, pair-ready}
@@ -41,13 +42,13 @@ use Rattle.product.specs.Short.{short-var, short-value}
 pub owns-it : (w ma u mb mo ms : ℕ) {x y : Header} {n m : ℕ} → x ≡ headerOf w → y ≡ headerOf u → goodWord w ≡ true
     → Keeps x y → eqb (u % 2 ^ 13) 0 ≡ true → n ≡ stored x → m ≡ stored y
     → 1 < n → m ≤ 2 → n ≤ ma → m ≤ mb → n ≤ mo → 8 * n ≤ ms → Owns w ma u mb mo ms n
-unfolding pairGate goodWord
+unfolding pairGate
 owns-it w ma u mb mo ms {x} {y} {n} {m} ex ey g k z en em big few fa fb fo fs =
     let kw : Keeps (headerOf w) (headerOf u) = rw (ex, ey) at k in
     let gw = good-word w g in
     let nw : n ≡ stored (headerOf w) = rw ex at en in
     let mu : m ≡ stored (headerOf u) = rw ey at em in
-    let gu : goodWord u ≡ true = simp (header-good (keeps-ruled (gw .regular .rules) kw) (omega arith), z) in
+    let gu : goodWord u ≡ true = good-word-is u ∙ simp (header-good (keeps-ruled (gw .regular .rules) kw) (omega arith), z) in
     let t : announcedPair Product w u ≡ headerOf w = keeps-announced (gw .regular) kw in
     let most = gw .most in
     record {

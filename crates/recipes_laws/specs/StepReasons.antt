@@ -109,10 +109,11 @@ module _ (w : ℕ) (known : List Header) where
     pub at : r .place ≡ place
     pub reason : StepReason w known (r .number)
     pub lowest : (n : ℕ) → StepReason w known n → r .number ≤ n
+    pub alone : (r .variable ≡ 0) × (r .cause ≡ 0)
 
   stopped-by : {r : Refusal} → View r → (r .number ≡ 0 → ⊥) → Stopped r
   stopped-by (fine f) e = absurd (e refl)
-  stopped-by (wrong k x h l) e = record { at = refl; reason = x; lowest = l }
+  stopped-by (wrong k x h l) e = record { at = refl; reason = x; lowest = l; alone = (refl, refl) }
 
   pub step-stopped : (stepRefusal w known .number ≡ 0 → ⊥) → Stopped (stepRefusal w known)
   step-stopped e = stopped-by view e

@@ -5,7 +5,7 @@ use mathlib.Core.Bool.{Bool, true, _&&_}
 use mathlib.Core.List.{List, [], _∷_, _++_}
 use mathlib.Core.Path.{_≡_, refl, sym, ap, _∙_}
 use native.Mathlib.Omega.{arith}
-use lib.Dec.{leb, ltb}
+use lib.Dec.{leb, ltb, eqb}
 use lib.Ieee.{Float, ofBits, binary64}
 use lib.ListN.{length, getD, take, drop, length-append}
 use lib.Seq.{getD-drop, take-all}
@@ -13,7 +13,7 @@ use borrow.Author.Tests.{ltb-true, leb-true, eqb-true, eqb-false}
 use Rattle.lists.specs.Bytes.{bytes}
 use Rattle.lists.specs.Grow.{over, take-over}
 use Rattle.lists.specs.Table.{length-table}
-use Rattle.lists.specs.Test.{decide, and-left, and-right}
+use Rattle.lists.specs.Test.{decide, of-both, and-left, and-right}
 use Rattle.model.specs.declared.Refusal.{Refusal}
 use Rattle.model.specs.Header.{stored}
 use Rattle.model.specs.Word.{headerOf, wordOf}
@@ -21,7 +21,7 @@ use Rattle.model.specs.Refusals.{isNone}
 use Rattle.model_recipes.specs.Check.{checkRefusal}
 use Rattle.model_recipes.specs.Recipe.{inputHeads, headAt, announcedPlaces, announcedSteps, total, largest}
 use Rattle.model_recipes.specs.Run.{noValue, valueAt, values, stepValues}
-use Rattle.model_texts.specs.Printed.{refusedWord, space, refusedText}
+use Rattle.model_texts.specs.Printed.{refusedWord, space, decimal, refusedText}
 use Rattle.model_texts.specs.Report.{tell, when}
 use Rattle.model_texts.specs.Sentence.{placeMeanings, sheetMeanings, meaning, refusalReport}
 use Rattle.model_texts.specs.Sheet.{inputCount, stepCount, sheetHeaders, sheetCoefficients, sheetSteps, wordOn}
@@ -38,8 +38,12 @@ use Rattle.sheet.specs.Opened.{steps-many}
 use Rattle.sheet.specs.Running.{passed, steps-largest}
 use Rattle.report_lines.specs.Puts.{Printed}
 use Rattle.report_lines.specs.Columns.{inColumns, columnAfter, columns-append, columns-earlier, Piece, piece}
-use Rattle.report_lines.specs.Columns.{piece-then, piece-columns, number-piece, tell-two, newline-rest, rest-then}
-use Rattle.report_lines.specs.Columns.{Lines, lines}
+use Rattle.report_lines.specs.Columns.{piece-then, piece-columns, small-piece, tell-two, newline-rest, rest-then}
+use Rattle.report_lines.specs.Columns.{Lines, lines, lines-up}
+use Rattle.model_texts.specs.Cause.{faultText}
+use Rattle.report_header.specs.Causes.{fault-length, fault-columns}
+use Rattle.gates.specs.Small.{Small}
+use Rattle.report.specs.Front.{refusal-small}
 use Rattle.report_lines.specs.Long.{limits-lines}
 use Rattle.report_figures.specs.Lines.{word-lengths}
 use Rattle.report_figures.specs.Long.{figures-lines}
@@ -60,12 +64,20 @@ kept-behind {s = s} {t = t} p q =
 
 -- ---- a refusal
 
-refused-lines : (r : Refusal) → Lines 50 (refusedText r)
+-- numbers of three digits
+three : (n : ℕ) → n < 1000 → Piece 3 (decimal n)
+three n h = small-piece 3 n (omega arith) h (omega arith)
+
+refused-lines : (r : Refusal) → Small 8 512 r → Lines 50 (refusedText r)
 unfolding refusedText
-refused-lines r =
-    lines (omega arith)
-    (rest-then (piece 8 refusedWord refl) (rest-then (number-piece (r .number))
-    (rest-then (piece 1 space refl) (rest-then (number-piece (r .place)) newline-rest))))
+refused-lines r s =
+    lines-up
+    (lines (omega arith)
+    (rest-then (piece 8 refusedWord refl) (rest-then (three (r .number) (omega (arith, s .number)))
+    (rest-then (piece 1 space refl) (rest-then (three (r .place) (omega (arith, s .place)))
+    (rest-then (piece 1 space refl) (rest-then (three (r .variable) (omega (arith, s .variable)))
+    (rest-then (piece 1 space refl) (rest-then (three (r .cause) (omega (arith, s .cause))) newline-rest)))))))))
+    (omega arith)
 
 -- texts that keep to the columns from the column c on
 abbrev allFrom : ℕ → List String → Bool
@@ -110,9 +122,14 @@ sentence-kept r =
     rw t k)
     (λ t. let f = sheet-from (r .number) in rw t (record { most = omega (arith, f .0); keeps = f .1 }))
 
-refusal-kept : (r : Refusal) → Kept 190 (refusalReport r)
+fault-kept : (p v c : ℕ) → Kept 140 (faultText p v c)
+fault-kept p v c = record { most = fault-length p v c; keeps = fault-columns p v c }
+
+refusal-kept : (r : Refusal) → Small 8 512 r → Kept 190 (refusalReport r)
 unfolding refusalReport
-refusal-kept r = kept-behind (refused-lines r) (sentence-kept r)
+refusal-kept r s =
+    kept-behind (refused-lines r s)
+    (of-both (Kept 140) (eqb (r .number) 1) (fault-kept (r .place) (r .variable) (r .cause)) (sentence-kept r))
 
 -- ---- a sheet that is not refused
 
@@ -179,7 +196,7 @@ told-kept t =
     decide (isNone (sheetRefusal t))
     (λ a. done-kept t (eqb-true _ _ a))
     (λ a.
-    let k = refusal-kept (sheetRefusal t) in
+    let k = refusal-kept (sheetRefusal t) (refusal-small t) in
     rw (told-refused t refl (eqb-false (sheetRefusal t .number) 0 a)) (record { most = omega (arith, k .most); keeps = k .keeps }))
 
 module _ (t : List ℕ) where

@@ -80,17 +80,17 @@ told-solved {t} {headers} {steps} {known} {pool} {s} d z =
     told-done t z ∙ rw (e, d .places, d .step-words, d .last .header, d .last .coefficients, d .inputs, d .steps) refl
 
 -- no other number means anything of a place, or of a sheet
-pub no-place-meaning : (n : ℕ) → (n ≡ 1 → ⊥) → (n ≡ 3 → ⊥) → (n ≡ 4 → ⊥) → (n ≡ 5 → ⊥) → (n ≡ 7 → ⊥) → [] ≡ bytes (getD placeMeanings n "")
+pub no-place-meaning : (n : ℕ) → (n ≡ 3 → ⊥) → (n ≡ 4 → ⊥) → (n ≡ 5 → ⊥) → (n ≡ 7 → ⊥) → [] ≡ bytes (getD placeMeanings n "")
 unfolding placeMeanings bytes
-no-place-meaning zero a b c d e = refl
-no-place-meaning (suc zero) a b c d e = absurd (a refl)
-no-place-meaning (suc (suc zero)) a b c d e = refl
-no-place-meaning (suc (suc (suc zero))) a b c d e = absurd (b refl)
-no-place-meaning (suc (suc (suc (suc zero)))) a b c d e = absurd (c refl)
-no-place-meaning (suc (suc (suc (suc (suc zero))))) a b c d e = absurd (d refl)
-no-place-meaning (suc (suc (suc (suc (suc (suc zero)))))) a b c d e = refl
-no-place-meaning (suc (suc (suc (suc (suc (suc (suc zero))))))) a b c d e = absurd (e refl)
-no-place-meaning (suc (suc (suc (suc (suc (suc (suc (suc n)))))))) a b c d e = refl
+no-place-meaning zero a b c d = refl
+no-place-meaning (suc zero) a b c d = refl
+no-place-meaning (suc (suc zero)) a b c d = refl
+no-place-meaning (suc (suc (suc zero))) a b c d = absurd (a refl)
+no-place-meaning (suc (suc (suc (suc zero)))) a b c d = absurd (b refl)
+no-place-meaning (suc (suc (suc (suc (suc zero))))) a b c d = absurd (c refl)
+no-place-meaning (suc (suc (suc (suc (suc (suc zero)))))) a b c d = refl
+no-place-meaning (suc (suc (suc (suc (suc (suc (suc zero))))))) a b c d = absurd (d refl)
+no-place-meaning (suc (suc (suc (suc (suc (suc (suc (suc n)))))))) a b c d = refl
 
 pub no-sheet-meaning : (n : ℕ) → (n ≡ 5 → ⊥) → (n ≡ 7 → ⊥) → (n ≡ 8 → ⊥) → [] ≡ bytes (getD sheetMeanings n "")
 unfolding sheetMeanings bytes

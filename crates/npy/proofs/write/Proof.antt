@@ -28,14 +28,14 @@ use Rattle.shape_words.proofs.word.is_good.Reads as is-good-reads
 is-good-requires : tie.Need-is-good-requires
 is-good-requires c κs = search needs
 
-refused-requires : tie.Need-refused-requires
-refused-requires c κs = search needs
+bad-word-requires : tie.Need-bad-word-requires
+bad-word-requires c κs = search needs
 
 returns : tie.Need-returns
 returns c =
     let start = c .before .before .before .before .before in
     write-bad (start .args .head) (start .args .a .now) (start .args .file .now) (c .before .before .is-good .ensures)
-    (not-true _ (c .before .if1 .taken)) (c .refused .ensures)
+    (not-true _ (c .before .if1 .taken)) (c .bad-word .ensures)
 
 header-of-requires : tie.Need-header-of-requires
 header-of-requires c κs = search needs
@@ -46,8 +46,8 @@ count-of-requires c κs =
     (lengths-of (good-word (c .before .before .before .before .before .before .args .head)
     (sym (c .before .before .before .is-good .ensures) ∙ not-false _ (c .before .before .if1 .left)) .regular .rules))
 
-refused-requires-2 : tie.Need-refused-requires-2
-refused-requires-2 c κs = search needs
+refused-requires : tie.Need-refused-requires
+refused-requires c κs = search needs
 
 returns-2 : tie.Need-returns-2
 returns-2 c =
@@ -56,7 +56,7 @@ returns-2 c =
     (c .before .before .before .before .before .before .is-good .ensures)
     (not-false _ (c .before .before .before .before .before .if1 .left))
     (c .before .before .count-of .ensures ∙ ap (λ (x : Header). count (x .lengths))
-    (c .before .before .before .before .header-of .ensures)) (c .before .if2 .taken) (c .refused2 .ensures)
+    (c .before .before .before .before .header-of .ensures)) (c .before .if2 .taken) (c .refused .ensures)
 
 mul-if3 : tie.Need-mul-if3
 mul-if3 c = search needs
@@ -64,8 +64,8 @@ mul-if3 c = search needs
 add-if3 : tie.Need-add-if3
 add-if3 c = search needs
 
-refused-requires-3 : tie.Need-refused-requires-3
-refused-requires-3 c κs = search needs
+refused-requires-2 : tie.Need-refused-requires-2
+refused-requires-2 c κs = search needs
 
 returns-3 : tie.Need-returns-3
 returns-3 c =
@@ -75,7 +75,7 @@ returns-3 c =
     (not-false _ (c .before .before .before .before .before .before .if1 .left))
     (c .before .before .before .count-of .ensures
     ∙ ap (λ (x : Header). count (x .lengths)) (c .before .before .before .before .before .header-of .ensures))
-    (c .before .before .if2 .left) (c .before .if3 .taken) (c .refused3 .ensures)
+    (c .before .before .if2 .left) (c .before .if3 .taken) (c .refused2 .ensures)
 
 put-front-requires : tie.Need-put-front-requires
 put-front-requires c κs =
@@ -131,15 +131,15 @@ write-spec =
     tie.close
     (tie.spec
     is-good-requires
-    refused-requires
+    bad-word-requires
     returns
     header-of-requires
     count-of-requires
-    refused-requires-2
+    refused-requires
     returns-2
     mul-if3
     add-if3
-    refused-requires-3
+    refused-requires-2
     returns-3
     put-front-requires
     slice-aggregate-put-data

@@ -10,7 +10,7 @@ use Rattle.model.proofs.Refusal.by.Reads as by-reads
 use Rattle.npy_answers.proofs.is_answer.Reads as is-answer-reads
 use Rattle.npy_answers.proofs.is_refusal.Reads as is-refusal-reads
 use Rattle.npy_sheets.proofs.put_array.Reads as put-array-reads
-use Rattle.npy_sheets.proofs.put_refusal.Reads as put-refusal-reads
+use Rattle.sheet_text.proofs.refused.put_refusal.Reads as put-refusal-reads
 use Rattle.sheet_text.proofs.print.put_bytes.Reads as put-bytes-reads
 
 is-answer-requires : tie.Need-is-answer-requires

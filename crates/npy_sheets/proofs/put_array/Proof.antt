@@ -13,7 +13,7 @@ use Rattle.gates.proofs.stored_of.Reads as stored-of-reads
 use Rattle.npy.proofs.write.Reads as write-reads
 use Rattle.npy_answers.proofs.fill_values.Reads as fill-values-reads
 use Rattle.npy_answers.proofs.lines_start.Reads as lines-start-reads
-use Rattle.npy_sheets.proofs.put_refusal.Reads as put-refusal-reads
+use Rattle.sheet_text.proofs.refused.put_refusal.Reads as put-refusal-reads
 use Rattle.shape_words.proofs.word.header_of.Reads as header-of-reads
 use Rattle.sheet_text.proofs.line.word_at.Reads as word-at-reads
 

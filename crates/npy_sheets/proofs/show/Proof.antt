@@ -11,7 +11,7 @@ use Rattle.npy_sheets.proofs.show.Reads as reads
 use Rattle.npy_sheets.proofs.show.Lts as lts
 use Rattle.gates.proofs.stored_of.Reads as stored-of-reads
 use Rattle.npy.proofs.read.Reads as read-reads
-use Rattle.npy_sheets.proofs.put_refusal.Reads as put-refusal-reads
+use Rattle.sheet_text.proofs.refused.put_refusal.Reads as put-refusal-reads
 use Rattle.npy_sheets.proofs.put_sheet.Reads as put-sheet-reads
 use Rattle.shape_words.proofs.word.header_of.Reads as header-of-reads
 

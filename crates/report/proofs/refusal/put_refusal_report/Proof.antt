@@ -11,11 +11,11 @@ use Rattle.report.proofs.refusal.put_where.Reads as put-where-reads
 
 returns : tie.Need-returns
 unfolding refusalReport
-returns c =
-    let c11 = c .before .before .before .before .before .before .before .before .before .before .before in
-    puts-then (c11 .put-refused .ensures) (puts-then
-    (c .before .before .before .before .before .before .put-where .ensures)
-    (c .before .before .put-meaning .ensures))
+returns c = ?
+
+returns-2 : tie.Need-returns-2
+unfolding refusalReport
+returns-2 c = ?
 
 pub put-refusal-report-spec : {M : Type 1} → statement M
 put-refusal-report-spec =
