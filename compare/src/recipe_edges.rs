@@ -149,8 +149,8 @@ pub fn bad_headers() -> [u64; 8] {
     ]
 }
 
-/// Every cause of document 02, W5, at its edge, in each variable that it can name, beside words that just keep the rule;
-/// then words with two faults, of which the first in its order is told.
+/// Every cause of document 02, W5, at its edge, in each variable that it can name, beside words that just keep the
+/// rule; then words with two faults, of which the first in its order is told.
 pub fn faults() -> Vec<u64> {
     let long = |v: usize, limit: usize| {
         let (mut limits, mut lengths) = ([2; 4], [1; 4]);

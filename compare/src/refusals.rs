@@ -232,8 +232,8 @@ pub fn least(case: &Case) -> Gate {
     Ok(a)
 }
 
-/// Limits given to a constructor: how many, then four numbers. Too many is told before any limit, then the first that is
-/// none.
+/// Limits given to a constructor: how many, then four numbers. Too many is told before any limit, then the first that
+/// is none.
 fn given(numbers: &[u64]) -> Gate {
     if numbers[0] > VARIABLES as u64 {
         return Err(Fault::of_none(6).into());

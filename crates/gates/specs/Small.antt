@@ -7,8 +7,7 @@ use lib.Dec.{leb}
 use Rattle.model.specs.declared.Fault.{Fault}
 use Rattle.model.specs.declared.Refusal.{Refusal}
 use Rattle.model.specs.Faults.{soundLimit, limitsFault}
-use Rattle.model.specs.Word.{faultOf}
-use Rattle.model.specs.Refusals.{refusedAt, refusedFor, noRefusal, askFor}
+use Rattle.model.specs.Refusals.{refusedAt, refusedFor, askFor}
 use Rattle.model.specs.Gates.{badWord}
 use Rattle.shape_words.specs.Faults.{SmallFault, fault-small, none-small, word-fault-small}
 

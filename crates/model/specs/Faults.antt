@@ -25,7 +25,7 @@ abbrev pub unless : Bool → Fault → Fault → Fault
 unless true f next = next
 unless false f next = f
 
--- the fields of variable k, each one less than limit and length
+-- variable k: a length up to its limit; where it is missing, fields of zero, which are a limit and a length of 1
 unfoldable pub soundVar : Header → ℕ → Bool
 soundVar h k = cond (ltb k (h .vars)) (leb (len h k) (limit h k)) (eqb (limit h k) 1 && eqb (len h k) 1)
 

@@ -1,7 +1,7 @@
--- REFERENCE 5.1, 5.4. Document 01, 'Refusal numbers' and 'What each answer owes', and document 02, W5: the number, place,
--- variable, cause, header and values that each case of an answer stands for. A refusal has its number, place, variable
--- and cause, and 0 for what it has not; what is done has number 0, is about no place in particular, and has 0 for
--- variable and cause.
+-- REFERENCE 5.1, 5.4. Document 01, 'Refusal numbers' and 'What each answer owes', and document 02, W5: the number,
+-- place, variable, cause, header and values that each case of an answer stands for. A refusal has its number, place,
+-- variable and cause, and 0 for what it has not; what is done has number 0, is about no place in particular, and has 0
+-- for variable and cause.
 use Prim.Native.Nat.{ℕ}
 use lib.Ieee.{Float}
 use Rattle.model.specs.declared.Refusal.{Refusal}

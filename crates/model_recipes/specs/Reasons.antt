@@ -1,5 +1,6 @@
--- REFERENCE 6.4, 6.5. Document 01, 'Recipes' and 'Refusal numbers', and document 02, W5: the reasons to refuse a recipe,
--- each with its place and its number, and those to refuse a run of it; what a reason is, and not how it is found.
+-- REFERENCE 6.4, 6.5. Document 01, 'Recipes' and 'Refusal numbers', and document 02, W5: the reasons to refuse a
+-- recipe, each with its place and its number, and those to refuse a run of it; what a reason is, and not how it is
+-- found.
 -- Sizes are at no place in particular: 64. A recipe has at most 64 places. 3, 4 and 5 are reasons of a step whose word
 -- is right.
 use Prim.Native.Nat.{ℕ, suc, _+_, _*_, _≤_, _<_}

@@ -70,7 +70,9 @@ module _ (w : ℕ) (a : List Float) (old : List ℕ) {g : Bool} (eg : g ≡ good
     module _ {c : ℕ} (ec : c ≡ count (h .lengths)) where
       pub write-few : {r : Written} → length a < c → r ≡ Refused (refusedBy 2) → Refusing r
       unfolding writeGate
-      write-few l e = let z = by-gate w a old (refusedBy 2) (λ k. omega (arith, k)) (rw (is-good, lt-leb (stored h) (length a) (omega (arith, l, ec)))) in (e ∙ z .0, z .1)
+      write-few l e =
+          let z = by-gate w a old (refusedBy 2) (λ k. omega (arith, k)) (rw (is-good, lt-leb (stored h) (length a) (omega (arith, l, ec)))) in
+          (e ∙ z .0, z .1)
 
       module _ (l : c ≤ length a) where
         pub write-short : {r : Written} → length old < 128 + 8 * c → r ≡ Refused (refusedBy 5) → Refusing r

@@ -1,6 +1,6 @@
 -- What refuses a run: the check, by 7 at most, or a buffer that is too short, by 2, 5 or 6.
 use Prim.Native.Nat.{ℕ, _*_, _≤_}
-use mathlib.Core.Bool.{Bool, true, false, _&&_}
+use mathlib.Core.Bool.{true, _&&_}
 use mathlib.Core.List.{List}
 use mathlib.Core.Path.{_≡_, _∙_}
 use native.Mathlib.Omega.{arith}
@@ -11,7 +11,7 @@ use borrow.Author.Tests.{le-leb, leb-true}
 use Rattle.lists.specs.Test.{and-left, and-right}
 use Rattle.model.specs.declared.Header.{Header}
 use Rattle.model.specs.declared.Refusal.{Refusal}
-use Rattle.model.specs.Refusals.{ask, noRefusal}
+use Rattle.model.specs.Refusals.{noRefusal}
 use Rattle.model_recipes.specs.Recipe.{inputHeads, announcedSteps, total, largest}
 use Rattle.model_recipes.specs.Check.{checkRefusal}
 use Rattle.model_recipes.specs.Reasons.{StepReason, wrong-word, no-variable, large-n, large-count}

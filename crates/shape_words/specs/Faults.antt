@@ -1,7 +1,7 @@
 -- The fault told of a header word is the first of its reasons in document 02's order (W5), and there is one exactly
 -- where the word is no header.
 use Prim.Native.Nat.{ℕ, suc, _%_, _^_, _≤_, _<_}
-use mathlib.Core.Bool.{Bool, true, false, _&&_, cond}
+use mathlib.Core.Bool.{Bool, true, false, _&&_}
 use mathlib.Core.List.{List, [], _∷_}
 use mathlib.Core.Path.{_≡_, refl, sym, ap, _∙_}
 use native.Mathlib.Omega.{arith}
@@ -9,7 +9,7 @@ use native.Mathlib.Nat.{le-antisymm}
 use lib.Dec.{leb, ltb, eqb}
 use lib.ListN.{getD}
 use borrow.Author.Tests.{ltb-true, ltb-false, lt-ltb, le-ltb, leb-true, leb-false, lt-leb, eqb-true, eqb-false, ne-eqb}
-use Rattle.lists.specs.Test.{and-left, decide}
+use Rattle.lists.specs.Test.{decide}
 use Rattle.lists.specs.Four.{each}
 use Rattle.model.specs.declared.Header.{Header}
 use Rattle.model.specs.declared.Fault.{Fault}
@@ -18,7 +18,7 @@ use Rattle.model.specs.Faults.{fault, noFault, unless, soundVar, varFault, head
 use Rattle.model.specs.Word.{headerOf, faultOf, goodWord}
 use Rattle.model.specs.Causes.{HeaderReason, many-variables, long, missing-limit, missing-length, spare-bits, large-count, causeTurn, FirstHeaderReason}
 use Rattle.shape_words.specs.Lengths.{Lengths}
-use Rattle.shape_words.specs.Sound.{Sound, word-sound, Fields, fields}
+use Rattle.shape_words.specs.Sound.{word-sound, Fields, fields}
 
 pub not-both : (b : Bool) → b ≡ true → b ≡ false → ⊥
 not-both true e f = let z : _≡_ {A = ℕ} 0 1 = cc in omega (arith, z)

@@ -1,17 +1,17 @@
 -- A header word with nothing wrong (document 02, W5) is one whose header keeps the rules (document 01) and whose spare
 -- bits are zero, and no other.
 use Prim.Native.Nat.{ℕ, _%_, _^_, _≤_, _<_}
-use mathlib.Core.Bool.{Bool, true, false, _&&_, cond}
-use mathlib.Core.Path.{_≡_, refl, sym, _∙_}
+use mathlib.Core.Bool.{Bool, true, false, _&&_}
+use mathlib.Core.Path.{_≡_, refl, sym}
 use native.Mathlib.Omega.{arith}
 use lib.Dec.{leb, ltb, eqb}
-use borrow.Author.Tests.{ltb-true, ltb-false, lt-ltb, le-ltb, leb-true, le-leb, eqb-true, eq-eqb}
+use borrow.Author.Tests.{ltb-true, ltb-false, leb-true, le-leb, eqb-true, eq-eqb}
 use Rattle.lists.specs.Test.{and-left, and-right, decide}
 use Rattle.lists.specs.Four.{each}
 use Rattle.model.specs.declared.Header.{Header}
 use Rattle.model.specs.declared.Fault.{Fault}
 use Rattle.model.specs.Header.{limit, len, stored, goodHeader}
-use Rattle.model.specs.Faults.{isSound, unless, soundVar, varFault, headerFault}
+use Rattle.model.specs.Faults.{unless, soundVar, varFault, headerFault}
 use Rattle.model.specs.Word.{headerOf, faultOf, goodWord}
 use Rattle.shape_words.specs.Rules.{GoodVar, Ruled, header-good, header-ruled, header-most}
 

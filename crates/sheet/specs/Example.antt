@@ -65,7 +65,8 @@ unfolding exampleSheet exampleOutput sheetOutput lastValue sheetRefusal readRefu
     doneText decimal digits hexLines hexLine wordAt isLine digitFor digitOf isDigit runRefusal lentRefusal stepValues
     values stepValue operations inputValues checkRefusal stepsRefusal inputsRefusal stepRefusal formed rightSizes
     orElse largest total announcedSteps announcedPlaces announcedStep families rows stepOf shiftDownPoly rowSum
-    rowsFrom announced paired single inside index offset strides wordOf fields goodWord faultOf headerFault soundVar headerOf span walk table every chain ofBits toBits neg add sub mul div eq ofInt
+    rowsFrom announced paired single inside index offset strides wordOf fields goodWord faultOf headerFault soundVar
+    headerOf span walk table every chain ofBits toBits neg add sub mul div eq ofInt
 example-holds = refl
 
 -- one byte more, or none at all
@@ -75,7 +76,8 @@ unfolding exampleSheet refusedOutput sheetOutput lastValue sheetRefusal readRefu
     doneText decimal digits hexLines hexLine wordAt isLine digitFor digitOf isDigit runRefusal lentRefusal stepValues
     values stepValue operations inputValues checkRefusal stepsRefusal inputsRefusal stepRefusal formed rightSizes
     orElse largest total announcedSteps announcedPlaces announcedStep families rows stepOf shiftDownPoly rowSum
-    rowsFrom announced paired single inside index offset strides wordOf fields goodWord faultOf headerFault soundVar headerOf span walk table every chain ofBits toBits neg add sub mul div eq ofInt
+    rowsFrom announced paired single inside index offset strides wordOf fields goodWord faultOf headerFault soundVar
+    headerOf span walk table every chain ofBits toBits neg add sub mul div eq ofInt
 byte-behind = refl
 
 pub nothing-there : sheetOutput [] ≡ refusedOutput

@@ -91,8 +91,10 @@ good-at : (t : List ℕ) (n i : ℕ) → headersRefusal t n i .number ≡ 0 → 
 unfolding headersRefusal
 good-at t zero i e j l = absurd (omega arith)
 good-at t (suc n) i e j l =
-    let a = ask-none (lined t (1 + i)) 64 (askFor (goodWord (headerOn t i)) (badWord (headerOn t i) i) (headersRefusal t n (suc i))) (λ z. omega (arith, z)) e in
-    let b = ask-for-none (goodWord (headerOn t i)) (badWord (headerOn t i) i) (headersRefusal t n (suc i)) (λ z. omega (arith, z)) (a .1) in
+    let next : Refusal = headersRefusal t n (suc i) in
+    let bad : Refusal = badWord (headerOn t i) i in
+    let a = ask-none (lined t (1 + i)) 64 (askFor (goodWord (headerOn t i)) bad next) (λ z. omega (arith, z)) e in
+    let b = ask-for-none (goodWord (headerOn t i)) bad next (λ z. omega (arith, z)) (a .1) in
     decide (eqb j 0)
     (λ y. let q : i + j ≡ i = omega (arith, eqb-true j 0 y) in rw q (b .0))
     (λ y.
