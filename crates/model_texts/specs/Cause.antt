@@ -1,13 +1,13 @@
 -- REFERENCE 9. Document 02, W5: what a person reads of an input whose header word is refused: which input, which
 -- variable, what is wrong and what to do about it. Inputs and variables count from 0, as everywhere.
-use Prim.Native.Nat.{ℕ}
+use Prim.Native.Nat.{ℕ, _%_}
 use Prim.Native.String.{String}
 use mathlib.Core.Bool.{Bool, _||_}
 use mathlib.Core.List.{List, [], _∷_, _++_}
 use lib.Dec.{eqb}
 use lib.ListN.{getD}
 use Rattle.lists.specs.Bytes.{bytes}
-use Rattle.model_texts.specs.Printed.{lastDigit}
+use Rattle.model_texts.specs.Printed.{decimal}
 use Rattle.model_texts.specs.Report.{tell, when}
 
 -- by cause: what stands before the variable, or all of it
@@ -35,7 +35,7 @@ causeBacks =
     ∷ []
 
 unfoldable pub causeText : ℕ → ℕ → List ℕ
-causeText v c = bytes (getD causeFronts c "") ++ (when (named c) (lastDigit v ∷ []) ++ bytes (getD causeBacks c ""))
+causeText v c = bytes (getD causeFronts c "") ++ (when (named c) (decimal (v % 10)) ++ bytes (getD causeBacks c ""))
 
 -- the input p
 unfoldable pub faultText : ℕ → ℕ → ℕ → List ℕ

@@ -19,7 +19,7 @@ use Rattle.model_recipes.specs.Check.{orElse, rightSizes, stepRefusal, inputsRe
 use Rattle.model_recipes.specs.Reasons.{WrongSizes, many-inputs, no-step, many-places}
 use Rattle.recipes_check.specs.Asks.{or-first, or-next, by-refusal}
 use Rattle.recipes_check.specs.Judged.{Sizes, sizes}
-use Rattle.recipes_laws.specs.Formed.{not-both}
+use Rattle.shape_words.specs.Faults.{not-both}
 
 -- ---- the inputs, the first at the place p
 

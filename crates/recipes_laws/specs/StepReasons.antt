@@ -17,7 +17,8 @@ use Rattle.model_recipes.specs.Steps.{stepOf}
 use Rattle.model_recipes.specs.Recipe.{headAt, announcedStep}
 use Rattle.model_recipes.specs.Check.{askAt, formed, lowers, stepRefusal}
 use Rattle.model_recipes.specs.Reasons.{WrongWord, Shifts, StepReason, wrong-word, no-variable, large-n, large-count}
-use Rattle.recipes_laws.specs.Formed.{not-both, formed-right, formed-wrong}
+use Rattle.recipes_laws.specs.Formed.{formed-right, formed-wrong}
+use Rattle.shape_words.specs.Faults.{not-both}
 
 -- a test of the shifts alone
 shift-wrong : {W : Type 0} (w x y : ℕ) → cond (lowers (stepOf w)) (ltb x y) true ≡ false → (Shifts w → y ≤ x → W) → W

@@ -1,10 +1,11 @@
 // What a person reads of an input whose header word is refused (document 02, W5): which variable is wrong, and why.
 use report_lines::put::put;
+use report_lines::put::put_number;
 use report_lines::put::tell;
-ghost use mathlib.Core.List.{[], _∷_};
+ghost use Prim.Native.Nat.{_%_};
 ghost use lib.ListN.{getD};
 ghost use Rattle.lists.specs.Bytes.{bytes};
-ghost use Rattle.model_texts.specs.Printed.{lastDigit};
+ghost use Rattle.model_texts.specs.Printed.{decimal};
 ghost use Rattle.model_texts.specs.Report.{when};
 ghost use Rattle.model_texts.specs.Cause.{causeFronts, named, causeBacks, causeText, faultText};
 ghost use Rattle.report_lines.specs.Puts.{Puts};
@@ -33,11 +34,10 @@ fn put_front(cause: u8, at: usize, to: &mut [u8]) -> usize
 
 // The variable, where the cause names one.
 fn put_named(variable: u8, cause: u8, at: usize, to: &mut [u8]) -> usize
-    ensures { λ r. ⌜ Puts (when (named cause) (lastDigit variable ∷ [])) at (now (to .entry)) (now (to .exit)) r ⌝ }
+    ensures { λ r. ⌜ Puts (when (named cause) (decimal (variable % 10))) at (now (to .entry)) (now (to .exit)) r ⌝ }
 {
     if (cause == 2) | (cause == 3) {
-        let digit = [48 + variable % 10];
-        return put(&digit, at, to);
+        return put_number((variable % 10) as usize, at, to);
     }
     at
 }

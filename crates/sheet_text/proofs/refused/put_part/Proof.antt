@@ -14,4 +14,4 @@ returns : tie.Need-returns
 returns c = part-made _ _ (c .before .before .before .before .before .before .put-decimal .ensures) (c .before .before .put-byte .ensures) (omega arith)
 
 pub put-part-spec : {M : Type 1} → statement M
-put-part-spec = tie.close (tie.spec (λ c. search needs) put-decimal-requires put-byte-requires (λ c. search needs) returns)
+put-part-spec = tie.close (tie.spec put-decimal-requires put-byte-requires (λ c. search needs) returns)

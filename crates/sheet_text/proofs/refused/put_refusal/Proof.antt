@@ -35,8 +35,10 @@ put-part-requires-4 c κs =
     let e = c3 .put-part3 .ensures in
     let d = c7 .put-part2 .ensures in
     let b = c11 .put-part .ensures in
-    let a = c11 .before .before .before .before .put-bytes .ensures in
-    omega (arith, put-len a, a .behind, put-len (b .put), b .short, put-len (d .put), d .short, put-len (e .put), e .short)
+    let c15 = c11 .before .before .before .before in
+    let a = c15 .put-bytes .ensures in
+    let start = c15 .before .before .before .before in
+    omega (arith, start .pre, put-len a, a .behind, put-len (b .put), b .short, put-len (d .put), d .short, put-len (e .put), e .short)
 
 returns : tie.Need-returns
 unfolding refusedText
