@@ -11,6 +11,7 @@ ghost use Rattle.model_texts.specs.Printed.{refusedText};
 ghost use Rattle.model_texts.specs.Report.{when, tell};
 ghost use Rattle.model_texts.specs.Sentence.{placeMeanings, sheetMeanings, meaning, refusalReport};
 ghost use Rattle.report_lines.specs.Puts.{Puts};
+ghost use Rattle.report.specs.Said.{saidText};
 
 // The line that `recipe` prints.
 fn put_refused(r: Refusal, at: usize, to: &mut [u8]) -> usize
@@ -95,15 +96,22 @@ fn put_where(placed: bool, place: usize, at: usize, to: &mut [u8]) -> usize
     at
 }
 
+// One sentence: of a header word its fault, else which place and what the number means.
+fn put_said(r: Refusal, at: usize, to: &mut [u8]) -> usize
+    ensures { λ n. ⌜ Puts (saidText r) at (now (to .entry)) (now (to .exit)) n ⌝ }
+{
+    let placed = r.place < 64;
+    if r.number == 1 {
+        return put_fault(r.place as usize, r.variable, r.cause, at, to);
+    }
+    let next = put_where(placed, r.place as usize, at, to);
+    put_meaning(placed, r.number, next, to)
+}
+
 // The line that `recipe` prints, then one sentence.
 pub fn put_refusal_report(r: Refusal, at: usize, to: &mut [u8]) -> usize
     ensures { λ n. ⌜ Puts (refusalReport r) at (now (to .entry)) (now (to .exit)) n ⌝ }
 {
-    let placed = r.place < 64;
-    let a = put_refused(r, at, to);
-    if r.number == 1 {
-        return put_fault(r.place as usize, r.variable, r.cause, a, to);
-    }
-    let b = put_where(placed, r.place as usize, a, to);
-    put_meaning(placed, r.number, b, to)
+    let next = put_refused(r, at, to);
+    put_said(r, next, to)
 }

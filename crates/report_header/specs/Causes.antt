@@ -1,15 +1,15 @@
 -- The sentences of faults: which causes have one, how long they are, and that they keep to 80 columns.
 use Prim.Native.Nat.{ℕ, zero, suc, _+_, _%_, _≤_}
-use mathlib.Core.Bool.{true}
+use mathlib.Core.Bool.{true, false}
 use mathlib.Core.List.{List, [], _∷_, _++_}
 use mathlib.Core.Path.{_≡_, refl}
 use native.Mathlib.Omega.{arith}
 use lib.ListN.{length, getD, length-append}
-use borrow.Author.Tests.{leb-true}
+use borrow.Author.Tests.{leb-true, ne-eqb}
 use Rattle.lists.specs.Bytes.{bytes}
 use Rattle.model_texts.specs.Printed.{decimal}
 use Rattle.model_texts.specs.Report.{tell}
-use Rattle.model_texts.specs.Cause.{causeFronts, causeBacks, causeText, faultText}
+use Rattle.model_texts.specs.Cause.{causeFronts, named, causeBacks, causeText, faultText}
 use Rattle.report_lines.specs.Columns.{inColumns, columnAfter, columns-append, columns-earlier, Piece, piece, piece-then, piece-columns}
 use Rattle.report_lines.specs.Columns.{number-piece, one-digit}
 
@@ -37,7 +37,7 @@ digit-piece : (v : ℕ) → Piece 1 (decimal (v % 10))
 digit-piece v = one-digit (v % 10) (omega arith)
 
 -- a variable between two texts, from column 28 on: the first of them has n bytes
-around : (n : ℕ) (s t : List ℕ) (v : ℕ) → Piece n s → n ≤ 23 → inColumns 52 t ≡ true → inColumns 28 (s ++ (decimal (v % 10) ++ t)) ≡ true
+around : (n : ℕ) (s t : List ℕ) (v : ℕ) → Piece n s → n ≤ 23 → inColumns (29 + n) t ≡ true → inColumns 28 (s ++ (decimal (v % 10) ++ t)) ≡ true
 around n s t v p few q =
     let d = digit-piece v in
     let x = piece-columns s 28 (p .plain) (omega (arith, p .most)) in
@@ -45,7 +45,19 @@ around n s t v p few q =
     columns-append 28 s (decimal (v % 10) ++ t) (x .0)
     (rw (x .1)
     (columns-append (28 + length s) (decimal (v % 10)) t (y .0)
-    (columns-earlier t (columnAfter (28 + length s) (decimal (v % 10))) 52 (omega (arith, y .1, p .most, d .most)) q)))
+    (columns-earlier t (columnAfter (28 + length s) (decimal (v % 10))) (29 + n) (omega (arith, y .1, p .most, d .most)) q)))
+
+-- any other cause has no sentence
+none-named : (c : ℕ) → named (suc (suc (suc (suc (suc (suc c)))))) ≡ false
+none-named c =
+    simp (
+      ne-eqb (suc (suc (suc (suc (suc (suc c)))))) 2 (λ e. omega (arith, e)),
+      ne-eqb (suc (suc (suc (suc (suc (suc c)))))) 3 (λ e. omega (arith, e)),
+    )
+
+none-told : (v c : ℕ) → causeText v (suc (suc (suc (suc (suc (suc c)))))) ≡ []
+unfolding causeText causeFronts causeBacks bytes
+none-told v c = rw (none-named c)
 
 cause-columns : (v c : ℕ) → inColumns 28 (causeText v c) ≡ true
 unfolding causeText causeFronts causeBacks bytes inColumns columnAfter
@@ -59,7 +71,7 @@ cause-columns v (suc (suc (suc zero))) =
     (piece 9 (bytes "variable ") refl) (omega arith) refl
 cause-columns v (suc (suc (suc (suc zero)))) = refl
 cause-columns v (suc (suc (suc (suc (suc zero))))) = refl
-cause-columns v (suc (suc (suc (suc (suc (suc c)))))) = refl
+cause-columns v (suc (suc (suc (suc (suc (suc c)))))) = rw (none-told v c) refl
 
 between : (s t : List ℕ) (v : ℕ) → length s + length t ≤ 109 → length (s ++ (decimal (v % 10) ++ t)) ≤ 110
 between s t v h = omega (arith, length-append s (decimal (v % 10) ++ t), length-append (decimal (v % 10)) t, digit-piece v .most)
@@ -74,7 +86,7 @@ cause-length v (suc (suc (suc zero))) =
     between (bytes "variable ") (bytes " is missing, but its fields are not zero;\nclear them, or count it among the variables.\n") v (leb-true _ _ refl)
 cause-length v (suc (suc (suc (suc zero)))) = leb-true _ _ refl
 cause-length v (suc (suc (suc (suc (suc zero))))) = leb-true _ _ refl
-cause-length v (suc (suc (suc (suc (suc (suc c)))))) = leb-true _ _ refl
+cause-length v (suc (suc (suc (suc (suc (suc c)))))) = rw (none-told v c) (omega arith)
 
 front-piece : (p : ℕ) → Piece 26 (tell "Input " p)
 unfolding bytes
@@ -102,8 +114,8 @@ fault-columns p v c =
     let s : List ℕ = tell "Input " p in
     let a = front-piece p in
     let x = piece-columns s 0 (a .plain) (omega (arith, a .most)) in
-    let y = piece-columns (bytes ": ") (length s) (colon-piece .plain) (omega (arith, a .most, colon-piece .most)) in
+    let y = piece-columns (bytes ": ") (0 + length s) (colon-piece .plain) (omega (arith, a .most, colon-piece .most)) in
     columns-append 0 s (bytes ": " ++ causeText v c) (x .0)
     (rw (x .1)
-    (columns-append (length s) (bytes ": ") (causeText v c) (y .0)
-    (columns-earlier (causeText v c) (columnAfter (length s) (bytes ": ")) 28 (omega (arith, y .1, a .most, colon-piece .most)) (cause-columns v c))))
+    (columns-append (0 + length s) (bytes ": ") (causeText v c) (y .0)
+    (columns-earlier (causeText v c) (columnAfter (0 + length s) (bytes ": ")) 28 (omega (arith, y .1, a .most, colon-piece .most)) (cause-columns v c))))

@@ -4,7 +4,7 @@ use Rattle.report_header.proofs.put_named.Statement.{statement}
 use Rattle.report_header.proofs.put_named.Tie as tie
 
 returns : tie.Need-returns
-returns c = rw (c .before .before .before .before .before .if1 .taken) (c .before .before .put-number .ensures)
+returns c = rw (c .before .before .before .before .if1 .taken) (c .before .before .put-number .ensures)
 
 returns-2 : tie.Need-returns-2
 returns-2 c = rw (c .if1 .left) (puts-none _ _)
