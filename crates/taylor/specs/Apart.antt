@@ -130,8 +130,8 @@ extract-small w a = linear-small (blockOf (held w a)) (readGate w (length a))
 -- ---- the gates refuse by 1 to 6, or by 11
 
 -- a test by a number alone, and one of a header word
-pub by : (b : Bool) (k : ℕ) {next : Refusal} → k ≤ 31 → Few next → Few (ask b k next)
-by b k l = asked-small b (at-small k 64 l (omega arith))
+pub asked : (b : Bool) (k : ℕ) {next : Refusal} → k ≤ 31 → Few next → Few (ask b k next)
+asked b k l = asked-small b (at-small k 64 l (omega arith))
 
 pub by-word : (w : ℕ) {next : Refusal} → Few next → Few (askWord w next)
 by-word w = asked-small (goodWord w) (word-small w 64 (omega arith) (omega arith))
@@ -141,57 +141,57 @@ none = at-small 0 64 (omega arith) (omega arith)
 
 read-few : (w m : ℕ) → Few (readGate w m)
 unfolding readGate
-read-few w m = by-word w (by (full w m) 2 (omega arith) none)
+read-few w m = by-word w (asked (full w m) 2 (omega arith) none)
 
 index-few : (w m : ℕ) (i : List ℕ) → Few (indexGate w m i)
 unfolding indexGate
 index-few w m i =
-    by-word w (by (full w m) 2 (omega arith) (by (noMissing (headerOf w) i) 3 (omega arith) (by (inside (headerOf w .limits) i) 4 (omega arith) none)))
+    by-word w (asked (full w m) 2 (omega arith) (asked (noMissing (headerOf w) i) 3 (omega arith) (asked (inside (headerOf w .limits) i) 4 (omega arith) none)))
 
 tail-few : (w m k : ℕ) (total : Float) → Few (tailGate w m k total)
 unfolding tailGate
 tail-few w m k total =
     by-word w
-    (by (full w m) 2 (omega arith)
-    (by (eqb (headerOf w .vars) 1) 3 (omega arith)
-    (by (ltb k (limit (headerOf w) 0)) 4 (omega arith)
-    (by (goodTotal total) 4 (omega arith) none))))
+    (asked (full w m) 2 (omega arith)
+    (asked (eqb (headerOf w .vars) 1) 3 (omega arith)
+    (asked (ltb k (limit (headerOf w) 0)) 4 (omega arith)
+    (asked (goodTotal total) 4 (omega arith) none))))
 
 least-few : (w : ℕ) (a : List Float) (q : Float) → Few (leastRefusal w a q)
 unfolding leastRefusal
 least-few w a q =
     by-word w
-    (by (full w (length a)) 2 (omega arith)
-    (by (eqb (headerOf w .vars) 1) 3 (omega arith)
-    (by (ltb (leastOf a (len (headerOf w) 0) q) (len (headerOf w) 0)) 11 (omega arith) none)))
+    (asked (full w (length a)) 2 (omega arith)
+    (asked (eqb (headerOf w .vars) 1) 3 (omega arith)
+    (asked (ltb (leastOf a (len (headerOf w) 0) q) (len (headerOf w) 0)) 11 (omega arith) none)))
 
 -- test 5, and 5 and 6, of the announced header
 fits-few : (h : Header) (n : ℕ) → Few (ask (fits h n) 5 noRefusal)
-fits-few h n = by (fits h n) 5 (omega arith) none
+fits-few h n = asked (fits h n) 5 (omega arith) none
 
 room-few : (h : Header) (n s : ℕ) → Few (ask (fits h n) 5 (ask (roomy h s) 6 noRefusal))
-room-few h n s = by (fits h n) 5 (omega arith) (by (roomy h s) 6 (omega arith) none)
+room-few h n s = asked (fits h n) 5 (omega arith) (asked (roomy h s) 6 (omega arith) none)
 
 one-few : (f : Family) (w m n : ℕ) → Few (oneGate f w m n)
 unfolding oneGate
-one-few f w m n = by-word w (by (full w m) 2 (omega arith) (fits-few (announcedOne f w) n))
+one-few f w m n = by-word w (asked (full w m) 2 (omega arith) (fits-few (announcedOne f w) n))
 
 work-few : (f : Family) (w m n s : ℕ) → Few (workGate f w m n s)
 unfolding workGate
-work-few f w m n s = by-word w (by (full w m) 2 (omega arith) (room-few (announcedOne f w) n s))
+work-few f w m n s = by-word w (asked (full w m) 2 (omega arith) (room-few (announcedOne f w) n s))
 
 in-few : (f : Family) (v d w m n : ℕ) → Few (inGate f v d w m n)
 unfolding inGate
 in-few f v d w m n =
     by-word w
-    (by (full w m) 2 (omega arith)
-    (by (ltb v (headerOf w .vars)) 3 (omega arith)
-    (by (ltb d (limit (headerOf w) v)) 4 (omega arith) (fits-few (announcedOne f w) n))))
+    (asked (full w m) 2 (omega arith)
+    (asked (ltb v (headerOf w .vars)) 3 (omega arith)
+    (asked (ltb d (limit (headerOf w) v)) 4 (omega arith) (fits-few (announcedOne f w) n))))
 
 pair-few : (f : Family) (w m u l n s : ℕ) → Few (pairGate f w m u l n s)
 unfolding pairGate
 pair-few f w m u l n s =
-    by-word w (by-word u (by (full w m) 2 (omega arith) (by (full u l) 2 (omega arith) (room-few (announcedPair f w u) n s))))
+    by-word w (by-word u (asked (full w m) 2 (omega arith) (asked (full u l) 2 (omega arith) (room-few (announcedPair f w u) n s))))
 
 by-limits : (vars : ℕ) (l : List ℕ) {next : Refusal} → Few next → Few (askLimits vars l next)
 by-limits vars l = asked-small (goodLimits vars l) (limits-small vars l (omega arith) (omega arith))
@@ -202,13 +202,13 @@ with-few vars l n = by-limits vars l (fits-few (zeroWith vars l) n)
 
 var-with-few : (v vars : ℕ) (l : List ℕ) (n : ℕ) → Few (varWithGate v vars l n)
 unfolding varWithGate
-var-with-few v vars l n = by-limits vars l (by (ltb v vars) 3 (omega arith) (fits-few (varWith v vars l) n))
+var-with-few v vars l n = by-limits vars l (asked (ltb v vars) 3 (omega arith) (fits-few (varWith v vars l) n))
 
 var-few : (v l n : ℕ) → Few (varGate v l n)
 unfolding varGate
 var-few v l n =
     asked-small (goodLimit l) (record { number = omega arith; place = omega arith; variable = omega arith; cause = omega arith })
-    (by (leb v 3) 3 (omega arith) (fits-few (varHeader v l) n))
+    (asked (leb v 3) 3 (omega arith) (fits-few (varHeader v l) n))
 
 -- ---- the entries: each answer is read back from its word
 

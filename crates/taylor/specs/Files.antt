@@ -23,7 +23,7 @@ use Rattle.npy_files.specs.Reads as npy
 use Rattle.npy_files.specs.Writes.{fileLength, writeGate, writeAnswer}
 use Rattle.taylor.specs.Face.{wordOfRefusal, wordOfAnswer, FileRead, wordOfWritten, lengthAfter}
 use Rattle.gates.specs.Small.{at-small}
-use Rattle.taylor.specs.Apart.{Few, by, by-word, none, refusalFrom, refusal-from, answerFrom, back}
+use Rattle.taylor.specs.Apart.{Few, asked, by-word, none, refusalFrom, refusal-from, answerFrom, back}
 
 -- ---- reading
 
@@ -46,7 +46,7 @@ writtenFrom w n = cond (eqb w 0) (written.Done n) (written.Refused (refusalFrom 
 
 gate-few : (w m n : ℕ) → Few (writeGate w m n)
 unfolding writeGate
-gate-few w m n = by-word w (by (full w m) 2 (omega arith) (by (leb (fileLength w) n) 5 (omega arith) none))
+gate-few w m n = by-word w (asked (full w m) 2 (omega arith) (asked (leb (fileLength w) n) 5 (omega arith) none))
 
 pub written-back : (w : ℕ) (a : List Float) (file : List ℕ) (n : ℕ)
     → writtenFrom (wordOfWritten (writeAnswer w a file)) (lengthAfter (writeAnswer w a file) n) ≡ writeAnswer w a file
