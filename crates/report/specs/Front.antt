@@ -1,20 +1,23 @@
 -- The first 1,115,218 bytes of a sheet decide what `limits` prints, as they decide what `recipe` prints. A text that is
 -- longer is refused while it is read, and the refusal can be read off the line that `recipe` prints for it.
 use Prim.Native.Nat.{ℕ, zero, suc, _+_, _*_, _≤_, _<_}
-use mathlib.Core.Bool.{Bool, true, false}
+use mathlib.Core.Bool.{Bool, true, false, _&&_}
 use mathlib.Core.List.{List, _∷_, _++_}
 use mathlib.Core.Path.{_≡_, refl, sym, ap, _∙_}
 use native.Mathlib.Omega.{arith}
 use lib.Dec.{leb}
 use lib.ListN.{length, take, drop, length-take}
 use lib.Seq.{take-all}
+use lib.Ieee.{Float}
 use borrow.Author.Tests.{leb-true, leb-false}
 use Rattle.lists.specs.Every.{every}
+use Rattle.lists.specs.Table.{table}
 use Rattle.lists.specs.Test.{decide, of-both}
 use Rattle.model.specs.declared.Refusal.{Refusal}
 use Rattle.model.specs.Word.{goodWord}
-use Rattle.model.specs.Refusals.{noRefusal, isNone}
-use Rattle.model_recipes.specs.Check.{askAt, orElse}
+use Rattle.model.specs.Refusals.{noRefusal, isNone, zeros}
+use Rattle.model_recipes.specs.Recipe.{inputHeads, announcedPlaces, announcedSteps, total, largest}
+use Rattle.model_recipes.specs.Check.{askAt, orElse, checkRefusal}
 use Rattle.model_texts.specs.Printed.{decimal, newline, refusedText}
 use Rattle.model_texts.specs.Sentence.{refusalReport}
 use Rattle.model_texts.specs.Sheet.{lined, wordOn, inputCount, restCount, headersRefusal, readRefusal, sheetHeaders, sheetCoefficients, sheetSteps}
@@ -26,7 +29,7 @@ use Rattle.recipes_check.specs.Asks.{or-none, ask-none}
 use Rattle.sheet_text.specs.Value.{numberAt, behindNumber, decimal-number, decimal-behind}
 use Rattle.sheet_reading.specs.Reading.{sizesTest, restRefusal, after-sizes, count-small}
 use Rattle.sheet.specs.Opened.{opened, opened-few}
-use Rattle.sheet.specs.Ended.{read-refused, output-read}
+use Rattle.sheet.specs.Ended.{ranRefusal, read-refused, output-read}
 use Rattle.sheet.specs.Front.{readAtMost, sheet-front}
 use Rattle.report.specs.Tells.{told-refused}
 
@@ -73,6 +76,23 @@ or-small : {r next : Refusal} → Small 8 512 r → Small 8 512 next → Small 8
 unfolding orElse
 or-small {r} s n = of-both (Small 8 512) (isNone r) n s
 
+-- the check, the program's own limits, and the run
+own-small : (hs ss : List ℕ) → Small 8 512 (ownRefusal hs ss)
+unfolding ownRefusal
+own-small hs ss =
+    ask-small ((leb (largest (announcedPlaces hs ss)) 256 && leb (total (inputHeads hs)) 2048) && leb (total (announcedSteps hs ss)) 2048) 5 64
+    (omega arith) (omega arith) none-small
+
+recipe-small : (hs : List ℕ) (cs : List Float) (ss : List ℕ) → Small 8 512 (recipeRefusal hs cs ss)
+unfolding recipeRefusal
+recipe-small hs cs ss =
+    or-small {r = checkRefusal hs ss} {next = orElse (ownRefusal hs ss) (ranRefusal hs cs ss)}
+    (small-up (check-small hs ss) (omega arith) (omega arith))
+    (or-small {r = ownRefusal hs ss} {next = ranRefusal hs cs ss} (own-small hs ss)
+    (small-up
+    (run-small hs cs ss (zeros (total (announcedSteps hs ss))) (table (length ss) (λ k. 0)) (zeros (8 * largest (announcedSteps hs ss))))
+    (omega arith) (omega arith)))
+
 module _ (t : List ℕ) where
   headers-small : (n i : ℕ) → i + n ≤ 512 → Small 8 512 (headersRefusal t n i)
   unfolding headersRefusal
@@ -91,12 +111,8 @@ module _ (t : List ℕ) where
       (ask-small (leb (length t) (17 * (1 + inputCount t + restCount t))) 8 64 (omega arith) (omega arith) none-small))))
 
   pub refusal-small : Small 8 512 (sheetRefusal t)
-  unfolding sheetRefusal recipeRefusal ownRefusal
-  refusal-small =
-      or-small read-small
-      (or-small (small-up (check-small (sheetHeaders t) (sheetSteps t)) (omega arith) (omega arith))
-      (or-small (ask-small _ 5 64 (omega arith) (omega arith) none-small)
-      (small-up (run-small (sheetHeaders t) (sheetCoefficients t) (sheetSteps t) _ _ _) (omega arith) (omega arith))))
+  unfolding sheetRefusal
+  refusal-small = or-small read-small (recipe-small (sheetHeaders t) (sheetCoefficients t) (sheetSteps t))
 
   -- what is read without a refusal is at most 65,601 lines long
   read-length : readRefusal t .number ≡ 0 → length t < readAtMost

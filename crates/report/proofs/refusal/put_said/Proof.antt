@@ -6,15 +6,15 @@ use Rattle.report.proofs.refusal.put_said.Tie as tie
 
 returns : tie.Need-returns
 returns c =
-    let c4 = c .before .before .before .before in
-    rw (eq-eqb _ _ (c4 .if1 .taken)) (c .before .before .put-fault .ensures)
+    let c5 = c .before .before .before .before .before in
+    rw (eq-eqb _ _ (c5 .if1 .taken)) (c .before .before .put-fault .ensures)
 
 returns-2 : tie.Need-returns-2
 returns-2 c =
     let c2 = c .before .before in
     let c6 = c2 .before .before .before .before in
-    let c8 = c6 .before .before in
-    rw (ne-eqb _ _ (c8 .if1 .left)) (puts-then (c6 .put-where .ensures) (c2 .put-meaning .ensures))
+    let c9 = c6 .before .before .before in
+    rw (ne-eqb _ _ (c9 .if1 .left)) (puts-then (c6 .put-where .ensures) (c2 .put-meaning .ensures))
 
 pub put-said-spec : {M : Type 1} → statement M
 put-said-spec =
