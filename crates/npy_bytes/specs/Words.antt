@@ -5,12 +5,14 @@ use mathlib.Core.Bool.{Bool, true, false, _&&_}
 use mathlib.Core.Path.{_≡_, refl, sym, ap, _∙_}
 use native.Mathlib.Omega.{arith}
 use native.Mathlib.Numerals.{add-one}
-use native.Mathlib.Nat.{add-zero}
+use native.Mathlib.Nat.{mul-comm}
 use lib.Dec.{leb, eqb}
 use lib.ListN.{length, getD, take, drop, set, length-append, drop-of-length-le}
 use lib.Seq.{drop-cons, take-suc, take-all, length-take-le}
 use lib.Ieee.{Float, nan, toBits, binary64}
-use lib.Pow.{shr-shr}
+use lib.Arith.{digits-lt}
+use lib.Bits.{bitOr, or-shifted-r}
+use lib.Pow.{shr-shr, shl-exact, pow-add}
 use borrow.Author.Tests.{eq-eqb, ne-eqb}
 use Rattle.lists.specs.Table.{table}
 use Rattle.npy_files.specs.Frame.{byteAt, little, startsWith}
@@ -44,6 +46,15 @@ module _ (w t : List ℕ) where
   starts-end k l e = sym (e ∙ rw (drop-of-length-le w l))
 
 -- ---- numbers
+
+-- a byte above k bits
+pub joined-is : (low b k : ℕ) → low < 2 ^ k → b ≤ 255 → k ≤ 56
+    → (bitOr low (b * 2 ^ k % 2 ^ 64) ≡ b * 2 ^ k + low) × (bitOr low (b * 2 ^ k % 2 ^ 64) < 2 ^ (k + 8))
+joined-is low b k h l m =
+    let e : b * 2 ^ k % 2 ^ 64 ≡ b * 2 ^ k = shl-exact {a = b} 8 k 64 (omega arith) (omega arith) in
+    let f : bitOr low (b * 2 ^ k % 2 ^ 64) ≡ b * 2 ^ k + low = rw e (or-shifted-r b k low h) in
+    let g : 2 ^ (k + 8) ≡ 256 * 2 ^ k = pow-add 2 k 8 ∙ mul-comm (2 ^ k) 256 in
+    (f, rw (f, g) (digits-lt (omega arith) h))
 
 pub little-two : (t : List ℕ) (p : ℕ) {a b : ℕ} → a ≡ byteAt t p → b ≡ byteAt t (p + 1) → a + 256 * b ≡ little 2 t p
 unfolding little
