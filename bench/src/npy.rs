@@ -52,11 +52,18 @@ fn main() {
     let write = time(|| {
         taylor::npy_write(HEADER, black_box(&values), black_box(&mut file)).expect("written");
     });
+    // one NaN, and every word is tested
+    let mut marked = values.clone();
+    marked[COUNT - 1] = f64::NAN;
+    taylor::npy_write(HEADER, &marked, &mut file).expect("written");
+    let judged = time(|| {
+        taylor::npy_read(black_box(&file), black_box(&mut out)).expect("read");
+    });
     let bound = 4.0 * copy + 1.0;
     println!("| 4,096 values | us | of 4 copies and 1 us |");
     println!("|---|---|---|");
     println!("| a memory copy | {copy:.3} | |");
-    for (name, us) in [("npy_read", read), ("npy_write", write)] {
+    for (name, us) in [("npy_read", read), ("npy_read, a NaN in it", judged), ("npy_write", write)] {
         println!("| {name} | {us:.3} | {:.2} |", us / bound);
     }
 }
