@@ -1,14 +1,14 @@
 -- Words whose exponent is not all ones: no NaN and no infinity is among them.
 use Prim.Native.Nat.{ℕ, zero, suc, _+_, _-_, _*_, _%_, _^_, _≤_, _<_}
 use mathlib.Core.List.{List}
-use mathlib.Core.Bool.{Bool, true, false, not}
+use mathlib.Core.Bool.{Bool, true, false, not, true≢false}
 use mathlib.Core.Path.{_≡_, refl, sym, ap, _∙_}
 use native.Mathlib.Omega.{arith}
 use lib.Bits.{bitOr, bitAnd, or-add-and, and-le-l, and-le-r}
 use lib.Dec.{T, ltb, eqb}
-use lib.Ieee.{binary64, nanBits}
-use lib.Ieee.Bits.{nanBits-above}
-use borrow.Author.Tests.{le-ltb, ltb-true, ltb-false, eqb-true, eqb-false}
+use lib.Ieee.{Float, nan, inf, fin, binary32, binary64, nanBits, isNan, ofBits}
+use lib.Ieee.Bits.{nanBits-above, nanBits-is}
+use borrow.Author.Tests.{le-ltb, lt-ltb, ltb-true, ltb-false, eqb-true, eqb-false}
 use Rattle.lists.specs.Test.{decide}
 use Rattle.npy_files.specs.Frame.{little}
 
@@ -46,3 +46,22 @@ plain-all t p s l m h j i = s h j (omega arith)
 
 pub plain-word : (t : List ℕ) (p : ℕ) {w n k : ℕ} → Plain t p n → w ≡ little 8 t (p + 8 * k) → k < n → T (not (nanBits binary64 w))
 plain-word t p {w} {n} {k} f e l = plain-no-nan w (rw e (f k l))
+
+-- ---- the words of f32s
+
+only-nan : (x : Float) → isNan x ≡ true → nan ≡ x
+unfolding isNan
+only-nan nan h = refl
+only-nan (inf s) h = absurd (true≢false (sym h))
+only-nan (fin s m e) h = absurd (true≢false (sym h))
+
+module _ (w : ℕ) where
+  pub four-nan : 2139095040 < w % 2147483648 → nan ≡ ofBits binary32 w
+  four-nan h = only-nan (ofBits binary32 w) (sym (nanBits-is binary32 w) ∙ (nanBits-above binary32 w ∙ lt-ltb 2139095040 (w % 2147483648) h))
+
+  module _ (h : w % 2147483648 ≤ 2139095040) where
+    pub four-word : nanBits binary32 w ≡ false
+    four-word = nanBits-above binary32 w ∙ le-ltb 2139095040 (w % 2147483648) h
+
+    pub four-value : isNan (ofBits binary32 w) ≡ false
+    four-value = sym (nanBits-is binary32 w) ∙ four-word

@@ -60,6 +60,15 @@ pub little-two : (t : List ℕ) (p : ℕ) {a b : ℕ} → a ≡ byteAt t p → b
 unfolding little
 little-two t p e f = let k : p + 1 ≡ suc p = omega arith in omega (arith, e, f ∙ ap (byteAt t) k)
 
+pub little-four : (t : List ℕ) (p : ℕ) {a b c d : ℕ} → a ≡ byteAt t p → b ≡ byteAt t (p + 1) → c ≡ byteAt t (p + 2) → d ≡ byteAt t (p + 3)
+    → a + 256 * b + 65536 * c + 16777216 * d ≡ little 4 t p
+unfolding little
+little-four t p ea eb ec ed =
+    let k1 : p + 1 ≡ suc p = omega arith in
+    let k2 : p + 2 ≡ suc (suc p) = omega arith in
+    let k3 : p + 3 ≡ suc (suc (suc p)) = omega arith in
+    omega (arith, ea, eb ∙ ap (byteAt t) k1, ec ∙ ap (byteAt t) k2, ed ∙ ap (byteAt t) k3)
+
 module _ (t : List ℕ) (p : ℕ) {a b c d e f g h : ℕ} (ea : a ≡ byteAt t p) (eb : b ≡ byteAt t (p + 1)) (ec : c ≡ byteAt t (p + 2)) (ed : d ≡ byteAt t (p + 3))
     (ee : e ≡ byteAt t (p + 4)) (ef : f ≡ byteAt t (p + 5)) (eg : g ≡ byteAt t (p + 6)) (eh : h ≡ byteAt t (p + 7)) where
   pub little-eight : a + 256 * b + 65536 * c + 16777216 * d + 4294967296 * e + 1099511627776 * f + 281474976710656 * g + 72057594037927936 * h ≡ little 8 t p

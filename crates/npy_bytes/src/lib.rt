@@ -6,7 +6,8 @@ ghost use mathlib.Core.Path.{_≡_};
 ghost use Prim.Native.Nat.{_+_, _*_, _^_, _≤_, _<_};
 ghost use lib.ListN.{length};
 ghost use Rattle.lists.specs.Table.{table};
-ghost use Rattle.npy_grammar.specs.Text.{eight};
+ghost use lib.Ieee.{ofBits, binary32};
+ghost use Rattle.npy_grammar.specs.Text.{eight, four};
 ghost use Rattle.npy_files.specs.Frame.{little, startsWith};
 ghost use Rattle.npy_files.specs.Values.{valueAt};
 ghost use Rattle.npy_files.specs.Writes.{lowBytes, dataOut};
@@ -53,9 +54,19 @@ fn joined(low: u64, b: u8, k: u64) -> u64
     low | (wide(b) << k)
 }
 
+// The number in four bytes.
+pub fn little_4(file: &[u8], at: usize) -> u64
+    requires { ⌜ at + 4 ≤ length (now file) ⌝ }
+    ensures { λ r. ⌜ (r ≡ little 4 (now (file .entry)) at) × (r < 4294967296) ⌝ }
+{
+    let b = joined(wide(file[at]), file[at + 1], 8);
+    let c = joined(b, file[at + 2], 16);
+    joined(c, file[at + 3], 24)
+}
+
 // The word in eight bytes. The bytes are joined one by one: the compiler makes one load of that, and vectors of loops
 // over it.
-fn little_8(file: &[u8], at: usize) -> u64
+pub fn little_8(file: &[u8], at: usize) -> u64
     requires { ⌜ at + 8 ≤ length (now file) ⌝ }
     ensures { λ r. ⌜ r ≡ little 8 (now (file .entry)) at ⌝ }
 {
@@ -117,6 +128,30 @@ pub fn fill(file: &[u8], at: usize, out: &mut [f64])
         take_words(file, at, out);
     } else {
         judge_words(file, at, out);
+    }
+}
+
+// The float that an f32's word means. A NaN's pattern becomes a NaN.
+pub fn float_of_4(word: u64) -> f64
+    requires { ⌜ word < 4294967296 ⌝ }
+    ensures { λ r. ⌜ r ≡ ofBits binary32 word ⌝ }
+{
+    if 2139095040 < word % 2147483648 {
+        return 0.0 / 0.0;
+    }
+    f32::from_bits(word as u32) as f64
+}
+
+// The same of f32s.
+pub fn fill_4(file: &[u8], at: usize, out: &mut [f64])
+    requires { ⌜ at + 4 * length (now out) ≤ length (now file) ⌝ }
+    ensures { λ _. ⌜ now (out .exit) ≡ table (length (now (out .entry))) (valueAt four (now (file .entry)) at) ⌝ }
+{
+    let n = out.len();
+    let mut k = 0;
+    while k < n {
+        out[k] = float_of_4(little_4(file, at + 4 * k));
+        k += 1;
     }
 }
 
