@@ -150,14 +150,17 @@ uint64_t settings_save(uint64_t *words, size_t len, uint64_t department, uint64_
 /* the content of the version `kept` as the next one: refusals 18, 3, 13, 14, 15 */
 uint64_t settings_bring_back(uint64_t *words, size_t len, uint64_t department, uint64_t from, uint64_t kept, uint64_t *version);
 
-/* ---- NumPy array files, version 1.0, little-endian f64 in row order */
+/* ---- NumPy array files: versions 1.0 and 2.0, little-endian f64 and f32, row and column order are read */
 
 /* a file's values in row order at the front of out, limits and lengths its shape: refusals 10, 5, 10 in this order */
 uint64_t taylor_npy_read(const uint8_t *file, size_t file_len, double *out, size_t out_len);
 
-/* the file of a polynomial, its shape the stored lengths, 128 + 8 * count bytes: 0, and its length through written;
- * refusals 1, 2, 5 */
+/* the file of a polynomial, version 1.0, its shape the stored lengths, 128 + 8 * count bytes: 0, and its length through
+ * written; refusals 1, 2, 5 */
 uint64_t taylor_npy_write(uint64_t head, const double *a, size_t a_len, uint8_t *file, size_t file_len, uint64_t *written);
+
+/* the same, version 2.0 */
+uint64_t taylor_npy_write_2(uint64_t head, const double *a, size_t a_len, uint8_t *file, size_t file_len, uint64_t *written);
 
 #ifdef __cplusplus
 }

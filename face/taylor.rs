@@ -83,6 +83,7 @@ mod face {
         pub fn settings_bring_back(words: *mut u64, len: usize, department: u64, from: u64, kept: u64, version: *mut u64) -> u64;
         pub fn taylor_npy_read(file: *const u8, file_len: usize, out: *mut f64, out_len: usize) -> u64;
         pub fn taylor_npy_write(head: u64, a: *const f64, a_len: usize, file: *mut u8, file_len: usize, written: *mut u64) -> u64;
+        pub fn taylor_npy_write_2(head: u64, a: *const f64, a_len: usize, file: *mut u8, file_len: usize, written: *mut u64) -> u64;
     }
 }
 
@@ -377,14 +378,21 @@ pub fn settings_bring_back(words: &mut [u64], department: u64, from: u64, kept: 
     if word == 0 { Ok(version) } else { Err(refusal(word)) }
 }
 
-/// A NumPy array file's values at the front of `out`: its header word.
+/// A NumPy array file's values, in row order whatever the file's is, at the front of `out`: its header word.
 pub fn npy_read(file: &[u8], out: &mut [f64]) -> Result<u64, Refusal> {
     answer(unsafe { face::taylor_npy_read(file.as_ptr(), file.len(), out.as_mut_ptr(), out.len()) })
 }
 
-/// The NumPy array file of a polynomial at the front of `file`: how many bytes it has.
+/// The NumPy array file of a polynomial, version 1.0, at the front of `file`: how many bytes it has.
 pub fn npy_write(head: u64, a: &[f64], file: &mut [u8]) -> Result<usize, Refusal> {
     let mut written = 0;
     let word = unsafe { face::taylor_npy_write(head, a.as_ptr(), a.len(), file.as_mut_ptr(), file.len(), &mut written) };
+    if word == 0 { Ok(written as usize) } else { Err(refusal(word)) }
+}
+
+/// The same, version 2.0.
+pub fn npy_write_2(head: u64, a: &[f64], file: &mut [u8]) -> Result<usize, Refusal> {
+    let mut written = 0;
+    let word = unsafe { face::taylor_npy_write_2(head, a.as_ptr(), a.len(), file.as_mut_ptr(), file.len(), &mut written) };
     if word == 0 { Ok(written as usize) } else { Err(refusal(word)) }
 }

@@ -1,8 +1,8 @@
-// Array files of NumPy (document 02, W2): a file to a polynomial, and a polynomial to a file.
+// Array files of NumPy (document 02, W2 and W12): a file to a polynomial, and a polynomial to a file.
 use model::Answer;
 use model::Refusal;
-use npy_bytes::fill;
 use npy_bytes::put_data;
+use npy_columns::fill_as;
 use npy_files::Written;
 use npy_reading::head_of;
 use npy_reading::open_file;
@@ -12,6 +12,7 @@ use shape_words::word::good_header;
 use shape_words::word::header_of;
 use shape_words::word::is_good;
 use shape_words::word::pack;
+ghost use mathlib.Core.Bool.{true, false};
 ghost use mathlib.Core.Path.{_≡_};
 ghost use Rattle.npy_files.specs.Reads.{Reading};
 ghost use Rattle.npy_files.specs.Writes.{writeAnswer, writeFile};
@@ -36,18 +37,20 @@ pub fn read(file: &[u8], out: &mut [f64]) -> Answer
         return Answer::Refused(Refusal::by(5));
     }
     let start = opened.start;
-    if file.len() != start + 8 * count {
+    let width = opened.width;
+    if file.len() != start + width * count {
         return Answer::Refused(Refusal::by(10));
     }
-    fill(file, start, &mut out[..count]);
+    let order = opened.order;
+    fill_as(width, order, file, start, n, &mut out[..count]);
     Answer::Done(pack(head))
 }
 
-// The file of a polynomial, whose shape is the stored lengths, at the front of `file`; answers how many bytes it has.
-// Refusals 1, 2, 5.
-pub fn write(head: u64, a: &[f64], file: &mut [u8]) -> Written
+// The file of a polynomial, whose shape is the stored lengths, at the front of `file`, of version 1.0 or the newer one,
+// 2.0; answers how many bytes it has. Refusals 1, 2, 5.
+pub fn write_as(newer: bool, head: u64, a: &[f64], file: &mut [u8]) -> Written
     ensures answer { λ r. ⌜ r ≡ writeAnswer head (now (a .entry)) (now (file .entry)) ⌝ }
-    ensures written { λ r. ⌜ now (file .exit) ≡ writeFile head (now (a .entry)) (now (file .entry)) ⌝ }
+    ensures written { λ r. ⌜ now (file .exit) ≡ writeFile newer head (now (a .entry)) (now (file .entry)) ⌝ }
 {
     if !is_good(head) {
         return Written::refused(1);
@@ -61,7 +64,23 @@ pub fn write(head: u64, a: &[f64], file: &mut [u8]) -> Written
     if file.len() < 128 + 8 * count {
         return Written::refused(5);
     }
-    let start = put_front(h.vars, n, file);
+    let start = put_front(newer, h.vars, n, file);
     let end = put_data(&a[..count], start, file);
     Written::Done(end)
+}
+
+// Version 1.0.
+pub fn write(head: u64, a: &[f64], file: &mut [u8]) -> Written
+    ensures answer { λ r. ⌜ r ≡ writeAnswer head (now (a .entry)) (now (file .entry)) ⌝ }
+    ensures written { λ r. ⌜ now (file .exit) ≡ writeFile false head (now (a .entry)) (now (file .entry)) ⌝ }
+{
+    write_as(false, head, a, file)
+}
+
+// Version 2.0.
+pub fn write_2(head: u64, a: &[f64], file: &mut [u8]) -> Written
+    ensures answer { λ r. ⌜ r ≡ writeAnswer head (now (a .entry)) (now (file .entry)) ⌝ }
+    ensures written { λ r. ⌜ now (file .exit) ≡ writeFile true head (now (a .entry)) (now (file .entry)) ⌝ }
+{
+    write_as(true, head, a, file)
 }

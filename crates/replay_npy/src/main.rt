@@ -1,8 +1,8 @@
 // Runs stored array files and answers of standard input through `npy_sheets::show` and `npy_sheets::convert`, and
 // prints what each writes. tests/stored_npy says where they and the stored output are from; none is from this code.
 //
-// Before each stands a line of 16 hex digits: 0 for an array file or 1 for an answer in the first eight, and in the
-// others how many bytes follow, at most 65,536.
+// Before each stands a line of 16 hex digits: 0 for an array file, 1 for an answer and 2 for one whose file is to be
+// of version 2.0 in the first eight, and in the others how many bytes follow, at most 65,536.
 // No contract can say what is read or printed; `show` and `convert` say what is printed for bytes.
 use libc::STDIN_FILENO;
 use libc::STDOUT_FILENO;
@@ -23,10 +23,10 @@ fn show(file: &[u8]) {
     io::write_all(STDOUT_FILENO, &output[..n]);
 }
 
-fn convert(text: &[u8]) {
+fn convert(newer: bool, text: &[u8]) {
     let mut values = [0.0f64; 4096];
     let mut output = [0u8; 32896];
-    let n = npy_sheets::convert(text, &mut values, &mut output);
+    let n = npy_sheets::convert(newer, text, &mut values, &mut output);
     io::write_all(STDOUT_FILENO, &output[..n]);
 }
 
@@ -34,7 +34,7 @@ fn either(kind: u64, bytes: &[u8]) {
     if kind == 0 {
         show(bytes);
     } else {
-        convert(bytes);
+        convert(kind == 2, bytes);
     }
 }
 

@@ -9,6 +9,7 @@ use Rattle.taylor.specs.Promises.{SettingsSavePromise, TaylorAddPromise,
 use Rattle.taylor.specs.Promises.{TaylorCoefficientsOfTermPromise, TaylorConstantTermPromise, TaylorDerivativePromise, TaylorDividePromise}
 use Rattle.taylor.specs.Promises.{TaylorEvaluateAllOnePromise, TaylorExpPromise, TaylorExtractLinearPromise, TaylorFromU32Promise}
 use Rattle.taylor.specs.Promises.{TaylorFromU32WithPromise, TaylorLeastPromise, TaylorLogPromise, TaylorMultiplyPromise, TaylorNegatePromise}
+use Rattle.taylor.specs.Promises.{TaylorNpyWrite2Promise}
 use Rattle.taylor.specs.Promises.{TaylorNpyWritePromise, TaylorOnePromise, TaylorPowPromise, TaylorRunPromise, TaylorShiftDownPromise}
 use Rattle.taylor.specs.Promises.{TaylorSubstVarPromise, TaylorSubtractPromise, TaylorTailPromise, TaylorTaylorExpansionOfCoeffPromise}
 use Rattle.taylor.specs.Promises.{TaylorTaylorPolynomialPromise, TaylorVarAtZeroPromise, TaylorVarPromise, TaylorVarWithDegreesP1Promise}
@@ -173,6 +174,11 @@ pub taylor-npy-write-once : (head : ℕ) (a : List Float) (file : List ℕ) (wri
     → TaylorNpyWritePromise head a file written r1 file1 written1 → TaylorNpyWritePromise head a file written r2 file2 written2
     → (r1 ≡ r2) × ((file1 ≡ file2) × (written1 ≡ written2))
 taylor-npy-write-once head a file written p1 p2 = once-3 p1 p2
+
+pub taylor-npy-write-2-once : (head : ℕ) (a : List Float) (file : List ℕ) (written : ℕ) {r1 r2 : ℕ} {file1 file2 : List ℕ} {written1 written2 : ℕ}
+    → TaylorNpyWrite2Promise head a file written r1 file1 written1 → TaylorNpyWrite2Promise head a file written r2 file2 written2
+    → (r1 ≡ r2) × ((file1 ≡ file2) × (written1 ≡ written2))
+taylor-npy-write-2-once head a file written p1 p2 = once-3 p1 p2
 
 pub settings-fresh-once : (words : List ℕ) {r1 r2 : ℕ} {words1 words2 : List ℕ}
     → SettingsFreshPromise words r1 words1 → SettingsFreshPromise words r2 words2

@@ -200,7 +200,13 @@ TaylorRunPromise headers coefficients steps pool words scratch r pool' words' sc
 abbrev pub TaylorNpyWritePromise : ℕ → List Float → List ℕ → ℕ → ℕ → List ℕ → ℕ → Type 0
 TaylorNpyWritePromise head a file written r file' written' =
     (r ≡ wordOfWritten (writeAnswer head a file))
-    × ((file' ≡ writeFile head a file)
+    × ((file' ≡ writeFile false head a file)
+    × (written' ≡ lengthAfter (writeAnswer head a file) written))
+
+abbrev pub TaylorNpyWrite2Promise : ℕ → List Float → List ℕ → ℕ → ℕ → List ℕ → ℕ → Type 0
+TaylorNpyWrite2Promise head a file written r file' written' =
+    (r ≡ wordOfWritten (writeAnswer head a file))
+    × ((file' ≡ writeFile true head a file)
     × (written' ≡ lengthAfter (writeAnswer head a file) written))
 
 abbrev pub SettingsFreshPromise : List ℕ → ℕ → List ℕ → Type 0

@@ -1,10 +1,10 @@
 use mathlib.Core.Path.{sym}
 use lib.Seq.{length-take-le}
 use borrow.Author.Needs.{needs}
-use Rattle.to_npy.proofs.main.Statement.{statement}
-use Rattle.to_npy.proofs.main.Tie as tie
-use Rattle.to_npy.proofs.main.Reads as reads
-use Rattle.to_npy.proofs.main.Lts as lts
+use Rattle.to_npy.proofs.convert.Statement.{statement}
+use Rattle.to_npy.proofs.convert.Tie as tie
+use Rattle.to_npy.proofs.convert.Reads as reads
+use Rattle.to_npy.proofs.convert.Lts as lts
 use Rattle.io.proofs.read_full.Reads as read-full-reads
 use Rattle.io.proofs.write_all.Reads as write-all-reads
 use Rattle.npy_sheets.proofs.convert.Reads as convert-reads
@@ -42,8 +42,8 @@ write-all-requires c κs = search needs
 returns : tie.Need-returns
 returns c = search needs
 
-pub main-spec : {M : Type 1} → statement M
-main-spec =
+pub convert-spec : {M : Type 1} → statement M
+convert-spec =
     tie.close
     (tie.spec
     slice-aggregate-read-full

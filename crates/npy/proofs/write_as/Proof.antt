@@ -14,10 +14,10 @@ use Rattle.sheet_text.specs.Put.{put-len}
 use Rattle.npy.specs.Writing.{write-bad, write-shaped, write-few, write-short, write-done}
 use mathlib.Core.Path.{subst}
 use borrow.Author.Needs.{needs}
-use Rattle.npy.proofs.write.Statement.{statement}
-use Rattle.npy.proofs.write.Tie as tie
-use Rattle.npy.proofs.write.Reads as reads
-use Rattle.npy.proofs.write.Lts as lts
+use Rattle.npy.proofs.write_as.Statement.{statement}
+use Rattle.npy.proofs.write_as.Tie as tie
+use Rattle.npy.proofs.write_as.Reads as reads
+use Rattle.npy.proofs.write_as.Lts as lts
 use Rattle.npy_bytes.proofs.put_data.Reads as put-data-reads
 use Rattle.npy_files.proofs.Written.refused.Reads as refused-reads
 use Rattle.npy_writing.proofs.put_front.Reads as put-front-reads
@@ -34,7 +34,7 @@ refused-requires c κs = search needs
 returns : tie.Need-returns
 returns c =
     let start = c .before .before .before .before .before in
-    write-bad (start .args .head) (start .args .a .now) (start .args .file .now) (c .before .before .is-good .ensures)
+    write-bad (start .args .newer) (start .args .head) (start .args .a .now) (start .args .file .now) (c .before .before .is-good .ensures)
     (not-true _ (c .before .if1 .taken)) (c .refused .ensures)
 
 header-of-requires : tie.Need-header-of-requires
@@ -52,7 +52,7 @@ refused-requires-2 c κs = search needs
 returns-2 : tie.Need-returns-2
 returns-2 c =
     let start = c .before .before .before .before .before .before .before .before .before in
-    write-few (start .args .head) (start .args .a .now) (start .args .file .now)
+    write-few (start .args .newer) (start .args .head) (start .args .a .now) (start .args .file .now)
     (c .before .before .before .before .before .before .is-good .ensures)
     (not-false _ (c .before .before .before .before .before .if1 .left))
     (c .before .before .count-of .ensures ∙ ap (λ (x : Header). count (x .lengths))
@@ -70,7 +70,7 @@ refused-requires-3 c κs = search needs
 returns-3 : tie.Need-returns-3
 returns-3 c =
     let start = c .before .before .before .before .before .before .before .before .before .before in
-    write-short (start .args .head) (start .args .a .now) (start .args .file .now)
+    write-short (start .args .newer) (start .args .head) (start .args .a .now) (start .args .file .now)
     (c .before .before .before .before .before .before .before .is-good .ensures)
     (not-false _ (c .before .before .before .before .before .before .if1 .left))
     (c .before .before .before .count-of .ensures
@@ -82,7 +82,7 @@ put-front-requires c κs =
     let start = c .before .before .before .before .before .before .before .before .before .before in (
       subst (λ (x : Header). Shaped (x .vars) (x .lengths))
           (sym (c .before .before .before .before .before .header-of .ensures))
-          (write-shaped (start .args .head) (start .args .a .now) (start .args .file .now)
+          (write-shaped (start .args .newer) (start .args .head) (start .args .a .now) (start .args .file .now)
           (c .before .before .before .before .before .before .before .is-good .ensures)
           (not-false _ (c .before .before .before .before .before .before .if1 .left))),
       omega (arith, c .before .if3 .left),
@@ -120,14 +120,14 @@ returns-4 c =
     let c14 = c13 .before in
     let c15 = c14 .before in
     let start = c15 .before .before .before in
-    write-done (start .args .head) (start .args .a .now) (start .args .file .now) (c15 .is-good .ensures)
+    write-done (start .args .newer) (start .args .head) (start .args .a .now) (start .args .file .now) (c15 .is-good .ensures)
     (not-false _ (c14 .if1 .left)) (c11 .count-of .ensures
     ∙ ap (λ (x : Header). count (x .lengths)) (c13 .header-of .ensures)) (c10 .if2 .left) (c9 .if3 .left)
     (c13 .header-of .ensures) (c .before .before .before .before .before .before .before .put-front .ensures)
     (c .before .before .put-data .ensures)
 
-pub write-spec : {M : Type 1} → statement M
-write-spec =
+pub write-as-spec : {M : Type 1} → statement M
+write-as-spec =
     tie.close
     (tie.spec
     is-good-requires
