@@ -15,7 +15,8 @@
  * Refusals: 1 header word or limit breaks the rules; 2 fewer coefficients than the header says; 3 variable, or a
  * missing variable's index; 4 k, order or index not below the limit, or a total not finite or not above zero; 5 more
  * than 4,096 places, or `out` too short; 6 `scratch` shorter than 8 times the announced count; 11 no running sum
- * reaches q. The lowest wins. The place of these refusals is 64, for none in particular.
+ * reaches q; 12 a constant is not from -8 to 8. The lowest wins. The place of these refusals is 64, for none in
+ * particular.
  *
  * A buffer is a pointer and a count of doubles. The pointer is aligned and not null, also where the count is 0. `out`,
  * `scratch` and what a float is written to overlap nothing else that is passed. */
@@ -100,6 +101,10 @@ uint64_t taylor_exp(uint64_t head, const double *a, size_t a_len, double value, 
                     size_t scratch_len);
 uint64_t taylor_log(uint64_t head, const double *a, size_t a_len, double value, double *out, size_t out_len, double *scratch,
                     size_t scratch_len);
+
+/* through value e to the x, within 2^-40, relative, of the sum of the series' first 120 terms, for x from -8 to 8: a
+   head that taylor_exp takes; refusal 12 for any other x, a NaN too */
+uint64_t taylor_exp_constant(double x, double *value);
 
 /* a to the power e; 0 gives one with no variables: refusals 1, 2, 5, 6 */
 uint64_t taylor_pow(uint64_t head, const double *a, size_t a_len, uint32_t e, double *out, size_t out_len, double *scratch,

@@ -83,6 +83,7 @@ mod face {
         pub fn settings_bring_back(words: *mut u64, len: usize, department: u64, from: u64, kept: u64, version: *mut u64) -> u64;
         pub fn taylor_npy_read(file: *const u8, file_len: usize, out: *mut f64, out_len: usize) -> u64;
         pub fn taylor_npy_write(head: u64, a: *const f64, a_len: usize, file: *mut u8, file_len: usize, written: *mut u64) -> u64;
+        pub fn taylor_exp_constant(x: f64, value: *mut f64) -> u64;
     }
 }
 
@@ -387,4 +388,9 @@ pub fn npy_write(head: u64, a: &[f64], file: &mut [u8]) -> Result<usize, Refusal
     let mut written = 0;
     let word = unsafe { face::taylor_npy_write(head, a.as_ptr(), a.len(), file.as_mut_ptr(), file.len(), &mut written) };
     if word == 0 { Ok(written as usize) } else { Err(refusal(word)) }
+}
+
+/// e to the x, within 2^-40, relative, of the sum of the series' first 120 terms; x from -8 to 8.
+pub fn exp_constant(x: f64) -> Result<f64, Refusal> {
+    reading(|value| unsafe { face::taylor_exp_constant(x, value) })
 }

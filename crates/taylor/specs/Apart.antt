@@ -1,6 +1,6 @@
 -- The face: the two kinds of answer cannot be confused. The low five bits of an answered word are the refusal's number,
--- 0 where there is none: a header word ends in 13 zero bits, and gates refuse by 1 to 6, `least` by 11 too. What was
--- answered is read back from the word.
+-- 0 where there is none: a header word ends in 13 zero bits, and gates refuse by 1 to 6, `least` by 11 too,
+-- `exp_constant` by 12 alone. What was answered is read back from the word.
 use Prim.Native.Nat.{ℕ, zero, suc, _+_, _/_, _%_, _^_, _≤_, _<_}
 use mathlib.Core.List.{List}
 use mathlib.Core.Bool.{Bool, true, false, cond, _&&_}
@@ -17,6 +17,8 @@ use Rattle.model.specs.declared.Answer.{Answer}
 use Rattle.model.specs.declared.Answer.the-variants.{Done, Refused}
 use Rattle.model.specs.declared.Linear.{Linear}
 use Rattle.model.specs.declared.LinearReading.{LinearReading}
+use Rattle.model.specs.declared.Reading.{Reading}
+use Rattle.model.specs.declared.Reading.the-variants as reading
 use Rattle.model.specs.declared.Family.{Family}
 use Rattle.model.specs.declared.Family.the-variants.{Same, Sum, Product, Quotient, Series, Power, Shift, Substitution, Term, Order}
 use Rattle.model.specs.Header.{limit, len, zeroWith, varWith}
@@ -42,7 +44,8 @@ use Rattle.model.specs.Series.{seriesGate, expAnswer, logAnswer}
 use Rattle.model.specs.Shifts.{shiftGate, derivativeAnswer, expansionAnswer, shiftDownAnswer}
 use Rattle.model.specs.Power.{powerGate, powerAnswer}
 use Rattle.model.specs.Substitute.{substituteGate, substituteAnswer}
-use Rattle.taylor.specs.Face.{wordOfRefusal, wordOfAnswer, wordOfReading, wordOfCount, wordOfLinear, variableOf}
+use Rattle.model_exponential.specs.Constant.{inRange, constantGate, expConstantAnswer}
+use Rattle.taylor.specs.Face.{wordOfRefusal, wordOfAnswer, wordOfReading, valueAfter, wordOfCount, wordOfLinear, variableOf}
 
 -- ---- any answer, by the refusal r that decides it
 
@@ -286,3 +289,36 @@ module _ (w : ℕ) (a : List Float) where
       unfolding substituteAnswer
       substitute-back v =
           back (substituteGate v w a u b out scratch) (pair-few (Substitution v) w (length a) u (length b) (length out) (length scratch)) _
+
+-- ---- the exponential of a constant: its answer is read back from the word and the number behind the pointer
+
+-- the reading that a word and a number stand for
+unfoldable pub readingFrom : ℕ → Float → Reading
+readingFrom w x = cond (eqb w 0) (reading.Done x) (reading.Refused (refusalFrom w))
+
+reading-back : (r : Refusal) → r .number < 32 → (x old : Float)
+    → readingFrom (wordOfReading (readBy r x)) (valueAfter (readBy r x) old) ≡ readBy r x
+unfolding readBy readingFrom
+reading-back r few x old =
+    decide (isNone r) (λ t. rw t) (λ t.
+    let n = eqb-false (r .number) 0 t in
+    let z : eqb (wordOfRefusal r) 0 ≡ false = ne-eqb (wordOfRefusal r) 0 (λ e. n (omega (arith, e))) in
+    rw (t, z) (ap reading.Refused (refusal-from r (omega arith))))
+
+-- 12 alone
+asked-12 : (b : Bool) → ask b 12 noRefusal .number < 32
+asked-12 false = lit< tt
+asked-12 true = lit< tt
+
+constant-few : (x : Float) → constantGate x .number < 32
+unfolding constantGate
+constant-few x = asked-12 (inRange x)
+
+pub exp-constant-low : (x : Float) → wordOfReading (expConstantAnswer x) % 32 ≡ constantGate x .number
+unfolding expConstantAnswer
+exp-constant-low x = read-low (constantGate x) (constant-few x) _
+
+pub exp-constant-back : (x old : Float)
+    → readingFrom (wordOfReading (expConstantAnswer x)) (valueAfter (expConstantAnswer x) old) ≡ expConstantAnswer x
+unfolding expConstantAnswer
+exp-constant-back x old = reading-back (constantGate x) (constant-few x) _ old

@@ -12,7 +12,7 @@ use Rattle.taylor.specs.Promises.{TaylorFromU32WithPromise, TaylorLeastP
 use Rattle.taylor.specs.Promises.{TaylorNpyWritePromise, TaylorOnePromise, TaylorPowPromise, TaylorRunPromise, TaylorShiftDownPromise}
 use Rattle.taylor.specs.Promises.{TaylorSubstVarPromise, TaylorSubtractPromise, TaylorTailPromise, TaylorTaylorExpansionOfCoeffPromise}
 use Rattle.taylor.specs.Promises.{TaylorTaylorPolynomialPromise, TaylorVarAtZeroPromise, TaylorVarPromise, TaylorVarWithDegreesP1Promise}
-use Rattle.taylor.specs.Promises.{TaylorZeroPromise, TaylorZeroWithPromise}
+use Rattle.taylor.specs.Promises.{TaylorZeroPromise, TaylorZeroWithPromise, TaylorExpConstantPromise}
 
 pub taylor-zero-once : (out : List Float) {r1 r2 : ℕ} {out1 out2 : List Float}
     → TaylorZeroPromise out r1 out1 → TaylorZeroPromise out r2 out2
@@ -205,3 +205,8 @@ pub settings-bring-back-once : (words : List ℕ) (department from kept version 
     department from kept version r2 words2 version2
     → (r1 ≡ r2) × ((version1 ≡ version2) × (words1 ≡ words2))
 settings-bring-back-once words department from kept version p1 p2 = once-3 p1 p2
+
+pub taylor-exp-constant-once : (x value : Float) {r1 r2 : ℕ} {value1 value2 : Float}
+    → TaylorExpConstantPromise x value r1 value1 → TaylorExpConstantPromise x value r2 value2
+    → (r1 ≡ r2) × (value1 ≡ value2)
+taylor-exp-constant-once x value p1 p2 = once-2 (p1 .0) (p2 .0)

@@ -20,6 +20,7 @@ ghost use Rattle.taylor.specs.Promises.{TaylorCoefficientsOfTermPromise,
 ghost use Rattle.taylor.specs.Promises.{TaylorMultiplyPromise, TaylorDividePromise, TaylorExpPromise, TaylorLogPromise, TaylorPowPromise};
 ghost use Rattle.taylor.specs.Promises.{TaylorDerivativePromise, TaylorTaylorExpansionOfCoeffPromise, TaylorShiftDownPromise};
 ghost use Rattle.taylor.specs.Promises.{TaylorSubstVarPromise, TaylorCheckPromise, TaylorRunPromise, TaylorNpyWritePromise};
+ghost use Rattle.taylor.specs.Promises.{TaylorExpConstantPromise};
 
 // +0.0, with no variables: refusal 5.
 #[no_mangle]
@@ -429,4 +430,12 @@ pub extern "C" fn taylor_npy_write(head: u64, a: &[f64], file: &mut [u8], writte
         (now (file .exit)) (now (written .exit)) ⌝ }
 {
     put_written(npy::write(head, a, file), written)
+}
+
+// e^x for x from -8 to 8, within 2^-40, relative, of the sum of the series' first 120 terms: refusal 12.
+#[no_mangle]
+pub extern "C" fn taylor_exp_constant(x: f64, value: &mut f64) -> u64
+    ensures { λ r. ⌜ TaylorExpConstantPromise x (now (value .entry)) r (now (value .exit)) ⌝ }
+{
+    put(exponential::exp_constant(x), value)
 }
