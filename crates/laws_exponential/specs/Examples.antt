@@ -1,5 +1,5 @@
 -- The definition of the exact value on three terms: at 1 they are 1 + 1 + 1 / 2 = 5 / 2; at -1 / 2 they are 1 - 1 / 2 +
--- 1 / 8 = 10 / 16. And what is within 2 ^ -40: 2 ^ 40 + 1 over 2 ^ 40 of 1, and not 2 ^ 40 + 2 over it.
+-- 1 / 8 = 10 / 16. And a fraction that is just within 2 ^ -40 of 1: 2 ^ 40 + 1 over 2 ^ 40.
 use mathlib.Core.Path.{_≡_, refl}
 use Prim.Native.Nat.{_+_, _^_}
 use lib.Dec.{lit≤}
