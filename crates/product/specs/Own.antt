@@ -38,8 +38,8 @@ isLight w = (eqb (w .kind) 3 || eqb (w .kind) 5) && not (eq (w .line .c) zeroF |
 unfoldable pub lightWay : Block → Block → Way
 lightWay a b = cond (isLight (chosen 1 a b)) (chosen 1 a b) longWay
 
--- w and u the words, ma and mb the coefficients given, mo and ms the places lent: whether the call is not refused, and a
--- product by the right factor, of two places at most, has the left operand's header, which has more places than one
+-- w and u the words, ma and mb the coefficients given, mo and ms the places lent: whether the call is not refused, and
+-- a product by the right factor, of two places at most, has the left operand's header, which has more places than one
 unfoldable pub owns : ℕ → ℕ → ℕ → ℕ → ℕ → ℕ → Bool
 owns w ma u mb mo ms =
     (eqb (pairGate Product w ma u mb mo ms .number) 0 && keepsHeader (headerOf w) (headerOf u))

@@ -223,7 +223,8 @@ module _ (w : ℕ) (a : List Float) (u : ℕ) (b : List Float) (mo ms : ℕ) whe
   short-worth {c} e z =
       decide (owns w (length a) u (length b) mo ms)
       (λ t.
-      let i : c ≡ lightWay (block (headerOf w .lengths) (take (stored (headerOf w)) a)) (block (headerOf u .lengths) (take (stored (headerOf u)) b)) = rw t at e in
+      let i : c ≡ lightWay (block (headerOf w .lengths) (take (stored (headerOf w)) a))
+      (block (headerOf u .lengths) (take (stored (headerOf u)) b)) = rw t at e in
       record {
         owns = owns-worth w (length a) u (length b) mo ms t;
         light = rw i (light-is _ _ (λ k. z (ap (λ (q : Way). q .kind) i ∙ k)));

@@ -145,7 +145,8 @@ keeps-announced {x} {y} r h =
     four-same (λ k. min (limit x k) (min (limit x k) (len x k) + min (limit x k) (len y k) - 1)) (len x)
     (λ k l. let g = ruled-at (r .rules) k l in h .var k l .own (g .pos) (g .fit)) ∙ sym (r .ns) in
     let ve : max (x .vars) (y .vars) ≡ x .vars = rw (← h .vars) (omega arith) in
-    ap f (same-limits y r (h .vars) (λ k l. h .var k l .same)) ∙ (ap (λ (n : List ℕ). header (max (x .vars) (y .vars)) (x .limits) n) ne ∙ ap (λ (v : ℕ). header v (x .limits) (x .lengths)) ve)
+    ap f (same-limits y r (h .vars) (λ k l. h .var k l .same))
+    ∙ (ap (λ (n : List ℕ). header (max (x .vars) (y .vars)) (x .limits) n) ne ∙ ap (λ (v : ℕ). header v (x .limits) (x .lengths)) ve)
 
 -- and the other way: a factor that keeps the rules, with the variables and limits of x, and under which x is announced
 pub announced-keeps : {x y : Header} → Regular x → Ruled y → x .vars ≡ y .vars → y .limits ≡ x .limits → announced Product x y ≡ x → Keeps x y

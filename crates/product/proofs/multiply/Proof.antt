@@ -6,7 +6,9 @@ use Rattle.product.proofs.multiply.Statement.{statement}
 use Rattle.product.proofs.multiply.Tie as tie
 
 multiply-short-requires : tie.Need-multiply-short-requires
-multiply-short-requires c κs = short-room (short-worth _ _ _ _ _ _ (c .before .before .before .before .short-way .ensures) (c .before .before .if1 .taken)) refl refl
+multiply-short-requires c κs =
+    short-room (short-worth _ _ _ _ _ _ (c .before .before .before .before .short-way .ensures)
+    (c .before .before .if1 .taken)) refl refl
 
 returns : tie.Need-returns
 returns c =
