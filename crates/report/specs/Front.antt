@@ -22,8 +22,9 @@ use Rattle.model_texts.specs.Told.{toldText}
 use Rattle.recipes_check.specs.Asks.{or-none, ask-none}
 use Rattle.sheet_text.specs.Value.{numberAt, behindNumber, decimal-number, decimal-behind}
 use Rattle.sheet_reading.specs.Reading.{sizesTest, restRefusal, after-sizes, count-small}
-use Rattle.sheet.specs.Opened.{opened, opened-few}
-use Rattle.sheet.specs.Ended.{read-refused, output-read}
+use Rattle.sheet_solving.specs.Opened.{opened, opened-few}
+use Rattle.sheet_solving.specs.Ended.{read-refused}
+use Rattle.sheet.specs.Output.{output-read}
 use Rattle.sheet.specs.Front.{readAtMost, sheet-front}
 use Rattle.report.specs.Tells.{told-refused}
 

@@ -34,8 +34,8 @@ use Rattle.recipes_check.specs.Asks.{or-none, or-next}
 use Rattle.recipes_check.specs.Judged.{Accepts, accepts, places-known}
 use Rattle.recipes_laws.specs.Ahead.{announced-at, step-largest}
 use Rattle.recipes_laws.specs.Values.{follows-all}
-use Rattle.sheet.specs.Opened.{steps-many}
-use Rattle.sheet.specs.Running.{passed, steps-largest}
+use Rattle.sheet_solving.specs.Opened.{steps-many}
+use Rattle.sheet_solving.specs.Running.{passed, steps-largest}
 use Rattle.report_lines.specs.Puts.{Printed}
 use Rattle.report_lines.specs.Columns.{inColumns, columnAfter, columns-append, columns-earlier, Piece, piece}
 use Rattle.report_lines.specs.Columns.{piece-then, piece-columns, number-piece, tell-two, newline-rest, rest-then}

@@ -15,10 +15,10 @@ use Rattle.model_texts.specs.Full.{fulls}
 use Rattle.model_texts.specs.Report.{placeText, cutsText, endText, verdictText, limitsText}
 use Rattle.model_texts.specs.Sentence.{placeMeanings, sheetMeanings, refusalReport}
 use Rattle.model_texts.specs.Sheet.{inputCount, stepCount, sheetHeaders, sheetSteps, sheetRefusal, lastValue}
-use Rattle.sheet.specs.declared.Solved.{Solved}
-use Rattle.sheet.specs.Solves.{Solution}
+use Rattle.sheet_solving.specs.declared.Solved.{Solved}
+use Rattle.sheet_solving.specs.Solves.{Solution}
 use Rattle.model_texts.specs.Figures.{figuresText}
-use Rattle.sheet.specs.Opened.{headers-many, steps-many}
+use Rattle.sheet_solving.specs.Opened.{headers-many, steps-many}
 use Rattle.report_lines.specs.Before.{Within, place-told, cuts-told, end-told, verdict-told}
 use Rattle.model_texts.specs.Told.{limitsFirst, toldText}
 

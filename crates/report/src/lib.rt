@@ -4,7 +4,7 @@ mod refusal;
 use refusal::put_refusal_report;
 use report_figures::line::put_figures;
 use report_lines::put_limits;
-use sheet::solve;
+use sheet_solving::solve;
 ghost use lib.ListN.{length};
 ghost use mathlib.Core.Path.{_≡_};
 ghost use Rattle.model_texts.specs.Told.{toldText};

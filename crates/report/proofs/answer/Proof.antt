@@ -15,7 +15,7 @@ use Rattle.report_figures.proofs.line.put_figures.Reads as put-figures-reads
 use Rattle.report.proofs.floats.Reads as floats-reads
 use Rattle.report.proofs.refusal.put_refusal_report.Reads as put-refusal-report-reads
 use Rattle.report_lines.proofs.put_limits.Reads as put-limits-reads
-use Rattle.sheet.proofs.solve.Reads as solve-reads
+use Rattle.sheet_solving.proofs.solve.Reads as solve-reads
 
 returns : tie.Need-returns
 returns c =

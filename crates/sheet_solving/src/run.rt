@@ -1,5 +1,7 @@
 // Running a recipe that was read off a sheet.
 use crate::Solved;
+use crate::floats;
+use crate::places;
 use recipes::admit::run_admitted;
 use recipes_check::note_inputs;
 use recipes_check::total_of;
@@ -10,22 +12,8 @@ use sheet_reading::step_count;
 ghost use mathlib.Core.Path.{_≡_};
 ghost use Prim.Native.Nat.{_≤_};
 ghost use lib.ListN.{length};
-ghost use Rattle.sheet.specs.Running.{Opening, Running, RunningIn};
-ghost use Rattle.sheet.specs.Solves.{Lent, Ends, Ended};
-
-// Memory for the coefficients of all inputs, for a pool, or for the scratch.
-pub fn floats() -> [f64; 2048]
-    ensures { λ r. ⌜ length r ≡ 2048 ⌝ }
-{
-    [0.0f64; 2048]
-}
-
-// Memory for a word of each place.
-pub fn places() -> [u64; 64]
-    ensures { λ r. ⌜ length r ≡ 64 ⌝ }
-{
-    [0u64; 64]
-}
+ghost use Rattle.sheet_solving.specs.Running.{Opening, Running, RunningIn};
+ghost use Rattle.sheet_solving.specs.Solves.{Lent, Ends, Ended};
 
 // A recipe that the check and the limits let pass, with memory for its run: `known` holds the words that its places
 // announce, and `coefficients` is as long as its inputs take.
@@ -42,6 +30,10 @@ fn run_in(
     requires { ⌜ RunningIn (now text) (now headers) (now steps) (now known) (length (now coefficients)) (length (now pool))
         (length (now words)) (length (now scratch)) ⌝ }
     ensures { λ s. ⌜ Ends (now (text .entry)) (now (headers .entry)) (now (steps .entry)) (now (pool .exit)) s ⌝ }
+    ensures spent_known { λ _. ⌜ length (now (known .exit)) ≡ length (now (known .entry)) ⌝ }
+    ensures spent_coefficients { λ _. ⌜ length (now (coefficients .exit)) ≡ length (now (coefficients .entry)) ⌝ }
+    ensures spent_words { λ _. ⌜ length (now (words .exit)) ≡ length (now (words .entry)) ⌝ }
+    ensures spent_scratch { λ _. ⌜ length (now (scratch .exit)) ≡ length (now (scratch .entry)) ⌝ }
 {
     let n = steps.len();
     fill_floats(text, 1 + headers.len(), coefficients);
@@ -88,7 +80,7 @@ pub fn run_read(
     pool: &mut [f64],
 ) -> Solved
     requires { ⌜ Opening (now text) (now headers) ⌝ ∗ ⌜ Lent (length (now steps)) (length (now known)) (length (now pool)) ⌝ }
-    ensures { λ s. ⌜ Ended (now (text .entry)) (now (headers .entry)) (now (steps .exit)) (now (known .exit)) (now (pool .exit)) s ⌝ }
+    ensures { λ s. ⌜ Ended (now (text .entry)) (now (headers .entry)) (now (steps .exit)) (now (known .exit)) (now (pool .entry)) (now (pool .exit)) s ⌝ }
 {
     let n = step_count(text);
     let end = headers.len() + n;

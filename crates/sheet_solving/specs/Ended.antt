@@ -1,5 +1,5 @@
--- By what a sheet is refused, where it is read, judged or run, and what is printed for it.
-use Prim.Native.Nat.{ℕ, _+_, _-_, _*_, _≤_}
+-- By what a sheet is refused, where it is read, judged or run.
+use Prim.Native.Nat.{ℕ, _+_, _*_, _≤_}
 use mathlib.Core.List.{List, _++_, map}
 use mathlib.Core.Path.{_≡_, refl, sym, ap, _∙_}
 use native.Mathlib.Omega.{arith}
@@ -7,44 +7,30 @@ use lib.Dec.{eqb}
 use lib.Ieee.{Float}
 use lib.ListN.{length, take, drop, length-append, length-drop}
 use lib.Seq.{length-take-le, take-at, take-all}
-use borrow.Author.Tests.{eqb-true, eqb-false, eq-eqb, ne-eqb}
+use borrow.Author.Tests.{eqb-true, eqb-false}
 use Rattle.lists.specs.Table.{table, length-table}
 use Rattle.lists.specs.Test.{decide}
 use Rattle.model.specs.declared.Refusal.{Refusal}
-use Rattle.model.specs.Word.{headerOf, wordOf}
+use Rattle.model.specs.Word.{headerOf}
 use Rattle.model.specs.Refusals.{zeros}
 use Rattle.model_recipes.specs.Recipe.{announcedSteps, total, largest}
 use Rattle.model_recipes.specs.Check.{orElse, checkRefusal}
 use Rattle.model_recipes.specs.Run.{runRefusal}
-use Rattle.model_texts.specs.Printed.{doneText, refusedText}
 use Rattle.model_texts.specs.Sheet.{wordOn, inputCount, stepCount, sheetHeaders, coefficientCount, sheetCoefficients}
-use Rattle.model_texts.specs.Sheet.{sheetSteps, ownRefusal, recipeRefusal, readRefusal, sheetRefusal, lastValue}
-use Rattle.model_texts.specs.Sheet.{sheetOutput}
+use Rattle.model_texts.specs.Sheet.{sheetSteps, ownRefusal, recipeRefusal, readRefusal, sheetRefusal}
 use Rattle.recipes_kinds.specs.Known.{Known}
 use Rattle.recipes_check.specs.Asks.{or-first, or-next}
 use Rattle.sheet_reading.specs.Headers.{good-known}
-use Rattle.sheet.specs.Opened.{Opened, opened, opened-good, opened-few, headers-many, steps-many}
+use Rattle.sheet_solving.specs.Opened.{Opened, opened, opened-good, opened-few, headers-many, steps-many}
 use Rattle.sheet_limits.specs.Limits.{OwnJudged}
-use Rattle.sheet.specs.declared.Solved.{Solved}
-use Rattle.sheet.specs.Running.{Opening, Running, running-passed, running-known}
-use Rattle.sheet.specs.Solves.{Ends, Ended, Solution}
+use Rattle.sheet_solving.specs.declared.Solved.{Solved}
+use Rattle.sheet_solving.specs.Running.{Opening, Running, running-passed, running-known}
+use Rattle.sheet_solving.specs.Solves.{Ends, Ended, Solution}
 
-module _ (t : List ℕ) where
-  pub output-refused : {q : Refusal} → sheetRefusal t ≡ q → (q .number ≡ 0 → ⊥) → sheetOutput t ≡ refusedText q
-  unfolding sheetOutput
-  output-refused {q} e z = rw (e, ne-eqb (q .number) 0 z)
-
-  pub output-done : sheetRefusal t .number ≡ 0 → sheetOutput t ≡ doneText (stepCount t) (wordOf (lastValue t .head)) (lastValue t .coeffs)
-  unfolding sheetOutput
-  output-done e = rw (eq-eqb (sheetRefusal t .number) 0 e)
-
-  -- refused as it is read
-  pub read-refused : {r : Refusal} → r ≡ readRefusal t → (r .number ≡ 0 → ⊥) → r ≡ sheetRefusal t
-  unfolding sheetRefusal
-  read-refused {r} e z = sym (ap (λ (x : Refusal). orElse x (recipeRefusal (sheetHeaders t) (sheetCoefficients t) (sheetSteps t))) (sym e) ∙ or-first _ z)
-
-  pub output-read : {r : Refusal} → r ≡ readRefusal t → (r .number ≡ 0 → ⊥) → sheetOutput t ≡ refusedText r
-  output-read e z = output-refused (sym (read-refused e z)) z
+-- refused as it is read
+pub read-refused : (t : List ℕ) {r : Refusal} → r ≡ readRefusal t → (r .number ≡ 0 → ⊥) → r ≡ sheetRefusal t
+unfolding sheetRefusal
+read-refused t {r} e z = sym (ap (λ (x : Refusal). orElse x (recipeRefusal (sheetHeaders t) (sheetCoefficients t) (sheetSteps t))) (sym e) ∙ or-first _ z)
 
 or-assoc : (a b c : Refusal) → orElse a (orElse b c) ≡ orElse (orElse a b) c
 or-assoc a b c =
@@ -127,15 +113,17 @@ module _ {t hs : List ℕ} (o : Opening t hs) where
       }
 
 -- the run has ended: its n steps stand at the front of `steps`, the words of its k places at the front of `known`
-module _ {t hs : List ℕ} (steps known : List ℕ) {pool : List Float} {n k c : ℕ} {s : Solved} (r : Running t hs (take n steps) (take k known) c)
+module _ {t hs : List ℕ} (steps known : List ℕ) (old : List Float) {pool : List Float} {n k c : ℕ} {s : Solved}
+    (r : Running t hs (take n steps) (take k known) c)
     (en : n ≡ stepCount t) (ek : k ≡ length hs + n) (e : Ends t hs (take n steps) pool s) where
   ended-steps : length (take n steps) ≡ n
   ended-steps = ap length (r .steps) ∙ (steps-many t ∙ sym en)
 
-  pub ended-done : Ended t hs steps known pool s
+  pub ended-done : Ended t hs steps known old pool s
   ended-done =
       record {
         refusal = e .refusal;
+        refused = λ z. absurd (z (e .none));
         done = λ z.
             let d = e .done z in
             let i : s .inputs ≡ length hs = d .inputs in
@@ -155,10 +143,3 @@ module _ {t hs : List ℕ} (steps known : List ℕ) {pool : List Float} {n k c :
               last = d .last;
             };
       }
-
--- what is printed for a sheet that is not refused, with the coefficients as `&pool[from..from + count]` reads them
-pub output-solved : {t headers steps known : List ℕ} {pool : List Float} {s : Solved} → Solution t headers steps known pool s → sheetRefusal t .number ≡ 0
-    → sheetOutput t ≡ doneText (s .steps) (s .header) (take (s .from + s .count - s .from) (drop (s .from) pool))
-output-solved {t} {headers} {steps} {known} {pool} {s} d z =
-    let e : s .from + s .count - s .from ≡ s .count = omega arith in
-    output-done t z ∙ rw (e, d .steps, d .last .header, d .last .coefficients) refl

@@ -1,10 +1,10 @@
 use native.Mathlib.Omega.{arith}
 use mathlib.Core.Path.{sym}
 use lib.Seq.{length-take-le}
-use Rattle.sheet.specs.Running.{running-fit, running-given, running-in}
+use Rattle.sheet_solving.specs.Running.{running-fit, running-given, running-in}
 use borrow.Author.Needs.{needs}
-use Rattle.sheet.proofs.run.run_judged.Statement.{statement}
-use Rattle.sheet.proofs.run.run_judged.Tie as tie
+use Rattle.sheet_solving.proofs.run.run_judged.Statement.{statement}
+use Rattle.sheet_solving.proofs.run.run_judged.Tie as tie
 
 note-inputs-requires : tie.Need-note-inputs-requires
 note-inputs-requires c κs =
@@ -41,7 +41,7 @@ run-in-requires c κs =
 returns : tie.Need-returns
 returns c =
     let c6 = c .before .before .before .before .before .before in
-    c6 .run-in .ensures
+    c6 .run-in .ensures .0
 
 pub run-judged-spec : {M : Type 1} → statement M
 run-judged-spec =

@@ -1,6 +1,6 @@
 use borrow.Author.Needs.{needs}
-use Rattle.sheet.proofs.Solved.done.Statement.{statement}
-use Rattle.sheet.proofs.Solved.done.Tie as tie
+use Rattle.sheet_solving.proofs.Solved.done.Statement.{statement}
+use Rattle.sheet_solving.proofs.Solved.done.Tie as tie
 
 none-requires : tie.Need-none-requires
 none-requires c κs = search needs

@@ -4,13 +4,18 @@ use mathlib.Core.List.{List, map}
 use mathlib.Core.Path.{_≡_}
 use lib.Ieee.{Float}
 use lib.ListN.{length, take, drop}
+use Rattle.model.specs.declared.Refusal.{Refusal}
 use Rattle.model.specs.Header.{stored}
 use Rattle.model.specs.Word.{headerOf, wordOf}
 use Rattle.model.specs.Refusals.{noRefusal}
 use Rattle.model_recipes.specs.Recipe.{announcedPlaces}
 use Rattle.model_texts.specs.Sheet.{inputCount, stepCount, sheetHeaders, sheetSteps, sheetRefusal, lastValue}
 use Rattle.recipes_kinds.specs.Known.{Known}
-use Rattle.sheet.specs.declared.Solved.{Solved}
+use Rattle.sheet_solving.specs.declared.Solved.{Solved}
+
+-- refused by r: every number is 0
+abbrev pub unsolved : Refusal → Solved
+unsolved r = record { refusal = r; inputs = 0; steps = 0; header = 0; from = 0; count = 0 }
 
 -- i inputs, n steps, the last value's header word w, its coefficients from the place f on
 abbrev pub solvedBy : ℕ → ℕ → ℕ → ℕ → Solved
@@ -34,6 +39,7 @@ pub record Ending (t hs ss : List ℕ) (pool : List Float) (s : Solved) : Type 0
 
 pub record Ends (t hs ss : List ℕ) (pool : List Float) (s : Solved) : Type 0 where
   pub refusal : s .refusal ≡ sheetRefusal t
+  pub none : s .refusal .number ≡ 0
   pub done : s .refusal .number ≡ 0 → Ending t hs ss pool s
 
 -- the sheet t is not refused; hs, ss, ks, ps: the buffers for headers, steps, places and the pool, as they are left
@@ -66,9 +72,18 @@ solution-front hs' d h =
       last = d .last;
     }
 
-pub record Ended (t hs ss ks : List ℕ) (ps : List Float) (s : Solved) : Type 0 where
+-- what a refusal leaves: every number 0, and the pool, which was ps, as it was
+pub record Unsolved (ps ps' : List Float) (s : Solved) : Type 0 where
+  pub numbers : s ≡ unsolved (s .refusal)
+  pub pool : ps' ≡ ps
+
+pub unsolved-by : {s : Solved} {r : Refusal} → s ≡ unsolved r → s ≡ unsolved (s .refusal)
+unsolved-by e = rw e
+
+pub record Ended (t hs ss ks : List ℕ) (ps ps' : List Float) (s : Solved) : Type 0 where
   pub refusal : s .refusal ≡ sheetRefusal t
-  pub done : s .refusal .number ≡ 0 → Solution t hs ss ks ps s
+  pub refused : (s .refusal .number ≡ 0 → ⊥) → Unsolved ps ps' s
+  pub done : s .refusal .number ≡ 0 → Solution t hs ss ks ps' s
 
 -- as long as any sheet takes: buffers of m steps, k places and p places of a pool; of n headers besides
 pub record Lent (m k p : ℕ) : Type 0 where
@@ -82,11 +97,13 @@ pub record Buffers (n m k p : ℕ) : Type 0 where
   pub known : 64 ≤ k
   pub pool : 2048 ≤ p
 
--- hs, ss, ks, ps: the buffers as they came; hs', ss', ks', ps': as they are left
+-- hs, ss, ks, ps: the buffers as they came; hs', ss', ks', ps': as they are left. Of hs', ss' and ks' after a refusal
+-- only the lengths are promised
 pub record Solves (t hs ss ks : List ℕ) (ps : List Float) (hs' ss' ks' : List ℕ) (ps' : List Float) (s : Solved) : Type 0 where
   pub refusal : s .refusal ≡ sheetRefusal t
   pub headers-len : length hs' ≡ length hs
   pub steps-len : length ss' ≡ length ss
   pub known-len : length ks' ≡ length ks
   pub pool-len : length ps' ≡ length ps
+  pub refused : (s .refusal .number ≡ 0 → ⊥) → Unsolved ps ps' s
   pub done : s .refusal .number ≡ 0 → Solution t hs' ss' ks' ps' s

@@ -28,11 +28,11 @@ use Rattle.recipes_laws.specs.Ahead.{announced-at, length-announced, step-large
 use Rattle.recipes_laws.specs.Values.{follows-all}
 use Rattle.recipes_laws.specs.Buffers.{word-kept, coeffs-kept}
 use Rattle.recipes.specs.Running.{Admitted}
-use Rattle.sheet.specs.Opened.{headers-many, steps-many}
-use Rattle.sheet.specs.declared.Solved.{Solved}
-use Rattle.sheet.specs.Running.{RunningIn, Passed, passed, steps-largest}
-use Rattle.sheet.specs.Solves.{solvedBy, LastAt, Ends}
-use Rattle.sheet.specs.Ended.{ranRefusal, opening-few, opening-count, opening-refusal}
+use Rattle.sheet_solving.specs.Opened.{headers-many, steps-many}
+use Rattle.sheet_solving.specs.declared.Solved.{Solved}
+use Rattle.sheet_solving.specs.Running.{RunningIn, Passed, passed, steps-largest}
+use Rattle.sheet_solving.specs.Solves.{solvedBy, LastAt, Ends}
+use Rattle.sheet_solving.specs.Ended.{ranRefusal, opening-few, opening-count, opening-refusal}
 
 -- the places of a value end before the pool does
 total-take : (hs : List Header) (i : ℕ) → i < length hs → total (take i hs) + stored (getD hs i noHeader) ≤ total hs
@@ -193,4 +193,4 @@ module _ {t hs ss known : List ℕ} {c : ℕ} (pool : List Float) (words : List 
           }
 
       pub ran-done : {s : Solved} → s ≡ solvedBy (length hs) (length ss) (getD ws (length ss - 1) 0) f → Ends t hs ss ps s
-      ran-done e = rw e (record { refusal = ran-none; done = λ z. record { inputs = refl; steps = refl; last = ran-last } })
+      ran-done e = rw e (record { refusal = ran-none; none = refl; done = λ z. record { inputs = refl; steps = refl; last = ran-last } })

@@ -1,10 +1,10 @@
 use native.Mathlib.Omega.{arith}
 use mathlib.Core.Path.{_≡_, refl}
 use Rattle.model_texts.specs.Sheet.{sheetCoefficients}
-use Rattle.sheet.specs.Ran.{in-few, in-some, in-words, in-admitted, floats-read, ran-ruled, ran-done}
+use Rattle.sheet_solving.specs.Ran.{in-few, in-some, in-words, in-admitted, floats-read, ran-ruled, ran-done}
 use borrow.Author.Needs.{needs}
-use Rattle.sheet.proofs.run.run_in.Statement.{statement}
-use Rattle.sheet.proofs.run.run_in.Tie as tie
+use Rattle.sheet_solving.proofs.run.run_in.Statement.{statement}
+use Rattle.sheet_solving.proofs.run.run_in.Tie as tie
 
 coefficients-read : (c : tie.After-fill-floats) →
     let start = c .before .before .before .before .before .before .before .before .before .before in
@@ -54,16 +54,18 @@ done-requires c κs =
     let start = c17 .before .before .before .before .before .before .before .before .before .before in
     ran-ruled (start .args .pool .now) (start .args .words .now) (start .args .scratch .now) (start .pre)
     (coefficients-read c17) (c9 .run-admitted .ensures .0) (c9 .run-admitted .ensures .1 .0)
-    (c9 .run-admitted .ensures .1 .1 .1) (c9 .run-admitted .kept .1 .1 .1 .1 .0)
+    (c9 .run-admitted .ensures .1 .1 .1 .0) (c9 .run-admitted .kept .1 .1 .1 .1 .0)
 
 returns : tie.Need-returns
-returns c =
-    let c10 = c .before .before .before .before .before .before .before .before .before .before in
-    let c18 = c10 .before .before .before .before .before .before .before .before in
-    let start = c18 .before .before .before .before .before .before .before .before .before .before in
-    ran-done (start .args .pool .now) (start .args .words .now) (start .args .scratch .now) (start .pre)
-    (coefficients-read c18) (c10 .run-admitted .ensures .0) (c10 .run-admitted .ensures .1 .0)
-    (c10 .run-admitted .ensures .1 .1 .1) (c10 .run-admitted .kept .1 .1 .1 .1 .0) (c .done .ensures)
+returns c = (
+  let c10 = c .before .before .before .before .before .before .before .before .before .before in
+      let c18 = c10 .before .before .before .before .before .before .before .before in
+      let start = c18 .before .before .before .before .before .before .before .before .before .before in
+      ran-done (start .args .pool .now) (start .args .words .now) (start .args .scratch .now) (start .pre)
+      (coefficients-read c18) (c10 .run-admitted .ensures .0) (c10 .run-admitted .ensures .1 .0)
+      (c10 .run-admitted .ensures .1 .1 .1 .0) (c10 .run-admitted .kept .1 .1 .1 .1 .0) (c .done .ensures),
+  (search needs, (search needs, (search needs, search needs))),
+)
 
 pub run-in-spec : {M : Type 1} → statement M
 run-in-spec =

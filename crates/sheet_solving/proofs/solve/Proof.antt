@@ -3,12 +3,13 @@ use mathlib.Core.Path.{_≡_, refl, sym, ap, _∙_}
 use lib.Seq.{length-take-le}
 use Rattle.model.specs.declared.Refusal.{Refusal}
 use Rattle.model_texts.specs.Sheet.{readRefusal}
-use Rattle.sheet.specs.Opened.{opened}
-use Rattle.sheet.specs.Ended.{read-refused}
-use Rattle.sheet.specs.Solves.{solution-front}
+use Rattle.sheet_solving.specs.declared.Solved.{Solved}
+use Rattle.sheet_solving.specs.Opened.{opened}
+use Rattle.sheet_solving.specs.Ended.{read-refused}
+use Rattle.sheet_solving.specs.Solves.{unsolved-by, solution-front}
 use borrow.Author.Needs.{needs}
-use Rattle.sheet.proofs.solve.Statement.{statement}
-use Rattle.sheet.proofs.solve.Tie as tie
+use Rattle.sheet_solving.proofs.solve.Statement.{statement}
+use Rattle.sheet_solving.proofs.solve.Tie as tie
 
 none : (c : tie.Else1) →
     let start = c .before .before .before .before .before .before .before .before .before .before .before in
@@ -19,12 +20,13 @@ returns : tie.Need-returns
 returns c =
     let c5 = c .before .before .before .before .before in
     record {
-      refusal = c .refused .ensures ∙ read-refused _ (c5 .read .ensures .answer) (c .before .if1 .taken);
+      refusal = ap (λ (s : Solved). s .refusal) (c .refused .ensures) ∙ read-refused _ (c5 .read .ensures .answer) (c .before .if1 .taken);
       headers-len = c5 .read .ensures .len;
       steps-len = refl;
       known-len = refl;
       pool-len = refl;
-      done = λ z. absurd (c .before .if1 .taken (ap (λ (x : Refusal). x .number) (sym (c .refused .ensures)) ∙ z));
+      refused = λ z. record { numbers = unsolved-by (c .refused .ensures); pool = refl };
+      done = λ z. absurd (c .before .if1 .taken (ap (λ (s : Solved). s .refusal .number) (sym (c .refused .ensures)) ∙ z));
     }
 
 slice-reshare-prefix-run-read : tie.Need-slice-reshare-prefix-run-read
@@ -62,6 +64,7 @@ returns-2 c =
       steps-len = search needs;
       known-len = search needs;
       pool-len = search needs;
+      refused = c6 .run-read .ensures .refused;
       done = λ z. solution-front _ (c6 .run-read .ensures .done z) (c16 .read .ensures .headers (c12 .if1 .left));
     }
 

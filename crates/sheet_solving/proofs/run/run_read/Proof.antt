@@ -3,11 +3,12 @@ use native.Mathlib.Omega.{arith}
 use mathlib.Core.Path.{refl, sym, ap, _∙_}
 use lib.ListN.{length}
 use lib.Seq.{length-take-le}
-use Rattle.model.specs.declared.Refusal.{Refusal}
-use Rattle.sheet.specs.Ended.{opening-few, opening-fit, opening-known, opening-small, steps-room, steps-read, judged-refused, running, ended-done}
+use Rattle.sheet_solving.specs.declared.Solved.{Solved}
+use Rattle.sheet_solving.specs.Solves.{unsolved-by}
+use Rattle.sheet_solving.specs.Ended.{opening-few, opening-fit, opening-known, opening-small, steps-room, steps-read, judged-refused, running, ended-done}
 use borrow.Author.Needs.{needs}
-use Rattle.sheet.proofs.run.run_read.Statement.{statement}
-use Rattle.sheet.proofs.run.run_read.Tie as tie
+use Rattle.sheet_solving.proofs.run.run_read.Statement.{statement}
+use Rattle.sheet_solving.proofs.run.run_read.Tie as tie
 
 add-end : tie.Need-add-end
 add-end c = omega (arith, opening-fit (c .before .before .before .before .before .before .pre .0), c .step-count .ensures)
@@ -67,11 +68,12 @@ returns c =
     let start = c13 .before .before .before .before .before .before in
     record {
       refusal =
-          c .refused .ensures ∙ judged-refused (start .pre .0)
+          ap (λ (s : Solved). s .refusal) (c .refused .ensures) ∙ judged-refused (start .pre .0)
           (steps-read (start .pre .0) (start .args .steps .now) (c13 .step-count .ensures) (c12 .total-of .ensures)
           (start .pre .1 .steps) (c10 .fill-words .ensures))
           (c .before .before .before .before .before .judge-own .ensures) (c .before .if1 .taken);
-      done = λ z. absurd (c .before .if1 .taken (ap (λ (x : Refusal). x .number) (sym (c .refused .ensures)) ∙ z));
+      refused = λ z. record { numbers = unsolved-by (c .refused .ensures); pool = refl };
+      done = λ z. absurd (c .before .if1 .taken (ap (λ (s : Solved). s .refusal .number) (sym (c .refused .ensures)) ∙ z));
     }
 
 slice-reshare-prefix-run-judged : tie.Need-slice-reshare-prefix-run-judged
@@ -123,7 +125,7 @@ returns-2 c =
     let c10 = c .before .before .before .before .before .before .before .before .before .before in
     let c15 = c10 .before .before .before .before .before in let c17 = c15 .before .before in let c18 = c17 .before in
     let start = c18 .before .before .before .before .before .before in
-    ended-done _ _
+    ended-done _ _ _
     (running (start .pre .0) (steps-read (start .pre .0) (start .args .steps .now) (c18 .step-count .ensures)
     (c17 .total-of .ensures) (start .pre .1 .steps) (c15 .fill-words .ensures)) (c10 .judge-own .ensures)
     (c .before .before .before .before .before .before .if1 .left)
