@@ -12,9 +12,8 @@ use shape_words::word::good_header;
 use shape_words::word::header_of;
 use shape_words::word::is_good;
 use shape_words::word::pack;
-ghost use mathlib.Core.Path.{_≡_};
 ghost use Rattle.npy_files.specs.Reads.{Reading};
-ghost use Rattle.npy_files.specs.Writes.{writeAnswer, writeFile};
+ghost use Rattle.npy.specs.Promise.{WritePromise};
 
 // The values of a file, in row order, at the front of `out`; answers the header word, whose limits and lengths are the
 // shape. Refusals 10, 5, 10.
@@ -46,8 +45,7 @@ pub fn read(file: &[u8], out: &mut [f64]) -> Answer
 // The file of a polynomial, whose shape is the stored lengths, at the front of `file`; answers how many bytes it has.
 // Refusals 1, 2, 5.
 pub fn write(head: u64, a: &[f64], file: &mut [u8]) -> Written
-    ensures answer { λ r. ⌜ r ≡ writeAnswer head (now (a .entry)) (now (file .entry)) ⌝ }
-    ensures written { λ r. ⌜ now (file .exit) ≡ writeFile head (now (a .entry)) (now (file .entry)) ⌝ }
+    ensures { λ r. ⌜ WritePromise head (now (a .entry)) (now (file .entry)) r (now (file .exit)) ⌝ }
 {
     if !is_good(head) {
         return Written::refused(1);
