@@ -6,12 +6,8 @@
 // No contract can say what is read or printed; `show` and `convert` say what is printed for bytes.
 use libc::STDIN_FILENO;
 use libc::STDOUT_FILENO;
-use shape::limits::least;
+use replay_input::read_next;
 use sheet_text::line::word_at;
-ghost use mathlib.Core.Path.{_≡_};
-ghost use lib.ListN.{length};
-
-const BYTES: usize = 65536;
 
 // More cases than any input has.
 const CASES: u64 = 1000000000000;
@@ -38,19 +34,12 @@ fn either(kind: u64, bytes: &[u8]) {
     }
 }
 
-// The case behind a line, in lent memory.
-fn go_on(word: u64, text: &mut [u8])
-    requires { ⌜ 65536 ≡ length (now text) ⌝ }
-{
-    let n = least((word % 4294967296) as usize, BYTES);
-    io::read_full(STDIN_FILENO, &mut text[..n]);
-    either(word / 4294967296, &text[..n]);
-}
-
 // The case behind the line `begin`.
 fn run(begin: &[u8]) {
     let mut text = io::large_buffer();
-    go_on(word_at(begin, 0), &mut text);
+    let word = word_at(begin, 0);
+    let n = read_next((word % 4294967296) as usize, &mut text);
+    either(word / 4294967296, &text[..n]);
 }
 
 // The next case; whether there was one.
