@@ -25,7 +25,7 @@ use Rattle.sheet_solving.specs.Opened.{Opened, opened, opened-good, open
 use Rattle.sheet_limits.specs.Limits.{OwnJudged}
 use Rattle.sheet_solving.specs.declared.Solved.{Solved}
 use Rattle.sheet_solving.specs.Running.{Opening, Running, running-passed, running-known}
-use Rattle.sheet_solving.specs.Solves.{Ends, Ended, Solution}
+use Rattle.sheet_solving.specs.Solves.{Ends, Ended}
 
 -- refused as it is read
 pub read-refused : (t : List ℕ) {r : Refusal} → r ≡ readRefusal t → (r .number ≡ 0 → ⊥) → r ≡ sheetRefusal t
