@@ -18,7 +18,7 @@ use Rattle.model_recipes.specs.Check.{askAt, orElse}
 use Rattle.model_texts.specs.Printed.{decimal, newline, refusedText}
 use Rattle.model_texts.specs.Sentence.{refusalReport}
 use Rattle.model_texts.specs.Sheet.{lined, wordOn, inputCount, restCount, headersRefusal, readRefusal}
-use Rattle.model_texts.specs.Told.{toldText}
+use Rattle.model_forecast.specs.Told.{toldText}
 use Rattle.recipes_check.specs.Asks.{or-none, ask-none}
 use Rattle.sheet_text.specs.Value.{numberAt, behindNumber, decimal-number, decimal-behind}
 use Rattle.sheet_reading.specs.Reading.{sizesTest, restRefusal, after-sizes, count-small}

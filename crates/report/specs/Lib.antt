@@ -1,3 +1,4 @@
+pub mod Before
 pub mod Tells
 pub mod Front
 pub mod Traces
