@@ -6,8 +6,9 @@
  *
  * Every function answers one word.
  *   - A function that makes a polynomial answers its header word, whose low five bits are zero, or a refusal, whose low
- *     five bits are not: number + 256 * place. Done, the announced places of `out` hold the coefficients, then +0.0,
- *     and 8 times as many of `scratch` hold +0.0; the rest is untouched. Refused, no buffer changes.
+ *     five bits are not: number + 2^8 place + 2^16 variable + 2^24 cause. Done, the announced places of `out` hold the
+ *     coefficients, then +0.0, and 8 times as many of `scratch` hold +0.0; the rest is untouched. Refused, no buffer
+ *     changes.
  *   - A function that reads a number answers 0 and writes it through its last pointer, or answers a refusal and writes
  *     nothing.
  *   - taylor_extract_linear answers 0 for no and 1 + variable for yes, or a refusal + 2^32.
@@ -15,7 +16,14 @@
  * Refusals: 1 header word or limit breaks the rules; 2 fewer coefficients than the header says; 3 variable, or a
  * missing variable's index; 4 k, order or index not below the limit, or a total not finite or not above zero; 5 more
  * than 4,096 places, or `out` too short; 6 `scratch` shorter than 8 times the announced count; 11 no running sum
- * reaches q. The lowest wins. The place of these refusals is 64, for none in particular.
+ * reaches q; 12 a constant is not from -8 to 8. The lowest wins. The place of these refusals is 64, for none in
+ * particular.
+ *
+ * Number 1 says which variable is wrong, 4 for none, and the cause, the first of these in order: 1 more than 4
+ * variables; then for each variable in turn 2 its length is above its limit, or 3 it is missing and its fields are not
+ * zero; 4 the last 13 bits are not zero; 5 more than 4,096 coefficients. Cause 6 is a constructor's: variable 4 for too
+ * many limits, else the first that is not 1 to 64. Of two bad operands the first is told. With every other number both
+ * are 0.
  *
  * A buffer is a pointer and a count of doubles. The pointer is aligned and not null, also where the count is 0. `out`,
  * `scratch` and what a float is written to overlap nothing else that is passed. */
@@ -35,7 +43,9 @@ extern "C" {
 static inline int taylor_done(uint64_t answer) { return (answer & 31) == 0; }
 static inline unsigned taylor_refusal_number(uint64_t answer) { return (unsigned)(answer & 255); }
 static inline unsigned taylor_refusal_place(uint64_t answer) { return (unsigned)((answer >> 8) & 255); }
-/* whether taylor_extract_linear was refused; number and place are read as above */
+static inline unsigned taylor_refusal_variable(uint64_t answer) { return (unsigned)((answer >> 16) & 255); }
+static inline unsigned taylor_refusal_cause(uint64_t answer) { return (unsigned)((answer >> 24) & 255); }
+/* whether taylor_extract_linear was refused; number, place, variable and cause are read as above */
 static inline int taylor_linear_refused(uint64_t answer) { return answer >> 32 != 0; }
 
 /* ---- constructors */
@@ -101,6 +111,10 @@ uint64_t taylor_exp(uint64_t head, const double *a, size_t a_len, double value, 
 uint64_t taylor_log(uint64_t head, const double *a, size_t a_len, double value, double *out, size_t out_len, double *scratch,
                     size_t scratch_len);
 
+/* through value e to the x, within 2^-40, relative, of the sum of the series' first 120 terms, for x from -8 to 8: a
+   head that taylor_exp takes; refusal 12 for any other x, a NaN too */
+uint64_t taylor_exp_constant(double x, double *value);
+
 /* a to the power e; 0 gives one with no variables: refusals 1, 2, 5, 6 */
 uint64_t taylor_pow(uint64_t head, const double *a, size_t a_len, uint32_t e, double *out, size_t out_len, double *scratch,
                     size_t scratch_len);
@@ -150,14 +164,17 @@ uint64_t settings_save(uint64_t *words, size_t len, uint64_t department, uint64_
 /* the content of the version `kept` as the next one: refusals 18, 3, 13, 14, 15 */
 uint64_t settings_bring_back(uint64_t *words, size_t len, uint64_t department, uint64_t from, uint64_t kept, uint64_t *version);
 
-/* ---- NumPy array files, version 1.0, little-endian f64 in row order */
+/* ---- NumPy array files: versions 1.0 and 2.0, little-endian f64 and f32, row and column order are read */
 
 /* a file's values in row order at the front of out, limits and lengths its shape: refusals 10, 5, 10 in this order */
 uint64_t taylor_npy_read(const uint8_t *file, size_t file_len, double *out, size_t out_len);
 
-/* the file of a polynomial, its shape the stored lengths, 128 + 8 * count bytes: 0, and its length through written;
- * refusals 1, 2, 5 */
+/* the file of a polynomial, version 1.0, its shape the stored lengths, 128 + 8 * count bytes: 0, and its length through
+ * written; refusals 1, 2, 5 */
 uint64_t taylor_npy_write(uint64_t head, const double *a, size_t a_len, uint8_t *file, size_t file_len, uint64_t *written);
+
+/* the same, version 2.0 */
+uint64_t taylor_npy_write_2(uint64_t head, const double *a, size_t a_len, uint8_t *file, size_t file_len, uint64_t *written);
 
 #ifdef __cplusplus
 }

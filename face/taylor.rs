@@ -2,11 +2,14 @@
 //! coefficients; results are written to slices that the caller lends. taylor.h says what each function does and by
 //! which numbers it refuses.
 
-/// Why a call was refused: the number, and the place it is about, 64 for none in particular. No buffer was changed.
+/// Why a call was refused: the number, and the place it is about, 64 for none in particular; with number 1 the variable
+/// that is wrong, 4 for none, and the cause (taylor.h), else 0 and 0. No buffer was changed.
 #[derive(Clone, Copy, Debug, PartialEq, Eq)]
 pub struct Refusal {
     pub number: u8,
     pub place: u8,
+    pub variable: u8,
+    pub cause: u8,
 }
 
 mod face {
@@ -83,11 +86,14 @@ mod face {
         pub fn settings_bring_back(words: *mut u64, len: usize, department: u64, from: u64, kept: u64, version: *mut u64) -> u64;
         pub fn taylor_npy_read(file: *const u8, file_len: usize, out: *mut f64, out_len: usize) -> u64;
         pub fn taylor_npy_write(head: u64, a: *const f64, a_len: usize, file: *mut u8, file_len: usize, written: *mut u64) -> u64;
+        pub fn taylor_npy_write_2(head: u64, a: *const f64, a_len: usize, file: *mut u8, file_len: usize, written: *mut u64) -> u64;
+        pub fn taylor_exp_constant(x: f64, value: *mut f64) -> u64;
     }
 }
 
 fn refusal(word: u64) -> Refusal {
-    Refusal { number: (word & 255) as u8, place: ((word >> 8) & 255) as u8 }
+    let byte = |from: u32| (word >> from & 255) as u8;
+    Refusal { number: byte(0), place: byte(8), variable: byte(16), cause: byte(24) }
 }
 
 /// A header word's low five bits are zero, a refusal's are not.
@@ -377,14 +383,26 @@ pub fn settings_bring_back(words: &mut [u64], department: u64, from: u64, kept: 
     if word == 0 { Ok(version) } else { Err(refusal(word)) }
 }
 
-/// A NumPy array file's values at the front of `out`: its header word.
+/// A NumPy array file's values, in row order whatever the file's is, at the front of `out`: its header word.
 pub fn npy_read(file: &[u8], out: &mut [f64]) -> Result<u64, Refusal> {
     answer(unsafe { face::taylor_npy_read(file.as_ptr(), file.len(), out.as_mut_ptr(), out.len()) })
 }
 
-/// The NumPy array file of a polynomial at the front of `file`: how many bytes it has.
+/// The NumPy array file of a polynomial, version 1.0, at the front of `file`: how many bytes it has.
 pub fn npy_write(head: u64, a: &[f64], file: &mut [u8]) -> Result<usize, Refusal> {
     let mut written = 0;
     let word = unsafe { face::taylor_npy_write(head, a.as_ptr(), a.len(), file.as_mut_ptr(), file.len(), &mut written) };
     if word == 0 { Ok(written as usize) } else { Err(refusal(word)) }
+}
+
+/// The same, version 2.0.
+pub fn npy_write_2(head: u64, a: &[f64], file: &mut [u8]) -> Result<usize, Refusal> {
+    let mut written = 0;
+    let word = unsafe { face::taylor_npy_write_2(head, a.as_ptr(), a.len(), file.as_mut_ptr(), file.len(), &mut written) };
+    if word == 0 { Ok(written as usize) } else { Err(refusal(word)) }
+}
+
+/// e to the x, within 2^-40, relative, of the sum of the series' first 120 terms; x from -8 to 8.
+pub fn exp_constant(x: f64) -> Result<f64, Refusal> {
+    reading(|value| unsafe { face::taylor_exp_constant(x, value) })
 }

@@ -3,10 +3,13 @@
 
     tests/limits.py SEED COUNT PROGRAM.. -- RECIPE..
 
-runs COUNT random sheets through both programs (each a command of one or more words). The limits, full lengths and the
-verdict are worked out here; the coefficients of the answer are taken from what `recipe` prints, and so is every refusal. Prints
+runs COUNT random sheets through both programs (each a command of one or more words). The limits, full lengths, the
+verdict, the sums and the digits of every number are worked out here; the coefficients of the answer are taken from what
+`recipe` prints, and so is every refusal. Prints
 how many sheets there were and the first difference, if any. tests/limits starts it with the built programs."""
 import random, struct, subprocess, sys
+
+from decimals import printed
 
 NAMES = ["constant", "negate", "add", "subtract", "multiply", "divide", "power", "derivative", "taylor_expansion_of_coeff", "shift_down", "subst_var"]
 USES = ["n", "a", "ab", "ab", "ab", "ab", "an", "avn", "avn", "avn", "abv"]
@@ -14,8 +17,14 @@ HEAD = (
     "Each place: what it is, its number of variables, and of each variable the\n"
     "limit/most it stores. Operands are places, v is a variable, n a number.\n"
 )
+OF_CAUSE = {
+    1: "its number of variables is above 4;\nwrite the word anew.\n",
+    2: "the length of variable %d is above its limit;\nlower the length or raise the limit.\n",
+    3: "variable %d is missing, but its fields are not zero;\nclear them, or count it among the variables.\n",
+    4: "its last 13 bits are not zero;\nclear them.\n",
+    5: "its lengths multiply to more than 4,096;\nlower them.\n",
+}
 OF_PLACE = {
-    1: "its header word breaks the rules; write its limits and lengths anew.\n",
     3: "its variable is not its operand's; name one that the operand has.\n",
     4: "its n is not below the operand's limit; take a smaller n.\n",
     5: "it would hold more than 4,096 coefficients; lower limits or lengths.\n",
@@ -215,53 +224,99 @@ def limits_text(inputs, steps, known):
             seen.add(p)
             made += made_of(step(p), full) if p >= inputs else []
     lost = sorted(p for p in seen if p >= inputs and passing(p))
-    out.append(
+    verdict = (
         "*** CUT: what lies past the limits of place %d is left out. ***\n" % lost[0]
         if lost
         else "*** WHOLE: with each input as it is stored, no limit left anything out. ***\n"
     )
-    return "".join(out)
+    return "".join(out), verdict
 
 
 def number(x):
-    bits = struct.unpack(">Q", struct.pack(">d", x))[0]
-    if x != x:
-        bits = 0x7FF8000000000000
-    elif abs(x) <= 2**53 and x == int(x):
-        return ("-" if bits >> 63 else "") + str(abs(int(x)))
-    return "0x%016x" % bits
+    """A float for people, with Python's decimal module as the judge of the digits."""
+    return printed(0x7FF8000000000000 if x != x else struct.unpack(">Q", struct.pack(">d", x))[0])
 
 
-def figures_text(word, xs):
+def cell(column, width, text):
+    """A text in a column; one that is too wide ends its line, and the next column begins below at its own place."""
+    return text + (" " * (width - len(text)) if len(text) < width else "\n" + " " * (column + width))
+
+
+def running(xs):
+    """The sums of the first 1, 2, .. numbers, from +0.0 upwards."""
+    total, out = 0.0, []
+    for x in xs:
+        total += x
+        out.append(total)
+    return out
+
+
+def inputs_text(heads, coefficients):
+    """What was put in."""
+    out = ["What was put in: of each input its sum, and its first coefficients.\n"] if heads else []
+    for place, ((limits, lengths), xs) in enumerate(zip(heads, coefficients)):
+        filled = "fills its limit" if any(l == n for l, n in zip(limits, lengths)) else "below its limit"
+        out.append("place %d: sum %s, %s\n" % (place, number(running(xs)[-1]), filled if limits else "a constant"))
+        shown = [number(x) for x in xs[:4]]
+        out.append("  " + "".join(cell(2 + 15 * k, 15, t) for k, t in enumerate(shown[:-1])) + shown[-1] + "\n")
+    return "".join(out)
+
+
+def figures_text(word, xs, total):
+    """The figures of the answer; total is None where there is nothing to take parts of."""
     lengths = unpack(word)[1]
     one = len(lengths) == 1
-    out = ["index  coefficient         running sum         tail\n" if one else "index          coefficient\n"]
-    total = 0.0
-    for p, x in enumerate(xs):
+    names = "failures chance or count     this many or fewer" + ("" if total is None else "  more than this many")
+    out = [(names if one else "index          coefficient") + "\n"]
+    for p, (x, sum_) in enumerate(zip(xs, running(xs))):
         index, rest = [], p
         for n in reversed(lengths):
             index.insert(0, rest % n)
             rest //= n
         text = "[" + " ".join(map(str, index)) + "]"
-        total += x
-        out.append("%-7s%-20s%-20s%s\n" % (text, number(x), number(total), number(1.0 - total)) if one else "%-15s%s\n" % (text, number(x)))
+        if not one:
+            out.append(cell(0, 15, text) + number(x) + "\n")
+        elif total is None:
+            out.append(cell(0, 9, text) + cell(9, 20, number(x)) + number(sum_) + "\n")
+        else:
+            out.append(cell(0, 9, text) + cell(9, 20, number(x)) + cell(29, 20, number(sum_)) + number((total - sum_) / total) + "\n")
     return "".join(out)
+
+
+def floating(digits):
+    return struct.unpack(">d", bytes.fromhex(digits))[0]
 
 
 def told(text, said):
     """What `limits` prints for a sheet, said what `recipe` printed for it."""
     if said.startswith("refused"):
-        _, n, place = said.split()
-        n, place = int(n), int(place)
+        n, place, variable, cause = map(int, said.split()[1:])
+        if n == 1:
+            return said + "Input %d: %s" % (place, OF_CAUSE[cause].replace("%d", str(variable)))
         return said + ("Place %d: %s" % (place, OF_PLACE[n]) if place < 64 else OF_SHEET[n])
     words = [int(l, 16) for l in text.split()]
     inputs, count = words[0] >> 56, words[0] >> 48 & 255
     known, steps = [unpack(w) for w in words[1 : 1 + inputs]], words[-count:]
+    heads, coefficients, at = known[:], [], 1 + inputs
+    for _, lengths in heads:
+        stored = 1
+        for n in lengths:
+            stored *= n
+        coefficients.append([floating("%016x" % w) for w in words[at : at + stored]])
+        at += stored
     for w in steps:
         known.append(announce(w, known))
     answer = said.split("\n")[1:-1]
-    xs = [struct.unpack(">d", bytes.fromhex(l))[0] for l in answer[1:]]
-    return limits_text(inputs, steps, known) + figures_text(int(answer[0], 16), xs)
+    xs = [floating(l) for l in answer[1:]]
+    limits, verdict = limits_text(inputs, steps, known)
+    return limits + inputs_text(heads, coefficients) + verdict + figures_text(int(answer[0], 16), xs, 1.0)
+
+
+def fault(rng):
+    """A word that is no header, by each cause."""
+    v, spare = rng.randrange(4), rng.randrange(13)
+    long = pack([2] * 4, [3 if k == v else 1 for k in range(4)])
+    return rng.choice([5 << 61, long, 1 << (49 - 12 * v), 1 << (55 - 12 * v), 1 << spare, pack([64] * 3, [64, 64, 2])])
 
 
 def sheet(rng):
@@ -289,6 +344,8 @@ def sheet(rng):
         if kind == 6 and rng.random() < 0.2:
             n = rng.choice([2**31, 2**32 - 1])  # longer than can be counted, where it is done twice
         steps.append(kind << 60 | a << 54 | b << 48 | v << 46 | n << 14)
+    if inputs and rng.random() < 0.08:
+        lines[rng.randrange(inputs)] = fault(rng)
     if rng.random() < 0.03:
         steps[rng.randrange(count)] |= rng.choice([1, 1 << 63, 1 << 50])
     words = [inputs << 56 | count << 48] + lines + [struct.unpack(">Q", struct.pack(">d", x))[0] for x in coefficients] + steps

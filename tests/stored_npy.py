@@ -4,22 +4,26 @@
     tests/stored_npy.py
 
 Array files are saved by NumPy, or spelt and damaged here; what each says is what NumPy loads where tests/npy.py's regular expression takes it, else the refusal
-that document 02, W2, names. Answers of `recipe` are spelt here, and the array files of theirs are what np.save writes. Nothing is from the code that is tried.
-Stored as it is: what NumPy 1.24.2 of Debian wrote."""
+that document 02, W2 and W12, names. Answers of `recipe` are spelt here, and the array files of theirs are what NumPy writes in version 1.0 and 2.0. Nothing is
+from the code that is tried. Stored as it is: what NumPy 1.24.2 of Debian wrote."""
 import io, os, random, struct, sys
 sys.dont_write_bytecode = True
 import numpy as np
-from npy import expected, lines, refused, saved
+from npy import expected, lines, loaded, ordered, refused, saved, versioned
 
-FILE, ANSWER = 0, 1
+FILE, ANSWER, NEWER = 0, 1, 2
 ODD = [0.0, -0.0, 1.0, -1.0, 0.1, 1e-310, 5e-324, 1.7976931348623157e308, np.inf, -np.inf, np.nan]
 
 def table(shape):
     n = int(np.prod(shape, dtype=int))
     return np.array([ODD[k % len(ODD)] + (k // len(ODD)) for k in range(n)], dtype="<f8").reshape(shape)
 
-def versioned(t, version):
-    b = io.BytesIO(); np.lib.format.write_array(b, t, version=version); return b.getvalue()
+SMALL = [0.0, -0.0, 1.0, -1.0, 0.1, 1e-40, 1.401298464324817e-45, 3.4028234663852886e38, np.inf, -np.inf, np.nan]
+
+def narrow(shape):
+    """f32s: both zeros, subnormals, the largest, infinities, a NaN"""
+    n = int(np.prod(shape, dtype=int))
+    return np.array([SMALL[k % len(SMALL)] + (k // len(SMALL)) for k in range(n)], dtype="<f4").reshape(shape)
 
 def spelt(text, data):
     return b"\x93NUMPY\x01\x00" + struct.pack("<H", len(text)) + text + data
@@ -46,19 +50,29 @@ TEXTS = [b"{'descr': '<f8', 'fortran_order': False, 'shape': (2,)}\n", b"{'descr
 def files():
     for shape in SHAPES: yield saved(table(shape))
     for kind in ("<f4", ">f8", "<i8", "?", "<c16"): yield saved(np.zeros((2, 3)).astype(kind))
-    yield saved(np.asfortranarray(table((2, 3))))
-    for version in ((2, 0), (3, 0)): yield versioned(table((2, 3)), version)
+    for shape in SHAPES:
+        if int(np.prod(shape, dtype=int)) > 64 and shape not in ((64, 64), (16, 16, 16)): continue
+        for t in (table(shape), narrow(shape)):
+            for version in ((1, 0), (2, 0)):
+                if t.size > 64 and (version == (2, 0)) == (t.dtype == np.dtype("<f8")): continue
+                yield versioned(ordered(t), version)
+                if t.size <= 64: yield versioned(t, version)
+    yield versioned(table((2, 3)), (3, 0))
     two = saved(table((2,)))[128:]
     for text in TEXTS: yield spelt(text, two)
     yield spelt(TEXTS[0][:-1] + b" " * (9000 - len(TEXTS[0])) + b"\n", two)
     yield spelt(TEXTS[25], b"")
-    good = saved(np.array([0.25, -0.0]))
-    for p in range(len(good)):
-        yield good[:p] + bytes([good[p] ^ (1 + p % 255)]) + good[p + 1:]
-        yield good[:p] + good[p + 1:]
-        yield good[:p] + good[p:p + 1] + good[p:]
-    for n in range(0, 12): yield good[:n]
-    yield good + good
+    for good in (saved(np.array([0.25, -0.0])), versioned(ordered(narrow((2, 2))), (2, 0))):
+        for p in range(len(good)):
+            yield good[:p] + bytes([good[p] ^ (1 + p % 255)]) + good[p + 1:]
+            yield good[:p] + good[p + 1:]
+            yield good[:p] + good[p:p + 1] + good[p:]
+        for n in range(0, 14): yield good[:n]
+        yield good + good
+    text = TEXTS[0]
+    for length in (0, 1, len(text) - 1, len(text), len(text) + 1, len(text) + 16, len(text) + 17, 65535, 65536, 1 << 24, (1 << 31) - 1, 1 << 31, (1 << 32) - 1):
+        yield b"\x93NUMPY\x02\x00" + struct.pack("<I", length) + text + two
+    yield b"\x93NUMPY\x02\x00" + struct.pack("<I", 65500) + text[:-1] + b" " * (65500 - len(text)) + b"\n" + two
 
 def limited(text, more):
     """the same lines under limits that are larger"""
@@ -83,7 +97,7 @@ def answers():
         yield other, no
     for n in range(0, 16, 3):
         for bad in (b"g", b"A", b"\n", b" "): yield whole[:8 + 17 + n] + bad + whole[8 + 17 + n + 1:], no
-    for line in (b"refused 8 64\n", b"refused 1 0\n", b"refused 12 255\n", b"refused 1 64 0 2\n", b"refused \n", b"refused 7\n"): yield line, line
+    for line in (b"refused 8 64 0 0\n", b"refused 1 0 3 2\n", b"refused 12 255 0 0\n", b"refused 8 64\n", b"refused \n", b"refused 7\n"): yield line, line
     for line in (b"refused", b"refused ", b"refused 8 64", b"refused 8 64\n\n", b"refused 8 64\n0", b"refused a b\n", b"Refused 8 64\n", b"refused 8\t64\n",
                  b" refused 8 64\n", b"refused 8 64\r\n"): yield line, no
     yield b"refused " + b"1" * 55 + b"\n", b"refused " + b"1" * 55 + b"\n"
@@ -93,6 +107,7 @@ def main():
     root = os.path.dirname(os.path.dirname(os.path.abspath(__file__)))
     given, wanted, many = b"", b"", 0
     cases = [(FILE, f, expected(f).encode()) for f in files()] + [(ANSWER, a, w) for a, w in answers() if len(a) <= 65536]
+    cases += [(NEWER, a, versioned(loaded(w), (2, 0)) if w.startswith(b"\x93") else w) for a, w in answers() if len(a) <= 4096]
     for kind, f, w in cases:
         assert len(f) <= 65536
         given += b"%08x%08x\n" % (kind, len(f)) + f; wanted += w
@@ -101,8 +116,8 @@ def main():
             with open(os.path.join(root, "crates", crate, name), "wb") as f: f.write(data)
     kinds = {}
     for kind, f, w in cases:
-        k = ("file " if kind == FILE else "answer ") + (w.decode().split("\n")[0] if w.startswith(b"refused") else "done")
-        if kind == ANSWER and w.startswith(b"refused") and w != refused(8).encode(): k = "answer refusal passed"
+        k = ("file ", "answer ", "answer for 2.0 ")[kind] + (w.decode().split("\n")[0] if w.startswith(b"refused") else "done")
+        if kind != FILE and w.startswith(b"refused") and w != refused(8).encode(): k = "answer refusal passed"
         kinds[k] = kinds.get(k, 0) + 1
     print(len(cases), "cases;", kinds, len(given), len(wanted))
 

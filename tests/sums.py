@@ -28,15 +28,30 @@ def word(limits, lengths):
     return int(text + "0" * 13, 2)
 
 
+def fields(w):
+    """Number of variables, four pairs of limit and length, and the spare bits of a word, good or not."""
+    text = format(w, "064b")
+    pairs = [(int(text[3 + 12 * v : 9 + 12 * v], 2) + 1, int(text[9 + 12 * v : 15 + 12 * v], 2) + 1) for v in range(4)]
+    return int(text[:3], 2), pairs, text[51:]
+
+
+def fault(w):
+    """What is wrong with a header word, the first in the order of document 02, W5: variable, 4 for none, and cause; None of a good one."""
+    variables, pairs, spare = fields(w)
+    if variables > 4:
+        return 4, 1
+    for v, (limit, length) in enumerate(pairs):
+        if v < variables and limit < length:
+            return v, 2
+        if v >= variables and limit + length > 2:
+            return v, 3
+    return (4, 4) if "1" in spare else (4, 5) if count(n for _, n in pairs) > 4096 else None
+
+
 def read(w):
     """Limits and lengths of a good header word, else None."""
-    text = format(w, "064b")
-    variables = int(text[:3], 2)
-    pairs = [(int(text[3 + 12 * v : 9 + 12 * v], 2) + 1, int(text[9 + 12 * v : 15 + 12 * v], 2) + 1) for v in range(4)]
-    if variables > 4 or "1" in text[51:] or any(n > l for l, n in pairs) or any(p != (1, 1) for p in pairs[variables:]):
-        return None
-    limits, lengths = [p[0] for p in pairs[:variables]], [p[1] for p in pairs[:variables]]
-    return (limits, lengths) if count(lengths) <= 4096 else None
+    variables, pairs, _ = fields(w)
+    return None if fault(w) else ([p[0] for p in pairs[:variables]], [p[1] for p in pairs[:variables]])
 
 
 def count(lengths):
@@ -167,7 +182,21 @@ def held(w, values):
 
 
 def first_refusal(*tests):
-    return next((number for ok, number in tests if not ok()), 0)
+    """Number, variable and cause of the first test that fails, 0 where none does; a test answers whether it holds, or the fault that it found."""
+    for test, number in tests:
+        found = test()
+        if found is not True:
+            return number, *(found or (0, 0))
+    return 0
+
+
+def good(w):
+    return lambda: fault(w) or True
+
+
+def good_limits(ls):
+    """Limits that a constructor is given: the first that is none."""
+    return next(((v, 6) for v, l in enumerate(ls) if not 1 <= l <= 64), True)
 
 
 class Case:
@@ -197,7 +226,7 @@ class Case:
         out = [SENTINEL] * self.lent
         scratch = ["s"] * self.scratch
         if refusal:
-            head = "refused %d 64" % refusal
+            head = "refused %d 64 %d %d" % refusal
         else:
             head = "done %016x" % header
             out[:announced] = values + [0.0] * (announced - len(values))
@@ -217,7 +246,6 @@ class Case:
             return self.reading()
         if self.op >= 10:
             return self.constructor()
-        good = lambda w: lambda: read(w) is not None
         if self.op in (1, 2, 5):
             def announced():
                 (la, na), (lb, nb) = read(self.ah), read(self.bh)
@@ -258,13 +286,12 @@ class Case:
 
     def constructor(self):
         x, c, v, limits = self.at, self.c, self.v, list(self.x)
-        bad = lambda ls: any(not 1 <= l <= 64 for l in ls)
         room = lambda n: (lambda: n <= self.lent, 5)
         if self.op in (11, 16, 17):
             r = first_refusal(room(1))
             return self.write(r, word([], []), 1, [{11: float(c), 16: 0.0, 17: 1.0}[self.op]])
         if self.op in (10, 12):
-            r = first_refusal((lambda: self.variables <= 4 and not bad(limits[: self.variables]), 1), room(1))
+            r = first_refusal((lambda: (4, 6) if self.variables > 4 else good_limits(limits[: self.variables]), 1), room(1))
             return self.write(r, 0 if r else word(limits[: self.variables], [1] * self.variables), 1, [0.0 if self.op == 10 else float(c)])
         if self.op in (13, 14):
             given, variables, first = [limits[0]], v + 1, [(lambda: v <= 3, 3)]
@@ -273,7 +300,7 @@ class Case:
             given, variables, first = limits[: self.variables], self.variables, [(lambda: v < self.variables, 3)]
             all_limits = given
         two = lambda: min(2, all_limits[v])
-        r = first_refusal((lambda: (self.op != 15 or variables <= 4) and not bad(given), 1), *first, (lambda: two() <= self.lent, 5))
+        r = first_refusal((lambda: (4, 6) if self.op == 15 and variables > 4 else good_limits(given), 1), *first, (lambda: two() <= self.lent, 5))
         if r:
             return self.write(r, 0, 0, [])
         lengths = [two() if k == v else 1 for k in range(variables)]
@@ -282,7 +309,7 @@ class Case:
     def reading(self):
         limits = lambda: read(self.ah)[0]
         index = list(self.x)
-        tests = [(lambda: read(self.ah) is not None, 1), (self.full(self.ah, self.a), 2)]
+        tests = [(good(self.ah), 1), (self.full(self.ah, self.a), 2)]
         if self.op == 20:
             tests += [(lambda: all(i == 0 for i in index[len(limits()) :]), 3), (lambda: all(i < l for i, l in zip(index, limits())), 4)]
         if self.op == 24:
@@ -291,7 +318,7 @@ class Case:
             tests += [(lambda: len(limits()) == 1, 3), (lambda: self.reaching() is not None, 11)]
         r = first_refusal(*tests)
         if r:
-            return "refused %d 64" % r
+            return "refused %d 64 %d %d" % r
         if self.op == 25:
             return "done %016x" % self.reaching()
         ls, lengths, values = held(self.ah, self.a)
@@ -326,6 +353,21 @@ def cases():
     yield Case(0, word([8], [8]), specials, lent=7)
     yield Case(0, word([8], [8]), specials[:7], lent=8)
     yield Case(0, word([8], [8]) + 1, specials, lent=8)
+    # every cause of a fault at its edge, in each variable that it can name, and of two faults the first
+    of = lambda variables, pairs, spare=0: variables << 61 | sum((l - 1) << 55 - 12 * v | (n - 1) << 49 - 12 * v for v, (l, n) in enumerate(pairs)) | spare
+    ones = [(1, 1)] * 4
+    put = lambda v, pair, rest=ones: rest[:v] + [pair] + rest[v + 1 :]
+    faulty = [of(n, ones) for n in (4, 5, 6, 7)] + [of(4, put(v, (l, l + 1))) for v in range(4) for l in (1, 63)]
+    faulty += [of(n, put(v, pair)) for n in range(4) for v in range(n, 4) for pair in ((2, 1), (1, 2), (64, 64))]
+    faulty += [of(1, ones, 1 << bit) for bit in (0, 1, 12)] + [of(3, [(64, 64), (64, 64), (n, n), (1, 1)]) for n in (1, 2)]
+    faulty += [2**64 - 1, of(2, put(0, (1, 2), put(3, (2, 1)))), of(1, put(0, (3, 4), put(1, (1, 2))), 1), of(3, [(64, 64)] * 3 + [(1, 1)], 1)]
+    for w in faulty:
+        yield Case(0, w, [1.0], lent=2)
+        yield Case(21, w, [1.0])
+    for w, u in zip(faulty[1:], faulty[5:]):
+        for op in (1, 5):
+            yield Case(op, w, [1.0], u, [1.0], lent=2, scratch=16)
+            yield Case(op, none, [1.0], u, [], lent=2, scratch=16)
     yield Case(0, none, [2.0], lent=1)
     yield Case(0, none, [], lent=1)
     yield Case(0, none, [2.0], lent=0)
@@ -374,7 +416,9 @@ def cases():
         yield Case(11, c=2**32 - 1, lent=lent)
         yield Case(13, v=0, x=(2, 0, 0, 0), lent=lent)
         yield Case(13, v=3, x=(1, 0, 0, 0), lent=lent)
-    for limits, n in (((3, 4, 0, 99), 2), ((1, 64, 1, 64), 4), ((0, 1, 1, 1), 1), ((1, 65, 1, 1), 2), ((1, 65, 1, 1), 1), ((1, 1, 1, 1), 5), ((7, 7, 7, 7), 0)):
+    given = [((3, 4, 0, 99), 2), ((1, 64, 1, 64), 4), ((0, 1, 1, 1), 1), ((1, 65, 1, 1), 2), ((1, 65, 1, 1), 1), ((1, 1, 1, 1), 5), ((7, 7, 7, 7), 0)]
+    given += [((0, 65, 0, 0), 5), ((65, 0, 1, 1), 2), ((64, 64, 64, 65), 4), ((64, 64, 64, 65), 3)]
+    for limits, n in given:
         yield Case(10, x=limits, variables=n, lent=3)
         yield Case(12, c=12345, x=limits, variables=n, lent=3)
         for v in (0, 1, 4):

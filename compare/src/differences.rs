@@ -4,7 +4,7 @@
 use crate::case::Case;
 use crate::operations::named;
 use crate::outcome::{expected, Answer};
-use crate::words::Header;
+use crate::words::{Fault, Header};
 use genfer::multivariate_taylor::TaylorPoly;
 use genfer::number::F64;
 use genfer::ppl::Var;
@@ -38,7 +38,7 @@ fn done(limits: &[usize], lengths: &[usize]) -> Answer {
 }
 
 fn refused(number: u64) -> Answer {
-    Answer::Refused { number, place: 64 }
+    Answer::Refused { number, place: 64, fault: Fault { variable: 0, cause: 0 } }
 }
 
 const NONE: Header = Header { vars: 0, limits: [1; 4], lengths: [1; 4] };

@@ -89,7 +89,7 @@ fn about_sum(a: &[f64], rng: &mut Rng) -> u64 {
 fn announced(case: &Case) -> usize {
     match (case.op.gate)(case) {
         Ok(header) => header.count(),
-        Err(refusal) if refusal.0 == 5 => COUNT + 1,
+        Err(refusal) if refusal.number == 5 => COUNT + 1,
         Err(_) => 0,
     }
 }
@@ -120,11 +120,21 @@ fn lent(rng: &mut Rng, needed: usize, more: usize) -> usize {
     }
 }
 
+fn bad(word: u64, rng: &mut Rng) -> u64 {
+    shapes::bad(rng, &Header::read(word).expect("a good header"))
+}
+
+/// A header, of two operands now and then both, or the number of coefficients.
 fn spoil(case: &mut Case, rng: &mut Rng, size: Size) {
     let second = case.op.operands == 2 && rng.chance(500);
     let (word, list) = if second { (&mut case.bh, &mut case.b) } else { (&mut case.ah, &mut case.a) };
     match rng.below(10) {
-        0 => *word = shapes::bad(rng, &Header::read(*word).expect("a good header")),
+        0 => {
+            *word = bad(*word, rng);
+            if case.op.operands == 2 && rng.chance(300) {
+                (case.ah, case.bh) = if second { (bad(case.ah, rng), case.bh) } else { (case.ah, bad(case.bh, rng)) };
+            }
+        }
         1 => list.truncate(list.len() - 1),
         2 if rng.chance(200) => list.clear(),
         _ if size.operand < COUNT && list.len() + 1 >= size.operand => {}

@@ -36,10 +36,6 @@ impl Told {
     }
 }
 
-fn refused((number, place): Refused) -> String {
-    format!("refused {number} {place}")
-}
-
 /// Equal neighbours once, with their count.
 fn places(words: &[u64]) -> String {
     let show = |run: &[u64]| match run.len() {
@@ -86,13 +82,13 @@ impl Lending {
     fn admitted(&self) -> Result<Told, Refused> {
         let told = Told::of(&self.recipe)?;
         if self.recipe.coefficients.len() < told.inputs {
-            return Err((2, PLACE));
+            return Err(Refused::at(2, PLACE));
         }
         if self.pool < told.pool() || self.words < told.steps.len() {
-            return Err((5, PLACE));
+            return Err(Refused::at(5, PLACE));
         }
         if self.scratch < 8 * told.largest() {
-            return Err((6, PLACE));
+            return Err(Refused::at(6, PLACE));
         }
         Ok(told)
     }
@@ -101,7 +97,7 @@ impl Lending {
     fn ran(&self) -> (String, [Vec<u64>; 3]) {
         let told = match self.admitted() {
             Ok(told) => told,
-            Err(why) => return (refused(why), [vec![], vec![], vec![]]),
+            Err(why) => return (why.to_string(), [vec![], vec![], vec![]]),
         };
         let (mut pool, mut words) = (vec![], vec![]);
         for (announced, (header, coefficients)) in told.steps.iter().zip(&values(&self.recipe)[self.recipe.headers.len()..]) {
@@ -118,7 +114,7 @@ impl Lending {
     pub fn reply(&self) -> String {
         let check = match Told::of(&self.recipe) {
             Ok(told) => format!("accepted {} {} {}", told.pool(), told.largest(), told.inputs),
-            Err(why) => refused(why),
+            Err(why) => why.to_string(),
         };
         let (run, [pool, words, scratch]) = self.ran();
         let lent = |used: Vec<u64>, lent: usize| places(&filled(used, lent));

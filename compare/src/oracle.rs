@@ -228,7 +228,7 @@ pub fn least(case: &Case) -> Given {
 
 /// The least k whose running sum is at least q.
 pub fn reaching(case: &Case) -> Option<u64> {
-    let (count, q) = (Header::read(case.ah)?.count(), f64::from_bits(case.numbers[0]));
+    let (count, q) = (Header::read(case.ah).ok()?.count(), f64::from_bits(case.numbers[0]));
     let sums = (0..count).map(|k| case.a[..=k].iter().fold(0.0, |sum, x| sum + x));
     sums.zip(0..).filter(|(sum, _)| *sum >= q).map(|(_, k)| k).min()
 }

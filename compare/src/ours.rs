@@ -6,6 +6,7 @@ use crate::taylor::{self, Refusal};
 use expected::case::{sentinels, Case, SENTINEL};
 use expected::operations::Gives;
 use expected::outcome::{difference, Answer, Outcome};
+use expected::words::Fault;
 
 type Told = Result<u64, Refusal>;
 
@@ -130,7 +131,11 @@ pub fn answer(case: &Case) -> Outcome {
     let lent = Lent { case, a: a.lent(), b: b.lent(), out: out.lent(), scratch: scratch.lent() };
     let mut answer = match call(lent) {
         Ok(word) => Answer::Done(word),
-        Err(refusal) => Answer::Refused { number: refusal.number.into(), place: refusal.place.into() },
+        Err(refusal) => Answer::Refused {
+            number: refusal.number.into(),
+            place: refusal.place.into(),
+            fault: Fault { variable: refusal.variable.into(), cause: refusal.cause.into() },
+        },
     };
     if !out.is_guarded() || !scratch.is_guarded() {
         answer = Answer::Failed("a place past a lent buffer was written".into());
@@ -154,9 +159,13 @@ fn agreeing(case: &Case, outcome: Outcome) -> Outcome {
     }
 }
 
-/// A float's reading answers 0 or number + 256 * place; `extract_linear` adds 2^32 to a refusal.
+/// A float's reading answers 0 or number + 2^8 place + 2^16 variable + 2^24 cause; `extract_linear` adds 2^32 to a
+/// refusal.
 fn told(gives: Gives, word: u64) -> Answer {
-    let refused = |word: u64| Answer::Refused { number: word % 256, place: word / 256 };
+    let refused = |word: u64| {
+        let [number, place, variable, cause] = [0, 8, 16, 24].map(|from| word >> from & 255);
+        Answer::Refused { number, place, fault: Fault { variable, cause } }
+    };
     match gives {
         Gives::Line if word >> 32 == 1 => refused(word - (1 << 32)),
         Gives::Line => Answer::Done(word),

@@ -3,7 +3,7 @@
 use crate::case::{sentinels, Case};
 use crate::oracle::{taken, Given, Poly};
 use crate::refusals::{Refusal, PLACE};
-use crate::words::{bits, Header};
+use crate::words::{bits, Fault, Header};
 use std::panic::{catch_unwind, AssertUnwindSafe};
 
 #[derive(Clone, Debug, PartialEq, Eq)]
@@ -13,6 +13,7 @@ pub enum Answer {
     Refused {
         number: u64,
         place: u64,
+        fault: Fault,
     },
     /// the source panicked, or broke what document 01 announces
     Failed(String),
@@ -28,7 +29,7 @@ pub struct Outcome {
 pub fn expected(case: &Case) -> Outcome {
     let (mut out, mut scratch) = (sentinels(case.out), sentinels(case.scratch));
     let answer = match (case.op.gate)(case) {
-        Err(Refusal(number)) => Answer::Refused { number, place: PLACE },
+        Err(Refusal { number, fault }) => Answer::Refused { number, place: PLACE, fault },
         Ok(announced) => match catch_unwind(AssertUnwindSafe(|| (case.op.source)(case))) {
             Err(cause) => Answer::Failed(format!("the source panicked: {}", message(&*cause))),
             Ok(Given::Read(word, values)) => {
@@ -75,10 +76,10 @@ pub fn difference(expected: &Outcome, got: &Outcome) -> Option<String> {
     })
 }
 
-fn told(answer: &Answer) -> String {
+pub fn told(answer: &Answer) -> String {
     match answer {
         Answer::Done(word) => format!("done {word:016x}"),
-        Answer::Refused { number, place } => format!("refused {number} {place}"),
+        Answer::Refused { number, place, fault } => format!("refused {number} {place} {} {}", fault.variable, fault.cause),
         Answer::Failed(cause) => cause.clone(),
     }
 }

@@ -23,7 +23,7 @@ pub fn constant(n: u64) -> u64 {
 
 /// Inputs hold 1, 2, 3 .., as many as their headers store; a bad header stores none.
 pub fn counting(headers: &[u64], steps: &[u64]) -> Recipe {
-    let stored: usize = headers.iter().filter_map(|word| Header::read(*word)).map(|h| h.count()).sum();
+    let stored: usize = headers.iter().filter_map(|word| Header::read(*word).ok()).map(|h| h.count()).sum();
     let coefficients = (1..=stored).map(|k| k as f64).collect();
     Recipe { headers: headers.to_vec(), coefficients, steps: steps.to_vec() }
 }
@@ -149,6 +149,44 @@ pub fn bad_headers() -> [u64; 8] {
     ]
 }
 
+/// Every cause of document 02, W5, at its edge, in each variable that it can name, beside words that just keep the
+/// rule; then words with two faults, of which the first in its order is told.
+pub fn faults() -> Vec<u64> {
+    let long = |v: usize, limit: usize| {
+        let (mut limits, mut lengths) = ([2; 4], [1; 4]);
+        (limits[v], lengths[v]) = (limit, limit + 1);
+        word(&limits, &lengths)
+    };
+    let limit = |v: usize, field: u64| field << (55 - 12 * v);
+    let length = |v: usize, field: u64| field << (49 - 12 * v);
+    let vars = |n: usize| word(&vec![2; n], &vec![1; n]);
+    let mut all: Vec<u64> = [4, 5, 6, 7].map(|n| n << 61).to_vec();
+    all.extend((0..4).flat_map(|v| [1, 2, 63].map(|l| long(v, l))));
+    for n in 0..4 {
+        all.extend(
+            (n..4)
+                .flat_map(|v| [limit(v, 1), limit(v, 63), length(v, 1), limit(v, 1) | length(v, 2)])
+                .map(|field| vars(n) | field),
+        );
+    }
+    all.extend((0..13).map(|bit| line(3, 2) | 1 << bit));
+    let square = |lengths: &[usize]| word(lengths, lengths);
+    all.extend([square(&[64, 64]), square(&[2, 41, 50]), square(&[64, 64, 2]), square(&[64; 4])]);
+    let large = square(&[64, 64, 2]);
+    all.extend([
+        7 << 61 | large | 1,
+        word(&[1, 2, 2, 1], &[2, 1, 1, 2]),
+        long(3, 1) | 1,
+        line(3, 4) | limit(3, 1),
+        line(3, 3) | limit(2, 1) | length(3, 1),
+        line(3, 3) | length(1, 1) | 1 << 12,
+        large | 1,
+        large | length(3, 1) | 1,
+        vars(2) | length(2, 5),
+    ]);
+    all
+}
+
 /// A bad header at the first, a middle and the last place, also with a wrong step behind it, and with another bad one.
 pub fn headers() -> Vec<Recipe> {
     let (good, bad) = (line(3, 1), bad_headers());
@@ -160,6 +198,7 @@ pub fn headers() -> Vec<Recipe> {
         heads[15] = bad[1];
         all.push(counting(&heads, &[constant(1)]));
     }
+    all.extend(faults().into_iter().map(|word| counting(&[good, word], &[constant(1)])));
     all.push(counting(&[bad[0]; 17], &[constant(1)]));
     all.push(counting(&[bad[0]], &[]));
     all

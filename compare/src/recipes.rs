@@ -4,8 +4,8 @@
 use crate::case::Case;
 use crate::operations::named;
 use crate::oracle::{taken, Given};
-use crate::refusals::{self, below_limit, PLACE};
-use crate::words::{Header, COUNT};
+use crate::refusals::{self, below_limit, Refusal, PLACE};
+use crate::words::{Fault, Header, COUNT};
 
 #[derive(Clone)]
 pub struct Recipe {
@@ -15,8 +15,31 @@ pub struct Recipe {
     pub steps: Vec<u64>,
 }
 
-/// Number and place.
-pub type Refused = (u64, u64);
+/// A refusal at a place.
+pub struct Refused {
+    pub place: u64,
+    pub why: Refusal,
+}
+
+impl Refused {
+    /// By a number alone.
+    pub fn at(number: u64, place: u64) -> Self {
+        Refused { place, why: Refusal::by(number) }
+    }
+
+    /// A header's fault.
+    pub fn header(fault: Fault, place: usize) -> Self {
+        Refused { place: place as u64, why: fault.into() }
+    }
+}
+
+/// As a program prints it.
+impl std::fmt::Display for Refused {
+    fn fmt(&self, f: &mut std::fmt::Formatter) -> std::fmt::Result {
+        let Refusal { number, fault } = &self.why;
+        write!(f, "refused {number} {} {} {}", self.place, fault.variable, fault.cause)
+    }
+}
 
 /// A header and the coefficients that it stores.
 pub type Value = (Header, Vec<f64>);
@@ -96,7 +119,7 @@ impl Step {
             5 => refusals::announced_quotient(&a, &b),
             6 => refusals::announced_power(&a, self.n as usize),
             7..=9 => {
-                let v = below_limit(&a, self.variable, self.n).map_err(|refusal| refusal.0)?;
+                let v = below_limit(&a, self.variable, self.n).map_err(|refusal| refusal.number)?;
                 refusals::announced_shift(&a, v, self.n as usize)
             }
             _ => refusals::announced_substitution(&a, &b, self.variable),
@@ -151,14 +174,14 @@ pub fn right_sizes(inputs: usize, steps: usize) -> bool {
 /// The check on words alone: what every place announces.
 pub fn check(headers: &[u64], steps: &[u64]) -> Result<Vec<Header>, Refused> {
     if !right_sizes(headers.len(), steps.len()) {
-        return Err((7, PLACE));
+        return Err(Refused::at(7, PLACE));
     }
     let mut known = vec![];
     for word in headers {
-        known.push(Header::read(*word).ok_or((1, known.len() as u64))?);
+        known.push(Header::read(*word).map_err(|fault| Refused::header(fault, known.len()))?);
     }
     for word in steps {
-        known.push(Step::read(*word).announced(&known).map_err(|number| (number, known.len() as u64))?);
+        known.push(Step::read(*word).announced(&known).map_err(|number| Refused::at(number, known.len() as u64))?);
     }
     Ok(known)
 }

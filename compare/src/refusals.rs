@@ -4,20 +4,36 @@
 
 use crate::case::Case;
 use crate::oracle;
-use crate::words::{Header, COUNT, LIMIT, VARIABLES};
+use crate::words::{Fault, Header, COUNT, LIMIT, VARIABLES};
 
-/// A refusal's number. Its place is 64 in a single operation.
-pub struct Refusal(pub u64);
+/// A refusal's number, with the fault that 1 tells (document 02, W5). Its place is 64 in a single operation.
+pub struct Refusal {
+    pub number: u64,
+    pub fault: Fault,
+}
 pub const PLACE: u64 = 64;
+
+impl Refusal {
+    /// By a number alone.
+    pub fn by(number: u64) -> Self {
+        Refusal { number, fault: Fault { variable: 0, cause: 0 } }
+    }
+}
+
+impl From<Fault> for Refusal {
+    fn from(fault: Fault) -> Self {
+        Refusal { number: 1, fault }
+    }
+}
 
 pub type Gate = Result<Header, Refusal>;
 
 fn demand(holds: bool, number: u64) -> Result<(), Refusal> {
-    holds.then_some(()).ok_or(Refusal(number))
+    holds.then_some(()).ok_or(Refusal::by(number))
 }
 
 fn good(word: u64) -> Gate {
-    Header::read(word).ok_or(Refusal(1))
+    Ok(Header::read(word)?)
 }
 
 fn is_limit(limit: u64) -> bool {
@@ -216,11 +232,16 @@ pub fn least(case: &Case) -> Gate {
     Ok(a)
 }
 
-/// Limits given to a constructor: how many, then four numbers.
+/// Limits given to a constructor: how many, then four numbers. Too many is told before any limit, then the first that
+/// is none.
 fn given(numbers: &[u64]) -> Gate {
-    demand(numbers[0] <= VARIABLES as u64, 1)?;
+    if numbers[0] > VARIABLES as u64 {
+        return Err(Fault::of_none(6).into());
+    }
     let limits = &numbers[1..][..numbers[0] as usize];
-    demand(limits.iter().all(|l| is_limit(*l)), 1)?;
+    if let Some(v) = limits.iter().position(|l| !is_limit(*l)) {
+        return Err(Fault::of(v, 6).into());
+    }
     let limits: Vec<usize> = limits.iter().map(|l| *l as usize).collect();
     Ok(Header::new(&limits, &vec![1; limits.len()]))
 }
@@ -252,10 +273,12 @@ pub fn var_with_degrees_p1(case: &Case) -> Gate {
     variable(case, case.numbers[0], given(&case.numbers[2..])?)
 }
 
-/// Numbers v, .., limit: every variable up to v has the limit.
+/// Numbers v, .., limit: every variable up to v has the limit, variable 0 first.
 pub fn var(case: &Case) -> Gate {
     let (v, limit) = (case.numbers[0], case.numbers[case.numbers.len() - 1]);
-    demand(is_limit(limit), 1)?;
+    if !is_limit(limit) {
+        return Err(Fault::of(0, 6).into());
+    }
     demand(v < VARIABLES as u64, 3)?;
     let limits = vec![limit as usize; v as usize + 1];
     variable(case, v, Header::new(&limits, &vec![1; limits.len()]))

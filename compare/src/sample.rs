@@ -6,7 +6,7 @@
 use expected::case::{Case, SENTINEL};
 use expected::generate::{self, Size};
 use expected::operations::{known, Gives, OPERATIONS};
-use expected::outcome::{expected, Answer, Outcome};
+use expected::outcome::{expected, told, Answer, Outcome};
 use expected::rng::Rng;
 use expected::words::bits;
 use std::process::ExitCode;
@@ -55,8 +55,8 @@ fn reply(case: &Case, outcome: &Outcome) -> Result<String, String> {
     let places: String = outcome.out.iter().map(hex).collect();
     let done = match (&outcome.answer, case.op.gives) {
         (Answer::Failed(cause), _) => return Err(format!("{cause}\n{}", case.text())),
-        (Answer::Refused { number, place }, Gives::Polynomial) => format!("refused {number} {place}{places}"),
-        (Answer::Refused { number, place }, _) => format!("refused {number} {place}"),
+        (Answer::Refused { .. }, Gives::Polynomial) => format!("{}{places}", told(&outcome.answer)),
+        (Answer::Refused { .. }, _) => told(&outcome.answer),
         (Answer::Done(word), Gives::Polynomial) => format!("done {word:016x}{places}"),
         (Answer::Done(_), Gives::Float) => format!("done{places}"),
         (Answer::Done(word), Gives::Line) => format!("done {}{places} {}", word.min(&1), word.saturating_sub(1)),

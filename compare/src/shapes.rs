@@ -116,7 +116,7 @@ pub fn bad(rng: &mut Rng, good: &Header) -> u64 {
         4 => Header::new(&[64, 64, 64], &[64, 64, 2]).word(),
         _ => rng.next(),
     };
-    if Header::read(bad).is_none() {
+    if Header::read(bad).is_err() {
         bad
     } else {
         rng.pick(&[word | 1, 5 << 61, u64::MAX])

@@ -13,11 +13,11 @@ struct Lines<'a>(&'a [u8]);
 impl Lines<'_> {
     /// Sixteen lower-case hex digits and a newline, else 8.
     fn next(&mut self) -> Result<u64, Refused> {
-        let bad = (8, PLACE);
-        let line = self.0.get(..17).ok_or(bad)?;
+        let bad = || Refused::at(8, PLACE);
+        let line = self.0.get(..17).ok_or_else(bad)?;
         let digits = &line[..16];
         if line[16] != b'\n' || !digits.iter().all(|d| matches!(d, b'0'..=b'9' | b'a'..=b'f')) {
-            return Err(bad);
+            return Err(bad());
         }
         self.0 = &self.0[17..];
         let text = std::str::from_utf8(digits).expect("digits");
@@ -35,18 +35,18 @@ fn read(sheet: &[u8]) -> Result<Recipe, Refused> {
     let first = lines.next()?;
     let (inputs, steps) = ((first >> 56) as usize, (first >> 48 & 255) as usize);
     if !right_sizes(inputs, steps) || first << 16 != 0 {
-        return Err((7, PLACE));
+        return Err(Refused::at(7, PLACE));
     }
     let (mut headers, mut count) = (vec![], 0);
     for place in 0..inputs {
         let word = lines.next()?;
-        count += Header::read(word).ok_or((1, place as u64))?.count();
+        count += Header::read(word).map_err(|fault| Refused::header(fault, place))?.count();
         headers.push(word);
     }
     let coefficients = lines.many(count)?.into_iter().map(f64::from_bits).collect();
     let steps = lines.many(steps)?;
     if !lines.0.is_empty() {
-        return Err((8, PLACE));
+        return Err(Refused::at(8, PLACE));
     }
     Ok(Recipe { headers, coefficients, steps })
 }
@@ -61,7 +61,7 @@ fn answer(sheet: &[u8]) -> Result<String, Refused> {
     let recipe = read(sheet)?;
     let known = check(&recipe.headers, &recipe.steps)?;
     if !is_small(&known, recipe.headers.len()) {
-        return Err((5, PLACE));
+        return Err(Refused::at(5, PLACE));
     }
     let (header, coefficients) = values(&recipe).pop().expect("a step");
     let lines: String = coefficients.iter().map(|x| format!("{:016x}\n", bits(*x))).collect();
@@ -70,7 +70,7 @@ fn answer(sheet: &[u8]) -> Result<String, Refused> {
 
 /// What the program has to print.
 pub fn printed(sheet: &[u8]) -> String {
-    answer(sheet).unwrap_or_else(|(number, place)| format!("refused {number} {place}\n"))
+    answer(sheet).unwrap_or_else(|why| format!("{why}\n"))
 }
 
 fn text(words: impl IntoIterator<Item = u64>) -> Vec<u8> {

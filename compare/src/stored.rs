@@ -36,9 +36,10 @@ fn write(words: &[&str]) -> Result<(), String> {
     put(answers, replies)
 }
 
-/// Cases and replies, a line each.
+/// Cases and replies, a line each: those that fit the memory of `replay_recipes`.
 fn recipes(seed: u64, count: u64) -> (Vec<u8>, Vec<u8>) {
     let mut all = recipe_edges::all();
+    all.retain(|lending| lending.recipe.coefficients.len() <= 1024);
     all.extend((0..count).map(|case| small(&mut Rng::new(seed, b'r', case))));
     let lines = |of: fn(&Lending) -> String| all.iter().map(|lending| of(lending) + "\n").collect::<String>().into_bytes();
     (lines(Lending::text), lines(Lending::reply))
@@ -61,9 +62,10 @@ fn small(rng: &mut Rng) -> Lending {
     }
 }
 
-/// Sheets, and what is printed for each.
+/// Sheets, and what is printed for each: those that fit the memory of `replay_sheets`.
 fn sheets(seed: u64, count: u64) -> (Vec<u8>, Vec<u8>) {
     let mut all = sheet_edges::all();
+    all.retain(|sheet| sheet.len() <= 65536);
     all.extend((0..count).map(|case| sheets::random(&mut Rng::new(seed, b's', case))));
     let questions = all.iter().flat_map(|sheet| [format!("{:016x}\n", sheet.len()).into_bytes(), sheet.clone()].concat());
     (questions.collect(), all.iter().flat_map(|sheet| sheets::printed(sheet).into_bytes()).collect())

@@ -1,4 +1,5 @@
-//! Header words, limits and lengths, as document 01 gives them ('What a polynomial is here').
+//! Header words, limits and lengths, as document 01 gives them ('What a polynomial is here'), and what is wrong with a
+//! word, as document 02 tells it (W5).
 
 pub const VARIABLES: usize = 4;
 pub const LIMIT: u64 = 64;
@@ -10,6 +11,24 @@ pub struct Header {
     pub vars: usize,
     pub limits: [usize; VARIABLES],
     pub lengths: [usize; VARIABLES],
+}
+
+/// What is wrong: the variable, 4 for none, and the cause, 1 to 6.
+#[derive(Copy, Clone, Debug, PartialEq, Eq)]
+pub struct Fault {
+    pub variable: u64,
+    pub cause: u64,
+}
+
+impl Fault {
+    /// Of no variable.
+    pub fn of_none(cause: u64) -> Self {
+        Fault { variable: 4, cause }
+    }
+
+    pub fn of(variable: usize, cause: u64) -> Self {
+        Fault { variable: variable as u64, cause }
+    }
 }
 
 impl Header {
@@ -30,14 +49,28 @@ impl Header {
         }
     }
 
-    /// The header of a good word: document 01's rules of a header, all of them.
-    pub fn read(word: u64) -> Option<Self> {
+    /// The header of a good word: document 01's rules of a header, all of them, in document 02's order.
+    pub fn read(word: u64) -> Result<Self, Fault> {
         let header = Self::fields(word);
-        let inside = (0..VARIABLES).all(|v| header.lengths[v] <= header.limits[v]);
-        let missing = (0..VARIABLES).skip(header.vars);
-        let bare = missing.into_iter().all(|v| header.limits[v] == 1 && header.lengths[v] == 1);
-        let spare = word & 0x1fff;
-        (header.vars <= VARIABLES && inside && bare && spare == 0 && header.count() <= COUNT).then_some(header)
+        if header.vars > VARIABLES {
+            return Err(Fault::of_none(1));
+        }
+        for v in 0..VARIABLES {
+            let (limit, length) = (header.limits[v], header.lengths[v]);
+            if v >= header.vars && (limit, length) != (1, 1) {
+                return Err(Fault::of(v, 3));
+            }
+            if length > limit {
+                return Err(Fault::of(v, 2));
+            }
+        }
+        if word % (1 << 13) > 0 {
+            return Err(Fault::of_none(4));
+        }
+        if header.count() > COUNT {
+            return Err(Fault::of_none(5));
+        }
+        Ok(header)
     }
 
     pub fn word(&self) -> u64 {

@@ -21,11 +21,12 @@ use Rattle.model.specs.declared.Family.{Family}
 use Rattle.model.specs.Header.{limit, stored, zeroWith, varWith}
 use Rattle.model.specs.Places.{inside}
 use Rattle.model.specs.Word.{headerOf, goodWord, wordOf}
-use Rattle.model.specs.Refusals.{askFor, ask, noRefusal, refusedBy, fits, roomy, answerBy, readBy, linearBy, leaves, written}
+use Rattle.model.specs.Refusals.{askFor, ask, noRefusal, refusedBy, refusedFor, fits, roomy, answerBy, readBy, linearBy, leaves, written}
 use Rattle.model.specs.Poly.{Poly}
 use Rattle.model.specs.Answers.{answered, outAfter}
 use Rattle.model.specs.Gates.{badWord, askWord, full, readGate, noMissing, indexGate, oneGate, workGate, inGate, pairGate}
-use Rattle.model.specs.Gates.{goodLimit, goodLimits, withGate, varWithGate, varHeader, varGate, announcedOne}
+use Rattle.model.specs.Faults.{fault, goodLimit, limitsFault}
+use Rattle.model.specs.Gates.{goodLimits, askLimits, withGate, varWithGate, varHeader, varGate, announcedOne}
 use Rattle.model.specs.Gates.{announcedPair}
 use Rattle.shape_words.specs.Rules.{Good, Regular, none-regular}
 use Rattle.shape_words.specs.Words.{good-word}
@@ -84,13 +85,18 @@ passed-by q h a b c d e f =
 pub passed : (a b c d e f : Bool) → ask a 1 (ask b 2 (ask c 3 (ask d 4 (ask e 5 (ask f 6 noRefusal))))) .number ≡ 0 → Passed a b c d e f
 passed = passed-by (refusedBy 1) refl
 
--- that of a header word
-word-passed : (w : ℕ) (b c d e f : Bool) → askWord w (ask b 2 (ask c 3 (ask d 4 (ask e 5 (ask f 6 noRefusal))))) .number ≡ 0
+-- that of the limits given to a constructor, and of a header word
+limits-passed : (vars : ℕ) (l : List ℕ) (b c d e f : Bool)
+    → askLimits vars l (ask b 2 (ask c 3 (ask d 4 (ask e 5 (ask f 6 noRefusal))))) .number ≡ 0
+    → Passed (goodLimits vars l) b c d e f
+limits-passed vars l = passed-by (refusedFor (limitsFault vars l) 64) refl (goodLimits vars l)
+
+pub word-passed : (w : ℕ) (b c d e f : Bool) → askWord w (ask b 2 (ask c 3 (ask d 4 (ask e 5 (ask f 6 noRefusal))))) .number ≡ 0
     → Passed (goodWord w) b c d e f
 word-passed w = passed-by (badWord w 64) refl (goodWord w)
 
 -- and of two, one after the other
-words-passed : (w u : ℕ) (b c e f : Bool) → askWord w (askWord u (ask b 2 (ask c 2 (ask e 5 (ask f 6 noRefusal))))) .number ≡ 0
+pub words-passed : (w u : ℕ) (b c e f : Bool) → askWord w (askWord u (ask b 2 (ask c 2 (ask e 5 (ask f 6 noRefusal))))) .number ≡ 0
     → Passed (goodWord w) (goodWord u) b c e f
 words-passed w u b c e f =
     chain (goodWord w) (goodWord u) b c e f (badWord w 64) (badWord u 64) (refusedBy 2) (refusedBy 2) (refusedBy 5)
@@ -298,7 +304,7 @@ header-ready {h} n r t = record { good = fits-good n r t; room = fits-room h n t
 pub with-ready : (vars : ℕ) (l : List ℕ) (n : ℕ) → withGate vars l n .number ≡ 0 → HeaderReady (zeroWith vars l) n
 unfolding withGate
 with-ready vars l n e =
-    let p = passed (goodLimits vars l) true true true (fits (zeroWith vars l) n) true e in
+    let p = limits-passed vars l true true true (fits (zeroWith vars l) n) true e in
     header-ready n (zero-regular (good-limits vars l (p .t1))) (p .t5)
 
 pub record VarWithReady (v vars : ℕ) (l : List ℕ) (n : ℕ) : Type 0 where
@@ -308,7 +314,7 @@ pub record VarWithReady (v vars : ℕ) (l : List ℕ) (n : ℕ) : Type 0 where
 pub var-with-ready : (v vars : ℕ) (l : List ℕ) (n : ℕ) → varWithGate v vars l n .number ≡ 0 → VarWithReady v vars l n
 unfolding varWithGate
 var-with-ready v vars l n e =
-    let p = passed (goodLimits vars l) true (ltb v vars) true (fits (varWith v vars l) n) true e in
+    let p = limits-passed vars l true (ltb v vars) true (fits (varWith v vars l) n) true e in
     record { header = header-ready n (var-regular (good-limits vars l (p .t1)) v) (p .t5); known = ltb-true _ _ (p .t3) }
 
 pub record VarReady (v l n : ℕ) : Type 0 where
@@ -318,6 +324,6 @@ pub record VarReady (v l n : ℕ) : Type 0 where
 pub var-ready : (v l n : ℕ) → varGate v l n .number ≡ 0 → VarReady v l n
 unfolding varGate
 var-ready v l n e =
-    let p = passed (goodLimit l) true (leb v 3) true (fits (varHeader v l) n) true e in
+    let p = passed-by (refusedFor (fault 0 6) 64) refl (goodLimit l) true (leb v 3) true (fits (varHeader v l) n) true e in
     let k = leb-true _ _ (p .t3) in
     record { header = header-ready n (var-regular (given-same k (good-limit l (p .t1))) v) (p .t5); known = k }

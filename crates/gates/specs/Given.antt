@@ -1,15 +1,17 @@
 -- Limits given to a constructor: under good ones its header keeps the rules.
 use Prim.Native.Nat.{ℕ, suc, _≤_, _<_}
 use mathlib.Core.List.{List}
-use mathlib.Core.Bool.{Bool, true, _&&_, _||_}
+use mathlib.Core.Bool.{Bool, true}
 use mathlib.Core.Path.{_≡_}
 use native.Mathlib.Omega.{arith}
 use lib.Dec.{leb, ltb, eqb}
-use borrow.Author.Tests.{leb-true, lt-leb, le-ltb, ltb-true}
+use borrow.Author.Tests.{leb-true, lt-leb, le-ltb, ltb-true, eqb-true}
 use Rattle.lists.specs.Test.{and-left, and-right, or-right, decide, of-both}
 use Rattle.lists.specs.Four.{at, four, at-four, each}
 use Rattle.model.specs.Header.{header, limit, limitOrOne, zeroWith, twoAtMost, varWith}
-use Rattle.model.specs.Gates.{goodLimit, goodLimits}
+use Rattle.model.specs.Faults.{goodLimit, soundLimit, limitsFault}
+use Rattle.model.specs.Gates.{goodLimits}
+use Rattle.shape_words.specs.Sound.{unless-none}
 use Rattle.shape_words.specs.Rules.{Regular, regular-four}
 use Rattle.shape.specs.Limits.{Range}
 
@@ -22,19 +24,18 @@ pub record Given (vars : ℕ) (l : List ℕ) : Type 0 where
   pub range : (k : ℕ) → k < 4 → k < vars → Range (at l k)
 
 pub good-limits : (vars : ℕ) (l : List ℕ) → goodLimits vars l ≡ true → Given vars l
+unfolding limitsFault
 good-limits vars l h =
-    let t : ℕ → Bool = λ k. leb vars k || goodLimit (at l k) in
-    let h2 = and-left (((leb vars 4 && t 0) && t 1) && t 2) (t 3) h in
-    let h1 = and-left ((leb vars 4 && t 0) && t 1) (t 2) h2 in
-    let h0 = and-left (leb vars 4 && t 0) (t 1) h1 in
+    let t : ℕ → Bool = soundLimit vars l in
+    let a = unless-none (leb vars 4) _ _ (λ z. omega (arith, z)) (eqb-true (limitsFault vars l .cause) 0 h) in
+    let b = unless-none (t 0) _ _ (λ z. omega (arith, z)) (a .1) in
+    let c = unless-none (t 1) _ _ (λ z. omega (arith, z)) (b .1) in
+    let d = unless-none (t 2) _ _ (λ z. omega (arith, z)) (c .1) in
+    let e = unless-none (t 3) _ _ (λ z. omega (arith, z)) (d .1) in
     let one : (k : ℕ) → t k ≡ true → k < vars → Range (at l k) = λ k e p. good-limit _ (or-right (leb vars k) (goodLimit (at l k)) e (lt-leb _ _ p)) in
     record {
-      few = leb-true _ _ (and-left (leb vars 4) (t 0) h0);
-      range = each (λ k. k < vars → Range (at l k))
-          (one 0 (and-right (leb vars 4) (t 0) h0))
-          (one 1 (and-right (leb vars 4 && t 0) (t 1) h1))
-          (one 2 (and-right ((leb vars 4 && t 0) && t 1) (t 2) h2))
-          (one 3 (and-right (((leb vars 4 && t 0) && t 1) && t 2) (t 3) h));
+      few = leb-true _ _ (a .0);
+      range = each (λ k. k < vars → Range (at l k)) (one 0 (b .0)) (one 1 (c .0)) (one 2 (d .0)) (one 3 (e .0));
     }
 
 -- one limit for every variable up to v

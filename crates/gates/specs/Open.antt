@@ -1,7 +1,7 @@
 -- How an entry opens: the gate's refusal and, where there is none, what the words and the family tell, each worked out
 -- once. An entry of one operand has the header of no variables in the place of the second.
 use Prim.Native.Nat.{ℕ, _*_, _≤_}
-use mathlib.Core.Bool.{true, false, _&&_}
+use mathlib.Core.Bool.{Bool, true, false, _&&_}
 use mathlib.Core.Path.{_≡_, sym, ap, _∙_}
 use native.Mathlib.Omega.{arith}
 use Rattle.model.specs.declared.Header.{Header}
@@ -9,12 +9,12 @@ use Rattle.model.specs.declared.Refusal.{Refusal}
 use Rattle.model.specs.declared.Family.{Family}
 use Rattle.model.specs.Header.{stored, noHeader}
 use Rattle.model.specs.Word.{headerOf, goodWord}
-use Rattle.model.specs.Refusals.{refusedBy, ask, noRefusal, fits, roomy}
+use Rattle.model.specs.Refusals.{refusedBy, askFor, ask, noRefusal, fits, roomy}
 use Rattle.model.specs.Announced.{announced}
 use Rattle.model.specs.Gates.{badWord, askWord, full, readGate, workGate, inGate, pairGate, announcedOne, announcedPair}
 use Rattle.shape_words.specs.Rules.{Ruled}
 use Rattle.gates.specs.declared.Opened.{Opened}
-use Rattle.gates.specs.Gate.{both-on, both-stop, read-stop, read-on, one-announced, ReadReady, read-ready}
+use Rattle.gates.specs.Gate.{words-passed, both-on, both-stop, read-stop, read-on, one-announced, ReadReady, read-ready}
 use Rattle.gates.specs.Gate.{WorkReady, work-ready, InReady, in-ready, PairReady, pair-ready}
 
 -- refused: nothing is told
@@ -162,20 +162,31 @@ module _ (f : Family) (w m : ℕ) (next : Header → Header → Refusal) {q : Re
           let d = made-told (headerOf w) noHeader (announcedOne f w) ea eb told-is (e ∙ read-on w m (next (headerOf w) (announcedOne f w)) eq z) s in
           record { refusal = d .refusal; tells = d .tells }
 
--- two operands
+-- two operands: test 1 of each
+unfoldable pub wordsGate : ℕ → ℕ → Refusal
+wordsGate w u = askWord w (askWord u noRefusal)
+
+words-stop : (a b : Bool) (p q next : Refusal) {r : Refusal} → r ≡ askFor a p (askFor b q noRefusal) → (r .number ≡ 0 → ⊥)
+    → r ≡ askFor a p (askFor b q next)
+words-stop true true p q next e n = absurd (n (ap (λ (x : Refusal). x .number) e))
+words-stop true false p q next e n = e
+words-stop false b p q next e n = e
+
+pub words-good : (w u : ℕ) {r : Refusal} → r ≡ wordsGate w u → r .number ≡ 0 → (goodWord w ≡ true) × (goodWord u ≡ true)
+unfolding wordsGate
+words-good w u e z =
+    let p = words-passed w u true true true true (ap (λ (x : Refusal). x .number) (sym e) ∙ z) in
+    (p .t1, p .t2)
+
 module _ (f : Family) (w m u l n s : ℕ) {q : Refusal} {r : Opened} where
   pair-shut : q ≡ pairGate f w m u l n s → (q .number ≡ 0 → ⊥) → r ≡ shut q → Opens f w m u l n s r
   pair-shut e k g =
       let d = made-shut (headerOf w) (headerOf u) (announcedPair f w u) e k g in
       record { refusal = d .refusal; tells = d .tells }
 
-  pub first-bad : goodWord w ≡ false → q ≡ badWord w 64 → r ≡ shut q → Opens f w m u l n s r
-  unfolding pairGate
-  first-bad t e = pair-shut (simp (t) e) (λ z. omega (arith, ap (λ (x : Refusal). x .number) e, z))
-
-  pub second-bad : goodWord w ≡ true → goodWord u ≡ false → q ≡ badWord u 64 → r ≡ shut q → Opens f w m u l n s r
-  unfolding pairGate
-  second-bad t v e = pair-shut (simp (t, v) e) (λ z. omega (arith, ap (λ (x : Refusal). x .number) e, z))
+  pub words-bad : q ≡ wordsGate w u → (q .number ≡ 0 → ⊥) → r ≡ shut q → Opens f w m u l n s r
+  unfolding pairGate wordsGate
+  words-bad e k = pair-shut (words-stop (goodWord w) (goodWord u) (badWord w 64) (badWord u 64) _ e k) k
 
   pub not-full : goodWord w ≡ true → goodWord u ≡ true → (full w m && full u l) ≡ false → q ≡ refusedBy 2 → r ≡ shut q → Opens f w m u l n s r
   unfolding pairGate

@@ -9,29 +9,32 @@ use Rattle.lists.specs.Test.{and-left, and-right}
 use Rattle.model.specs.declared.Refusal.{Refusal}
 use Rattle.model.specs.Header.{limit}
 use Rattle.model.specs.Word.{headerOf, goodWord}
-use Rattle.model.specs.Refusals.{ask, noRefusal, zeroF}
-use Rattle.model.specs.Gates.{full, soleGate, goodTotal, tailGate}
-use Rattle.gates.specs.Gate.{passed, ReadReady, read-facts}
+use Rattle.model.specs.Refusals.{askFor, ask, noRefusal, zeroF}
+use Rattle.model.specs.Gates.{badWord, askWord, full, soleGate, goodTotal, tailGate}
+use Rattle.gates.specs.Gate.{word-passed, ReadReady, read-facts}
 
 -- tests 1, 2 and 3, which stand before whatever comes next
-stop-three : (a b c : Bool) (next : Refusal) {r : Refusal} → r ≡ ask a 1 (ask b 2 (ask c 3 noRefusal))
-    → (r .number ≡ 0 → ⊥) → r ≡ ask a 1 (ask b 2 (ask c 3 next))
-stop-three true true true next e n = absurd (n (ap (λ (x : Refusal). x .number) e))
-stop-three true true false next e n = e
-stop-three true false c next e n = e
-stop-three false b c next e n = e
+stop-three : (a b c : Bool) (q next : Refusal) {r : Refusal} → r ≡ askFor a q (ask b 2 (ask c 3 noRefusal))
+    → (r .number ≡ 0 → ⊥) → r ≡ askFor a q (ask b 2 (ask c 3 next))
+stop-three true true true q next e n = absurd (n (ap (λ (x : Refusal). x .number) e))
+stop-three true true false q next e n = e
+stop-three true false c q next e n = e
+stop-three false b c q next e n = e
 
-on-three : (a b c : Bool) (next : Refusal) {r : Refusal} → r ≡ ask a 1 (ask b 2 (ask c 3 noRefusal)) → r .number ≡ 0 → next ≡ ask a 1 (ask b 2 (ask c 3 next))
-on-three a b c next e z = let p = passed a b c true true true (ap (λ (x : Refusal). x .number) (sym e) ∙ z) in simp (p .t1, p .t2, p .t3)
+on-three : (w : ℕ) (b c : Bool) (next : Refusal) {r : Refusal} → r ≡ askWord w (ask b 2 (ask c 3 noRefusal)) → r .number ≡ 0
+    → next ≡ askWord w (ask b 2 (ask c 3 next))
+on-three w b c next e z =
+    let p = word-passed w b c true true true (ap (λ (x : Refusal). x .number) (sym e) ∙ z) in
+    simp (p .t1, p .t2, p .t3)
 
 module _ (w m : ℕ) (next : Refusal) {r : Refusal} (e : r ≡ soleGate w m) where
-  pub sole-stop : (r .number ≡ 0 → ⊥) → r ≡ ask (goodWord w) 1 (ask (full w m) 2 (ask (eqb (headerOf w .vars) 1) 3 next))
+  pub sole-stop : (r .number ≡ 0 → ⊥) → r ≡ askWord w (ask (full w m) 2 (ask (eqb (headerOf w .vars) 1) 3 next))
   unfolding soleGate
-  sole-stop n = stop-three (goodWord w) (full w m) (eqb (headerOf w .vars) 1) next e n
+  sole-stop n = stop-three (goodWord w) (full w m) (eqb (headerOf w .vars) 1) (badWord w 64) next e n
 
-  pub sole-on : r .number ≡ 0 → next ≡ ask (goodWord w) 1 (ask (full w m) 2 (ask (eqb (headerOf w .vars) 1) 3 next))
+  pub sole-on : r .number ≡ 0 → next ≡ askWord w (ask (full w m) 2 (ask (eqb (headerOf w .vars) 1) 3 next))
   unfolding soleGate
-  sole-on z = on-three (goodWord w) (full w m) (eqb (headerOf w .vars) 1) next e z
+  sole-on z = on-three w (full w m) (eqb (headerOf w .vars) 1) next e z
 
 pub record SoleReady (w m : ℕ) : Type 0 where
   pub read : ReadReady w m
@@ -40,7 +43,7 @@ pub record SoleReady (w m : ℕ) : Type 0 where
 pub sole-ready : (w m : ℕ) → soleGate w m .number ≡ 0 → SoleReady w m
 unfolding soleGate
 sole-ready w m e =
-    let p = passed (goodWord w) (full w m) (eqb (headerOf w .vars) 1) true true true e in
+    let p = word-passed w (full w m) (eqb (headerOf w .vars) 1) true true true e in
     record { read = read-facts w m (p .t1) (p .t2); one = eqb-true _ _ (p .t3) }
 
 -- ---- a tail
@@ -59,7 +62,7 @@ pub tail-ready : (w m k : ℕ) (total : Float) → tailGate w m k total .number 
 unfolding tailGate
 tail-ready w m k total e =
     let b : Bool = ltb k (limit (headerOf w) 0) in
-    let p = passed (goodWord w) (full w m) (eqb (headerOf w .vars) 1) (b && goodTotal total) true true (rw (ask-both b (goodTotal total) 4 noRefusal) at e) in
+    let p = word-passed w (full w m) (eqb (headerOf w .vars) 1) (b && goodTotal total) true true (rw (ask-both b (goodTotal total) 4 noRefusal) at e) in
     record {
       sole = record { read = read-facts w m (p .t1) (p .t2); one = eqb-true _ _ (p .t3) };
       below = ltb-true _ _ (and-left b (goodTotal total) (p .t4));

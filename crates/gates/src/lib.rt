@@ -1,6 +1,7 @@
 // Gates: whether a call is refused, by which number, from header words, lengths of buffers, variables and limits alone;
 // and how an entry opens: the gate, and the headers and counts that it works out on its way.
 use model::Family;
+use model::Fault;
 use model::Header;
 use model::Refusal;
 use shape::announce::announced_of;
@@ -12,15 +13,17 @@ use shape_words::word::header_of;
 use shape_words::word::is_good;
 ghost use mathlib.Core.Path.{_≡_};
 ghost use Prim.Native.Nat.{_*_};
+ghost use mathlib.Core.Bool.{_||_};
 ghost use lib.Dec.{leb, ltb};
 ghost use Rattle.model.specs.Header.{limit, stored};
 ghost use Rattle.model.specs.Word.{headerOf};
 ghost use Rattle.model.specs.Gates.{readGate, noMissing, indexGate, soleGate, goodTotal, tailGate, oneGate, workGate, inGate};
-ghost use Rattle.model.specs.Gates.{goodLimit, goodLimits, withGate, varWithGate, varGate};
+ghost use Rattle.model.specs.Faults.{goodLimit, limitsFault};
+ghost use Rattle.model.specs.Gates.{withGate, varWithGate, varGate};
 ghost use Rattle.model.specs.Refusals.{ask, noRefusal, fits, roomy};
 ghost use Rattle.model.specs.declared.Family.the-variants.{Product};
 ghost use Rattle.shape_words.specs.Rules.{Ruled};
-ghost use Rattle.gates.specs.Open.{shut, telling, OpensOne, Opens};
+ghost use Rattle.gates.specs.Open.{shut, telling, OpensOne, wordsGate, Opens};
 
 // The stored count of a header.
 pub fn stored_of(h: Header) -> usize
@@ -329,6 +332,19 @@ pub fn in_gate(f: Family, v: usize, d: usize, word: u64, given: usize, lent: usi
     fits_gate(announced_of(f, h, Header::none()), lent)
 }
 
+// Test 1 of two operands: the first word that is no header, with its fault.
+fn words_refusal(ah: u64, bh: u64) -> Refusal
+    ensures { λ r. ⌜ r ≡ wordsGate ah bh ⌝ }
+{
+    if !is_good(ah) {
+        return bad_word(ah, Refusal::NOWHERE);
+    }
+    if !is_good(bh) {
+        return bad_word(bh, Refusal::NOWHERE);
+    }
+    Refusal::none()
+}
+
 // Two operands, ah and bh their words, am and bm the coefficients given: refusals 1, 2, 5, 6.
 pub fn open_pair(
     f: Family,
@@ -341,11 +357,9 @@ pub fn open_pair(
 ) -> Opened
     ensures { λ r. ⌜ Opens f ah am bh bm lent scratch r ⌝ }
 {
-    if !is_good(ah) {
-        return Opened::refused(bad_word(ah, Refusal::NOWHERE));
-    }
-    if !is_good(bh) {
-        return Opened::refused(bad_word(bh, Refusal::NOWHERE));
+    let first = words_refusal(ah, bh);
+    if first.number != 0 {
+        return Opened::refused(first);
     }
     let a = header_of(ah);
     let b = header_of(bh);
@@ -361,11 +375,9 @@ pub fn open_pair(
 pub fn open_product(ah: u64, am: usize, bh: u64, bm: usize, lent: usize, scratch: usize) -> Opened
     ensures { λ r. ⌜ Opens Product ah am bh bm lent scratch r ⌝ }
 {
-    if !is_good(ah) {
-        return Opened::refused(bad_word(ah, Refusal::NOWHERE));
-    }
-    if !is_good(bh) {
-        return Opened::refused(bad_word(bh, Refusal::NOWHERE));
+    let first = words_refusal(ah, bh);
+    if first.number != 0 {
+        return Opened::refused(first);
     }
     let a = header_of(ah);
     let b = header_of(bh);
@@ -383,23 +395,32 @@ fn good_limit(l: usize) -> bool
     (1 <= l) & (l <= Header::LIMIT)
 }
 
-// At most four variables, and the limits of the first `vars` are limits.
-fn good_limits(vars: usize, l: [usize; 4]) -> bool
-    ensures { λ r. ⌜ r ≡ goodLimits vars l ⌝ }
+// Whether limit k, where it is one of the first `vars`, is a limit.
+fn is_given(vars: usize, k: usize, l: usize) -> bool
+    ensures { λ r. ⌜ r ≡ (leb vars k || goodLimit l) ⌝ }
 {
-    (vars <= Header::VARS)
-        & ((vars <= 0) | good_limit(l[0]))
-        & ((vars <= 1) | good_limit(l[1]))
-        & ((vars <= 2) | good_limit(l[2]))
-        & ((vars <= 3) | good_limit(l[3]))
+    (vars <= k) | good_limit(l)
+}
+
+// The first thing that is wrong with the first `vars` of the limits: too many, else a limit. The tests are chained from
+// the last to the first.
+fn limits_fault(vars: usize, l: [usize; 4]) -> Fault
+    ensures { λ r. ⌜ r ≡ limitsFault vars l ⌝ }
+{
+    let l3 = Fault::unless(is_given(vars, 3, l[3]), Fault::of(3, 6), Fault::none());
+    let l2 = Fault::unless(is_given(vars, 2, l[2]), Fault::of(2, 6), l3);
+    let l1 = Fault::unless(is_given(vars, 1, l[1]), Fault::of(1, 6), l2);
+    let l0 = Fault::unless(is_given(vars, 0, l[0]), Fault::of(0, 6), l1);
+    Fault::unless(vars <= Header::VARS, Fault::of(4, 6), l0)
 }
 
 // A constant that carries limits: refusals 1, 5.
 pub fn with_gate(vars: usize, limits: [usize; 4], lent: usize) -> Refusal
     ensures { λ r. ⌜ r ≡ withGate vars limits lent ⌝ }
 {
-    if !good_limits(vars, limits) {
-        return Refusal::by(1);
+    let f = limits_fault(vars, limits);
+    if f.cause != 0 {
+        return Refusal::of_fault(f, Refusal::NOWHERE);
     }
     fits_gate(Header::zero_with(vars, limits), lent)
 }
@@ -408,8 +429,9 @@ pub fn with_gate(vars: usize, limits: [usize; 4], lent: usize) -> Refusal
 pub fn var_with_gate(v: usize, vars: usize, limits: [usize; 4], lent: usize) -> Refusal
     ensures { λ r. ⌜ r ≡ varWithGate v vars limits lent ⌝ }
 {
-    if !good_limits(vars, limits) {
-        return Refusal::by(1);
+    let f = limits_fault(vars, limits);
+    if f.cause != 0 {
+        return Refusal::of_fault(f, Refusal::NOWHERE);
     }
     if vars <= v {
         return Refusal::by(3);
@@ -422,7 +444,7 @@ pub fn var_gate(v: usize, limit: usize, lent: usize) -> Refusal
     ensures { λ r. ⌜ r ≡ varGate v limit lent ⌝ }
 {
     if !good_limit(limit) {
-        return Refusal::by(1);
+        return Refusal::of_fault(Fault::of(0, 6), Refusal::NOWHERE);
     }
     if 3 < v {
         return Refusal::by(3);

@@ -23,7 +23,7 @@ use Rattle.model.specs.Announced.{announced, single, lessIn}
 use Rattle.model.specs.Poly.{Poly, blockOf}
 use Rattle.model.specs.Readings.{sumTo}
 use Rattle.model.specs.Shifts.{shiftDownPoly}
-use Rattle.model_textbook.specs.Textbook.{Series, weight, total, shifted}
+use Rattle.model_textbook.specs.Textbook.{Series, weight, sumOfAll, shifted}
 use Rattle.laws_whole.specs.Whole.{Whole}
 use Rattle.laws_whole.specs.Compare.{whole-eq}
 use Rattle.laws_whole.specs.Steps.{whole-list}
@@ -45,7 +45,7 @@ use Rattle.laws_exact_shift.specs.Shifted.{length-here, beyond, shift-do
 
 -- `evaluate_all_one` of whole coefficients with |A| at most 2 ^ 53 is the sum of all coefficients
 pub evaluated : (p : Poly) → Regular (p .head) → {a : ℕ → ℤ} → Wholes (blockOf p) a → weightIn p a ≤ 2 ^ 53
-    → Whole (sumTo (p .coeffs) (stored (p .head))) (total (p .head .lengths) (seriesIn p a))
+    → Whole (sumTo (p .coeffs) (stored (p .head))) (sumOfAll (p .head .lengths) (seriesIn p a))
 unfolding sumTo
 evaluated p g {a} u b =
     let four-n = ap length (g .ns) in
@@ -112,8 +112,8 @@ module _ (v n : ℕ) (p : Poly) (g : Regular (p .head)) (h : v < 4) (a : ℕ →
         ∙ gathered addN (λ j. natAbs (A (set k v j))) sizeAfter n (at before v) refl
         (λ j l. rw (ne-eqb j 0 (λ o. omega arith))) (λ j l. ap natAbs (beyond v n p g h a k f j l))))
 
-  pub shift-down-total : total (shiftDownPoly v n p .head .lengths) S ≡ total before A
-  unfolding total shiftDownPoly
+  pub shift-down-total : sumOfAll (shiftDownPoly v n p .head .lengths) S ≡ sumOfAll before A
+  unfolding sumOfAll shiftDownPoly
   shift-down-total =
       box-rows addZ S after v long-after
       ∙ ap (λ (m : List ℕ). boxZ m (λ k. sumZ (λ j. S (set k v j)) (at after v) 0)) same-others
@@ -135,7 +135,7 @@ module _ (v n : ℕ) (p : Poly) (g : Regular (p .head)) (h : v < 4) (a : ℕ →
 
     -- and `evaluate_all_one` is the same number
     pub shift-down-evaluated : eq (sumTo (shiftDownPoly v n p .coeffs) (stored (shiftDownPoly v n p .head))) (sumTo (p .coeffs) (stored (p .head))) ≡ true
-    unfolding total
+    unfolding sumOfAll
     shift-down-evaluated =
         let q = shiftDownPoly v n p in
         let k = shift-down-keeps v n p g in

@@ -18,8 +18,9 @@ use Rattle.model.specs.declared.Answer.the-variants as answer-is
 use Rattle.model.specs.declared.Reading.{Reading}
 use Rattle.model.specs.declared.Reading.the-variants as reading-is
 use Rattle.model.specs.declared.Family.the-variants.{Product, Quotient, Series, Power, Shift, Substitution}
-use Rattle.model.specs.Header.{span, stored, goodVar, goodVars, goodHeader}
-use Rattle.model.specs.Word.{headerOf, goodWord, fields, wordOf}
+use Rattle.model.specs.Header.{span, stored}
+use Rattle.model.specs.Faults.{soundVar, headerFault}
+use Rattle.model.specs.Word.{headerOf, faultOf, goodWord, fields, wordOf}
 use Rattle.model.specs.Places.{strides, offset, index, inside}
 use Rattle.model.specs.Limits.{minLimit, minDegreesP1, cutTo, maxShape, sumShape}
 use Rattle.model.specs.Announced.{single, paired, announced}
@@ -220,7 +221,7 @@ rows =
 
 pub examples-hold : hold rows ≡ true
 unfolding hold equal same rows tailAnswer tailGate goodTotal readBy tailOf sumTo productAnswer productOut pairGate answerBy leaves
-    written goodWord goodHeader goodVars goodVar productPoly multiplied productOf shortcut linearProduct
+    written goodWord faultOf headerFault soundVar productPoly multiplied productOf shortcut linearProduct
     linearFrom lineOf linearIn zerosBut grown raised raisedAt joinedBlock joined joinAt general productAt line alone
     walk table cut cutTo maxShape sumShape minDegreesP1 minLimit announced paired headerOf wordOf fields strides offset
     index inside span quotientAnswer quotientOut quotientPoly divided quotientOf quotientShape recurred quotientAt

@@ -12,10 +12,11 @@ use Rattle.lists.specs.Grow.{grow}
 use Rattle.lists.specs.Chain.{chain}
 use Rattle.lists.specs.Table.{table}
 use Rattle.model.specs.declared.Header.{Header}
-use Rattle.model.specs.Header.{span, goodVar, goodVars, goodHeader}
+use Rattle.model.specs.Header.{span}
+use Rattle.model.specs.Faults.{soundVar, headerFault}
 use Rattle.model.specs.Limits.{minLimit, minDegreesP1}
 use Rattle.model.specs.Places.{strides, offset, inside}
-use Rattle.model.specs.Word.{headerOf, goodWord}
+use Rattle.model.specs.Word.{headerOf, faultOf, goodWord}
 use Rattle.model.specs.Announced.{single, paired, announced}
 use Rattle.model_recipes.specs.Steps.{stepOf, rows}
 use Rattle.model_recipes.specs.Recipe.{families, headAt, announcedStep, announcedPlaces}
@@ -56,7 +57,7 @@ module _ (e : Example) where
   last = inputs + length (e .steps) - 1
 
   refusal : ℕ
-  unfolding checkRefusal rightSizes orElse inputsRefusal stepsRefusal stepRefusal formed rows goodWord goodHeader goodVars goodVar
+  unfolding checkRefusal rightSizes orElse inputsRefusal stepsRefusal stepRefusal formed rows goodWord faultOf headerFault soundVar
   refusal = checkRefusal (e .heads) (e .steps) .number
 
   known : List Header

@@ -36,7 +36,7 @@ signed-mul true true (suc a) zero = sym (neg-none (suc a * 0) (mul-zero (suc a))
 signed-mul true true (suc a) (suc b) = refl
 
 -- a - b, where b is at most a, and where it is more
-minus-ge : (a b : ℕ) → b ≤ a → pos a +ℤ negℤ (pos b) ≡ pos (a - b)
+pub minus-ge : (a b : ℕ) → b ≤ a → pos a +ℤ negℤ (pos b) ≡ pos (a - b)
 minus-ge a zero h = ap pos (omega arith)
 minus-ge a (suc b) h = decide (ltb a (suc b)) (λ t. absurd (omega (arith, ltb-true a (suc b) t))) (λ t. rw t)
 

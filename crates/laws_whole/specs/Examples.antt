@@ -14,7 +14,7 @@ use Rattle.model.specs.Header.{span}
 use Rattle.model.specs.Places.{strides, offset}
 use Rattle.model_textbook.specs.Sum.{sum, sumN}
 use Rattle.model_textbook.specs.Box.{box, boxN}
-use Rattle.model_textbook.specs.Textbook.{Series, seriesOf, weight, total, times, quotient, substitute, shifted}
+use Rattle.model_textbook.specs.Textbook.{Series, seriesOf, weight, sumOfAll, times, quotient, substitute, shifted}
 use Rattle.laws_whole.specs.Whole.{Whole, whole-int, whole-minus-zero}
 use Rattle.laws_whole.specs.Exact.{whole-mul, whole-div}
 use Rattle.laws_whole.specs.Compare.{eq-zero}
@@ -143,6 +143,6 @@ weight-block : weight (2 ∷ 2 ∷ 1 ∷ 1 ∷ []) (block (pos 1 ∷ negsuc 1 �
 unfolding weight stored box
 weight-block = refl
 
-total-block : total (2 ∷ 2 ∷ 1 ∷ 1 ∷ []) (block (pos 1 ∷ negsuc 1 ∷ pos 3 ∷ negsuc 3 ∷ [])) ≡ negsuc 1
-unfolding total stored box
+total-block : sumOfAll (2 ∷ 2 ∷ 1 ∷ 1 ∷ []) (block (pos 1 ∷ negsuc 1 ∷ pos 3 ∷ negsuc 3 ∷ [])) ≡ negsuc 1
+unfolding sumOfAll stored box
 total-block = refl

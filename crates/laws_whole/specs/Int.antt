@@ -15,6 +15,9 @@ use Rattle.lists.specs.Test.{decide}
 pub +ℤ-right-comm : (a b c : ℤ) → (a +ℤ b) +ℤ c ≡ (a +ℤ c) +ℤ b
 +ℤ-right-comm a b c = +ℤ-assoc a b c ∙ ap (λ x. a +ℤ x) (+ℤ-comm b c) ∙ sym (+ℤ-assoc a c b)
 
+pub +ℤ-left-comm : (a b c : ℤ) → a +ℤ (b +ℤ c) ≡ b +ℤ (a +ℤ c)
++ℤ-left-comm a b c = sym (+ℤ-assoc a b c) ∙ ap (λ x. x +ℤ c) (+ℤ-comm a b) ∙ +ℤ-assoc b a c
+
 -- what is taken off comes back
 pub neg-+ℤ-cancel : (a b : ℤ) → negℤ a +ℤ (a +ℤ b) ≡ b
 neg-+ℤ-cancel a b = sym (+ℤ-assoc (negℤ a) a b) ∙ ap (λ x. x +ℤ b) (+ℤ-invl a) ∙ +ℤ-idl b
@@ -58,6 +61,12 @@ pub *ℤ-assoc : (a b c : ℤ) → (a *ℤ b) *ℤ c ≡ a *ℤ (b *ℤ c)
     (λ a h. ap (λ x. x *ℤ c) (predℤ-*ℤ a b) ∙ right-distrib (a *ℤ b) (negℤ b) c ∙ ap (λ x. x +ℤ negℤ b *ℤ c) h
     ∙ ap (λ x. a *ℤ (b *ℤ c) +ℤ x) (neg-*ℤ b c) ∙ sym (predℤ-*ℤ a (b *ℤ c)))
     a
+
+pub *ℤ-left-comm : (a b c : ℤ) → a *ℤ (b *ℤ c) ≡ b *ℤ (a *ℤ c)
+*ℤ-left-comm a b c = sym (*ℤ-assoc a b c) ∙ ap (λ x. x *ℤ c) (*ℤ-comm a b) ∙ *ℤ-assoc b a c
+
+-- by `simp ring` two sums of products are equal that are equal multiplied out
+pub ruleset ring = (left-distrib, right-distrib, *ℤ-assoc, *ℤ-comm, *ℤ-left-comm, +ℤ-assoc, +ℤ-comm, +ℤ-left-comm)
 
 pub *ℤ-unit : (a : ℤ) → a *ℤ pos 1 ≡ a
 unfolding one

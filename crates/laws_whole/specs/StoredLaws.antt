@@ -13,7 +13,7 @@ use Rattle.lists.specs.Test.{and-left, and-right, decide}
 use Rattle.model.specs.Header.{count}
 use Rattle.model.specs.Places.{place, inside}
 use Rattle.model_textbook.specs.Sum.{addN, addZ, sumN, sumZ}
-use Rattle.model_textbook.specs.Textbook.{Series, truncated, seriesOf, weight, total}
+use Rattle.model_textbook.specs.Textbook.{Series, truncated, seriesOf, weight, sumOfAll}
 use Rattle.laws_whole.specs.Index.{InBox, Within}
 use Rattle.laws_whole.specs.IndexLaws.{in-box-at, at-in-box, in-box-length}
 use Rattle.laws_whole.specs.BoxLaws.{box-same, box-narrow}
@@ -68,8 +68,8 @@ module _ (n : List ℕ) (four : length n ≡ 4) where
     unfolding weight
     weight-stored = box-same addN _ (λ k. natAbs (a (place n k))) n (λ k u. ap natAbs (stored-in-box u)) ∙ four-places addN (λ p. natAbs (a p)) n four
 
-    pub total-stored : total n (seriesOf n a) ≡ sumZ a (count n) 0
-    unfolding total
+    pub total-stored : sumOfAll n (seriesOf n a) ≡ sumZ a (count n) 0
+    unfolding sumOfAll
     total-stored = box-same addZ _ (λ k. a (place n k)) n (λ k u. stored-in-box u) ∙ four-places addZ a n four
 
     -- over any limits that hold the lengths

@@ -8,10 +8,10 @@ ghost use mathlib.Core.Path.{_≡_};
 ghost use lib.ListN.{replicate};
 
 // Memory for the answer, longer than any.
-fn answer_memory() -> [u8; 131072]
-    ensures { λ r. ⌜ r ≡ replicate 131072 0 ⌝ }
+fn answer_memory() -> [u8; 262144]
+    ensures { λ r. ⌜ r ≡ replicate 262144 0 ⌝ }
 {
-    [0u8; 131072]
+    [0u8; 262144]
 }
 
 fn main() {

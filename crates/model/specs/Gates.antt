@@ -13,10 +13,11 @@ use Rattle.model.specs.declared.Header.{Header}
 use Rattle.model.specs.declared.Refusal.{Refusal}
 use Rattle.model.specs.declared.Family.{Family}
 use Rattle.model.specs.Header.{limit, stored, noHeader, zeroWith, varWith}
-use Rattle.model.specs.Word.{headerOf, goodWord}
+use Rattle.model.specs.Faults.{fault, isSound, goodLimit, limitsFault}
+use Rattle.model.specs.Word.{headerOf, faultOf, goodWord}
 use Rattle.model.specs.Places.{inside}
 use Rattle.model.specs.Announced.{announced}
-use Rattle.model.specs.Refusals.{askFor, ask, refusedAt, noRefusal, fits, roomy, zeroF}
+use Rattle.model.specs.Refusals.{askFor, ask, refusedFor, noRefusal, fits, roomy, zeroF}
 
 -- what a family announces for one operand, and for two
 abbrev pub announcedOne : Family → ℕ → Header
@@ -27,7 +28,7 @@ announcedPair f w u = announced f (headerOf w) (headerOf u)
 
 -- test 1: the refusal of a header word that breaks the rules, p its place in a recipe, 64 in a single call
 abbrev pub badWord : ℕ → ℕ → Refusal
-badWord w p = refusedAt 1 p
+badWord w p = refusedFor (faultOf w) p
 
 abbrev pub askWord : ℕ → Refusal → Refusal
 askWord w next = askFor (goodWord w) (badWord w 64) next
@@ -114,34 +115,33 @@ pairGate f w m u l n s =
     (ask (roomy (announcedPair f w u) s) 6
     noRefusal)))))
 
--- Constructors. A limit is 1 to 64; the first `vars` of four are given.
+-- Constructors.
 
-abbrev pub goodLimit : ℕ → Bool
-goodLimit l = leb 1 l && leb l 64
-
+-- test 1: the limits given
 abbrev pub goodLimits : ℕ → List ℕ → Bool
-goodLimits vars l =
-    (((leb vars 4 && (leb vars 0 || goodLimit (at l 0))) && (leb vars 1 || goodLimit (at l 1))) && (leb vars 2 || goodLimit (at l 2)))
-    && (leb vars 3 || goodLimit (at l 3))
+goodLimits vars l = isSound (limitsFault vars l)
+
+abbrev pub askLimits : ℕ → List ℕ → Refusal → Refusal
+askLimits vars l next = askFor (goodLimits vars l) (refusedFor (limitsFault vars l) 64) next
 
 -- n the places lent for the coefficients
 unfoldable pub withGate : ℕ → List ℕ → ℕ → Refusal
-withGate vars l n = ask (goodLimits vars l) 1 (ask (fits (zeroWith vars l) n) 5 noRefusal)
+withGate vars l n = askLimits vars l (ask (fits (zeroWith vars l) n) 5 noRefusal)
 
 unfoldable pub varWithGate : ℕ → ℕ → List ℕ → ℕ → Refusal
 varWithGate v vars l n =
-    ask (goodLimits vars l) 1
+    askLimits vars l
     (ask (ltb v vars) 3
     (ask (fits (varWith v vars l) n) 5
     noRefusal))
 
--- `var` and `var_at_zero` give every variable up to v the limit asked
+-- `var` and `var_at_zero` give every variable up to v the limit asked: a wrong one is wrong of variable 0 first
 abbrev pub varHeader : ℕ → ℕ → Header
 varHeader v l = varWith v (suc v) (four (λ k. l))
 
 unfoldable pub varGate : ℕ → ℕ → ℕ → Refusal
 varGate v l n =
-    ask (goodLimit l) 1
+    askFor (goodLimit l) (refusedFor (fault 0 6) 64)
     (ask (leb v 3) 3
     (ask (fits (varHeader v l) n) 5
     noRefusal))

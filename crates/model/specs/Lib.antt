@@ -1,5 +1,7 @@
 pub mod Header
+pub mod Faults
 pub mod Word
+pub mod Causes
 pub mod Places
 pub mod Limits
 pub mod Announced

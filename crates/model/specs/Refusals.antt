@@ -9,6 +9,7 @@ use lib.ListN.{length, drop}
 use lib.Ieee.{Float, ofBits, binary64}
 use Rattle.lists.specs.Table.{table}
 use Rattle.model.specs.declared.Header.{Header}
+use Rattle.model.specs.declared.Fault.{Fault}
 use Rattle.model.specs.declared.Refusal.{Refusal}
 use Rattle.model.specs.declared.Answer.{Answer}
 use Rattle.model.specs.declared.Answer.the-variants as answer
@@ -19,8 +20,13 @@ use Rattle.model.specs.declared.LinearReading.{LinearReading}
 use Rattle.model.specs.declared.LinearReading.the-variants as linear-reading
 use Rattle.model.specs.Header.{stored}
 
+-- by a number alone, at the place p
 abbrev pub refusedAt : ℕ → ℕ → Refusal
-refusedAt k p = record { number = k; place = p }
+refusedAt k p = record { number = k; place = p; variable = 0; cause = 0 }
+
+-- by 1, for a fault of a header word or of limits (document 02, W5)
+abbrev pub refusedFor : Fault → ℕ → Refusal
+refusedFor f p = record { number = 1; place = p; variable = f .variable; cause = f .cause }
 
 -- 64: about no place in particular
 abbrev pub refusedBy : ℕ → Refusal

@@ -1,11 +1,12 @@
 -- REFERENCE 2.1. Document 01, 'Header word', most significant first: number of variables (3 bits), then four times
 -- limit less one (6) and length less one (6), then 13 zero bits.
 use Prim.Native.Nat.{ℕ, _+_, _-_, _*_, _/_, _%_, _^_}
-use mathlib.Core.Bool.{Bool, _&&_}
-use lib.Dec.{eqb}
+use mathlib.Core.Bool.{Bool}
 use Rattle.lists.specs.Four.{at, four}
 use Rattle.model.specs.declared.Header.{Header}
-use Rattle.model.specs.Header.{header, limit, len, goodHeader}
+use Rattle.model.specs.declared.Fault.{Fault}
+use Rattle.model.specs.Header.{header, limit, len}
+use Rattle.model.specs.Faults.{isSound, headerFault}
 
 -- six bits from the bit `low` up
 abbrev pub fieldAt : ℕ → ℕ → ℕ
@@ -15,9 +16,14 @@ fieldAt w low = w / 2 ^ low % 2 ^ 6
 unfoldable pub headerOf : ℕ → Header
 headerOf w = header (w / 2 ^ 61 % 2 ^ 3) (four (λ k. fieldAt w (55 - 12 * k) + 1)) (four (λ k. fieldAt w (49 - 12 * k) + 1))
 
--- a word that is a header: its header keeps the rules and its spare bits are zero
+-- the first thing that is wrong with a word (document 02, W5)
+unfoldable pub faultOf : ℕ → Fault
+faultOf w = headerFault (headerOf w) (w % 2 ^ 13)
+
+-- a word that is a header: nothing is wrong with it. Then its header keeps the rules, and only then (`good-word-is`,
+-- shape_words)
 unfoldable pub goodWord : ℕ → Bool
-goodWord w = goodHeader (headerOf w) && eqb (w % 2 ^ 13) 0
+goodWord w = isSound (faultOf w)
 
 -- a word with one field more at its low end: x less one
 abbrev pub pushed : ℕ → ℕ → ℕ

@@ -3,7 +3,8 @@ ghost use mathlib.Core.Path.{_≡_};
 ghost use Prim.Native.Nat.{_<_};
 ghost use Rattle.model.specs.Header.{withLengths, noHeader, zeroWith, varWith, limitOrOne, twoAtMost};
 ghost use Rattle.model.specs.Gates.{varHeader};
-ghost use Rattle.model.specs.Refusals.{noRefusal, refusedBy, refusedAt};
+ghost use Rattle.model.specs.Faults.{noFault, fault, unless};
+ghost use Rattle.model.specs.Refusals.{noRefusal, refusedBy, refusedAt, refusedFor};
 ghost use Rattle.model.specs.Linear.{noLinear};
 
 // A polynomial's number of variables, its limits (the Rust's `degrees_p1`) and its stored lengths; 1 and 1 for a
@@ -14,10 +15,20 @@ pub struct Header {
     pub lengths: [usize; 4],
 }
 
-// Why a call was refused: document 01's number, 0 for no refusal, and the place it is about, 64 for none in particular.
+// What is wrong with a header word, or with limits that a constructor is given (document 02, W5): the variable, 4 for
+// none, and the cause, 1 to 6; 0 and 0 where nothing is.
+pub struct Fault {
+    pub variable: u8,
+    pub cause: u8,
+}
+
+// Why a call was refused: document 01's number, 0 for no refusal, and the place it is about, 64 for none in particular;
+// variable and cause of the fault where the number is 1, else 0 and 0.
 pub struct Refusal {
     pub number: u8,
     pub place: u8,
+    pub variable: u8,
+    pub cause: u8,
 }
 
 // A polynomial was written, and this is its header word; or nothing was.
@@ -177,6 +188,27 @@ fn two_at_most(v: usize, k: usize, limit: usize) -> usize
     if limit < 2 { limit } else { 2 }
 }
 
+impl Fault {
+    pub fn none() -> Fault
+        ensures { λ r. ⌜ r ≡ noFault ⌝ }
+    {
+        Fault::of(0, 0)
+    }
+
+    pub fn of(variable: u8, cause: u8) -> Fault
+        ensures { λ r. ⌜ r ≡ fault variable cause ⌝ }
+    {
+        Fault { variable, cause }
+    }
+
+    // A test in a chain of tests: what follows where it holds, else the fault.
+    pub fn unless(holds: bool, told: Fault, next: Fault) -> Fault
+        ensures { λ r. ⌜ r ≡ unless holds told next ⌝ }
+    {
+        if holds { next } else { told }
+    }
+}
+
 impl Refusal {
     // The place of a refusal that is about no place in particular.
     pub const NOWHERE: u8 = 64;
@@ -184,27 +216,38 @@ impl Refusal {
     pub fn none() -> Refusal
         ensures { λ r. ⌜ r ≡ noRefusal ⌝ }
     {
-        Refusal {
-            number: 0,
-            place: Refusal::NOWHERE,
-        }
+        Refusal::by(0)
     }
 
     // A refusal of a single operation.
     pub fn by(number: u8) -> Refusal
         ensures { λ r. ⌜ r ≡ refusedBy number ⌝ }
     {
-        Refusal {
-            number,
-            place: Refusal::NOWHERE,
-        }
+        Refusal::at(number, Refusal::NOWHERE)
     }
 
     // A refusal that is about one place of a recipe.
     pub fn at(number: u8, place: u8) -> Refusal
         ensures { λ r. ⌜ r ≡ refusedAt number place ⌝ }
     {
-        Refusal { number, place }
+        Refusal {
+            number,
+            place,
+            variable: 0,
+            cause: 0,
+        }
+    }
+
+    // A refusal by 1, for a fault.
+    pub fn of_fault(f: Fault, place: u8) -> Refusal
+        ensures { λ r. ⌜ r ≡ refusedFor f place ⌝ }
+    {
+        Refusal {
+            number: 1,
+            place,
+            variable: f.variable,
+            cause: f.cause,
+        }
     }
 }
 

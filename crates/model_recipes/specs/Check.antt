@@ -1,6 +1,6 @@
 -- REFERENCE 6.4. Document 01, 'Recipes' and 'Refusal numbers': the check of a recipe, from words alone. Recipe sizes
--- (7, at no place), then inputs in order (1), then each step in order (7, 3, 4, 5). It answers the pool total, the
--- largest announced step count and the input coefficient total.
+-- (7, at no place), then inputs in order (1, with the header's fault: document 02, W5), then each step in order (7, 3,
+-- 4, 5). It answers the pool total, the largest announced step count and the input coefficient total.
 use Prim.Native.Nat.{ℕ, suc, _+_}
 use mathlib.Core.List.{List, [], _∷_, _++_}
 use mathlib.Core.Bool.{Bool, true, false, _&&_, _||_, cond}
@@ -13,7 +13,8 @@ use Rattle.model_recipes.specs.declared.CheckAnswer.{CheckAnswer}
 use Rattle.model_recipes.specs.declared.CheckAnswer.the-variants.{Accepted, Refused}
 use Rattle.model.specs.Header.{limit, stored}
 use Rattle.model.specs.Word.{goodWord}
-use Rattle.model.specs.Refusals.{refusedAt, noRefusal, isNone}
+use Rattle.model.specs.Refusals.{askFor, refusedAt, noRefusal, isNone}
+use Rattle.model.specs.Gates.{badWord}
 use Rattle.model_recipes.specs.Steps.{stepOf, spareOf, usesOf}
 use Rattle.model_recipes.specs.Recipe.{headAt, announcedStep, inputHeads, announcedSteps, total, largest}
 
@@ -65,7 +66,7 @@ stepRefusal w known =
 -- the inputs from the place p on
 unfoldable pub inputsRefusal : ℕ → List ℕ → Refusal
 inputsRefusal p [] = noRefusal
-inputsRefusal p (w ∷ ws) = askAt (goodWord w) 1 p (inputsRefusal (suc p) ws)
+inputsRefusal p (w ∷ ws) = askFor (goodWord w) (badWord w p) (inputsRefusal (suc p) ws)
 
 -- the steps after the places known
 unfoldable pub stepsRefusal : List Header → List ℕ → Refusal

@@ -1,5 +1,6 @@
--- REFERENCE 6.4, 6.5. Document 01, 'Recipes' and 'Refusal numbers': the reasons to refuse a recipe, each with its place
--- and its number, and those to refuse a run of it; what a reason is, and not how it is found.
+-- REFERENCE 6.4, 6.5. Document 01, 'Recipes' and 'Refusal numbers', and document 02, W5: the reasons to refuse a
+-- recipe, each with its place and its number, and those to refuse a run of it; what a reason is, and not how it is
+-- found.
 -- Sizes are at no place in particular: 64. A recipe has at most 64 places. 3, 4 and 5 are reasons of a step whose word
 -- is right.
 use Prim.Native.Nat.{ℕ, suc, _+_, _*_, _≤_, _<_}
@@ -11,7 +12,7 @@ use lib.ListN.{length, take, getD}
 use Rattle.model.specs.declared.Header.{Header}
 use Rattle.model.specs.declared.Refusal.{Refusal}
 use Rattle.model.specs.Header.{limit, stored}
-use Rattle.model.specs.Word.{goodWord}
+use Rattle.model.specs.Causes.{HeaderReason, FirstHeaderReason}
 use Rattle.model.specs.Refusals.{refusedBy}
 use Rattle.model_recipes.specs.Steps.{stepOf, spareOf, usesOf}
 use Rattle.model_recipes.specs.Recipe.{headAt, announcedStep, inputHeads, announcedPlaces, announcedSteps, total, largest}
@@ -51,19 +52,22 @@ pub data StepReason (w : ℕ) (known : List Header) : ℕ → Type 0 where
 -- place and number
 pub data Reason (hs ss : List ℕ) : ℕ → ℕ → Type 0 where
   sizes : WrongSizes hs ss → Reason hs ss 64 7
-  -- a header that breaks the rules
-  input : (i : ℕ) → i < length hs → i < 64 → goodWord (getD hs i 0) ≡ false → Reason hs ss i 1
+  -- a header that breaks the rules: something is wrong with variable v of it, or with none, by the cause c
+  input : (i v c : ℕ) → i < length hs → i < 64 → HeaderReason (getD hs i 0) v c → Reason hs ss i 1
   step : (i n : ℕ) → i < length ss → length hs + i < 64 → StepReason (getD ss i 0) (announcedPlaces hs (take i ss)) n → Reason hs ss (length hs + i) n
 
 -- sizes come first, then the places in order
 abbrev pub turn : ℕ → ℕ
 turn p = cond (eqb p 64) 0 (suc p)
 
--- the first place that has a reason, with its lowest number
+-- the first place that has a reason, with its lowest number; with 1 the first variable and cause of that header, with
+-- any other number 0 and 0 (document 02, W5)
 pub record FirstReason (hs ss : List ℕ) (r : Refusal) : Type 0 where
   pub reason : Reason hs ss (r .place) (r .number)
   pub first : (p n : ℕ) → Reason hs ss p n → turn (r .place) ≤ turn p
   pub lowest : (n : ℕ) → Reason hs ss (r .place) n → r .number ≤ n
+  pub fault : r .number ≡ 1 → FirstHeaderReason (getD hs (r .place) 0) (r .variable) (r .cause)
+  pub no-fault : (r .number ≡ 1 → ⊥) → (r .variable ≡ 0) × (r .cause ≡ 0)
 
 -- ---- a run, c, p, w and s the lengths of coefficients, pool, words and scratch
 

@@ -34,8 +34,8 @@ seriesOf n a = truncated n (λ k. a (place n k))
 unfoldable pub weight : List ℕ → Series → ℕ
 weight lengths A = boxN lengths (λ k. natAbs (A k))
 
-unfoldable pub total : List ℕ → Series → ℤ
-total lengths A = boxZ lengths A
+unfoldable pub sumOfAll : List ℕ → Series → ℤ
+sumOfAll lengths A = boxZ lengths A
 
 -- ---- sum, difference, product
 

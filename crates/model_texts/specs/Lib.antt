@@ -5,6 +5,7 @@ pub mod Trace
 pub mod Full
 pub mod Whole
 pub mod Report
+pub mod Cause
 pub mod Sentence
 pub mod Number
 pub mod Figures

@@ -1,6 +1,6 @@
 -- REFERENCE 7.4. Document 01, the program `recipe`: what it prints. `done` and the step count, then the last header,
--- then its coefficients; or one line of `refused`, number, place, single spaces between. NaN prints as
--- 7ff8000000000000.
+-- then its coefficients; or one line of `refused`, number, place and, by document 02, W5, variable and cause, 0 0 for
+-- refusals that have none; single spaces between. NaN prints as 7ff8000000000000.
 use Prim.Native.Nat.{ℕ, zero, suc, _+_, _/_, _%_}
 use mathlib.Core.List.{List, [], _∷_, _++_, map}
 use mathlib.Core.Bool.{cond}
@@ -41,4 +41,6 @@ unfoldable pub doneText : ℕ → ℕ → List Float → List ℕ
 doneText n w xs = doneWord ++ (decimal n ++ (newline ++ (hexLine w ++ hexLines (map (toBits binary64) xs))))
 
 unfoldable pub refusedText : Refusal → List ℕ
-refusedText r = refusedWord ++ (decimal (r .number) ++ (space ++ (decimal (r .place) ++ newline)))
+refusedText r =
+    refusedWord
+    ++ (decimal (r .number) ++ (space ++ (decimal (r .place) ++ (space ++ (decimal (r .variable) ++ (space ++ (decimal (r .cause) ++ newline)))))))

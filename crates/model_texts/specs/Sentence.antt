@@ -4,18 +4,19 @@ use Prim.Native.Nat.{ℕ}
 use Prim.Native.String.{String}
 use mathlib.Core.Bool.{Bool, cond}
 use mathlib.Core.List.{List, [], _∷_, _++_}
-use lib.Dec.{ltb}
+use lib.Dec.{ltb, eqb}
 use lib.ListN.{getD}
 use Rattle.lists.specs.Bytes.{bytes}
 use Rattle.model.specs.declared.Refusal.{Refusal}
 use Rattle.model_texts.specs.Printed.{refusedText}
 use Rattle.model_texts.specs.Report.{tell, when}
+use Rattle.model_texts.specs.Cause.{faultText}
 
--- by number, of a place; a sheet is never refused by 0, 2 or 6 (document 01)
+-- by number, of a place; a sheet is never refused by 0, 2 or 6 (document 01), and 1 has a cause to tell
 unfoldable pub placeMeanings : List String
 placeMeanings =
     ""
-    ∷ "its header word breaks the rules; write its limits and lengths anew.\n"
+    ∷ ""
     ∷ ""
     ∷ "its variable is not its operand's; name one that the operand has.\n"
     ∷ "its n is not below the operand's limit; take a smaller n.\n"
@@ -44,4 +45,6 @@ meaning placed n = cond placed (bytes (getD placeMeanings n "")) (bytes (getD sh
 unfoldable pub refusalReport : Refusal → List ℕ
 refusalReport r =
     let placed = ltb (r .place) 64 in
-    refusedText r ++ (when placed (tell "Place " (r .place) ++ bytes ": ") ++ meaning placed (r .number))
+    refusedText r
+    ++ cond (eqb (r .number) 1) (faultText (r .place) (r .variable) (r .cause))
+    (when placed (tell "Place " (r .place) ++ bytes ": ") ++ meaning placed (r .number))

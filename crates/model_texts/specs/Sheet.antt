@@ -1,6 +1,7 @@
 -- REFERENCE 7.1 to 7.4. Document 01, the program `recipe`: a sheet is lines of one word each. Word one is inputs (8
 -- bits), steps (8), zeros; then input headers, input coefficients, steps. Reading in order, it is refused at the first
--- of: a malformed or missing line (8), word one's sizes or zeros (7), an input header (1, at its place), a byte after
+-- of: a malformed or missing line (8), word one's sizes or zeros (7), an input header (1, at its place, with its fault:
+-- document 02, W5), a byte after
 -- the last line (8); 7 and 8 are at no place in particular (64). Then comes the check, then the program's own limits:
 -- 256 coefficients an input or step, 2,048 for all inputs, 2,048 a pool (else 5, 64). Then the run, on buffers exactly
 -- as long as the check says.
@@ -14,7 +15,8 @@ use Rattle.lists.specs.Every.{every}
 use Rattle.lists.specs.Table.{table}
 use Rattle.model.specs.declared.Refusal.{Refusal}
 use Rattle.model.specs.Word.{goodWord, wordOf}
-use Rattle.model.specs.Refusals.{noRefusal, isNone, zeros}
+use Rattle.model.specs.Refusals.{askFor, noRefusal, isNone, zeros}
+use Rattle.model.specs.Gates.{badWord}
 use Rattle.model.specs.Poly.{Poly}
 use Rattle.model_recipes.specs.Recipe.{inputHeads, announcedPlaces, announcedSteps, total, largest}
 use Rattle.model_recipes.specs.Check.{askAt, orElse, rightSizes, checkRefusal}
@@ -69,7 +71,7 @@ module _ (t : List ℕ) where
   -- n headers, the first of them input i's
   unfoldable pub headersRefusal : ℕ → ℕ → Refusal
   headersRefusal zero i = noRefusal
-  headersRefusal (suc n) i = askAt (lined (1 + i)) 8 64 (askAt (goodWord (wordOn (1 + i))) 1 i (headersRefusal n (suc i)))
+  headersRefusal (suc n) i = askAt (lined (1 + i)) 8 64 (askFor (goodWord (wordOn (1 + i))) (badWord (wordOn (1 + i)) i) (headersRefusal n (suc i)))
 
   -- how many lines follow the headers
   abbrev pub restCount : ℕ

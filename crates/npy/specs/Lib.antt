@@ -1,2 +1,3 @@
 pub mod Reads
 pub mod Writing
+pub mod Promise

@@ -4,6 +4,7 @@ use mathlib.Core.List.{List, [], _∷_, _++_}
 use mathlib.Core.Bool.{Bool, true, false, _&&_}
 use mathlib.Core.Path.{_≡_, refl, sym, ap, ap₂, _∙_, subst}
 use native.Mathlib.Omega.{arith}
+use native.Mathlib.Nat.{mul-le-mul}
 use lib.Dec.{leb, eqb}
 use lib.ListN.{length, drop}
 use lib.Ieee.{Float}
@@ -20,43 +21,43 @@ use Rattle.shape_words.specs.Rules.{Ruled}
 use Rattle.shape_words.specs.Lengths.{Lengths, lengths-of}
 use Rattle.npy_grammar.specs.Text.{Width, eight, four, Order, rows, columns, Values}
 use Rattle.npy_header.specs.declared.Shape.{Shape}
-use Rattle.npy_files.specs.Frame.{isVersion, dataStart}
-use Rattle.npy_files.specs.Shapes.{product, goodShape, headOf}
+use Rattle.npy_files.specs.Frame.{dataStart}
+use Rattle.npy_files.specs.Shapes.{product, goodShape, lengthsOf, headOf}
 use Rattle.npy_files.specs.Values.{bytesOf, valueAt, filePlace, fileValue, dataFits}
-use Rattle.npy_files.specs.Reads.{isEight, isRows, isTaken, Says, isRoom, Reading}
+use Rattle.npy_files.specs.Reads.{Says, isRoom, Reading}
+use Rattle.npy_columns.specs.Lines.{widthOf, orderOf, valuesOf, ColumnsFit}
+use Rattle.npy_grammar.specs.Items.{widthNumber, orderNumber}
 use Rattle.npy_reading.specs.declared.Opened.{Opened}
 use Rattle.npy_reading.specs.Opening.{Opening, Opens}
-use Rattle.npy_reading.specs.Heads.{HeadKept, head-good, head-is, shape-count, shape-regular}
+use Rattle.npy_reading.specs.Heads.{HeadKept, head-good, head-is, good-most, shape-count, shape-regular}
 
--- what is taken has values of eight bytes in rows
-taken-width : (w : Width) → isEight w ≡ true → w ≡ eight
-unfolding isEight
-taken-width eight h = refl
-taken-width four h = absurd (let n : _≡_ {A = ℕ} 0 1 = cc in omega arith)
+-- the numbers of the code say what the header says
+width-back : (w : Width) → widthOf (widthNumber w) ≡ w
+unfolding widthOf widthNumber
+width-back eight = refl
+width-back four = refl
 
-taken-order : (o : Order) → isRows o ≡ true → o ≡ rows
-unfolding isRows
-taken-order rows h = refl
-taken-order columns h = absurd (let n : _≡_ {A = ℕ} 0 1 = cc in omega arith)
+order-back : (o : Order) → orderOf (orderNumber o) ≡ o
+unfolding orderOf orderNumber
+order-back rows = refl
+order-back columns = refl
 
-module _ {t : List ℕ} {v : Values} (s : Says t v) where
-  kinds : (isEight (v .width) && isRows (v .order)) ≡ true
-  unfolding isTaken
-  kinds = and-right (isVersion 1 t) (isEight (v .width) && isRows (v .order)) (s .taken)
+width-bytes : (w : Width) → widthNumber w ≡ bytesOf w
+unfolding widthNumber bytesOf
+width-bytes eight = refl
+width-bytes four = refl
 
-  pub says-width : v .width ≡ eight
-  says-width = taken-width (v .width) (and-left (isEight (v .width)) (isRows (v .order)) kinds)
+width-most : (w : Width) → widthNumber w ≤ 8
+unfolding widthNumber
+width-most eight = omega arith
+width-most four = omega arith
 
-  pub says-order : v .order ≡ rows
-  says-order = taken-order (v .order) (and-right (isEight (v .width)) (isRows (v .order)) kinds)
+ends-same : {d d' b b' c c' : ℕ} → d' ≡ d → b' ≡ b → c' ≡ c → d + b * c ≡ d' + b' * c'
+ends-same e f g = rw (e, f, g)
 
-  pub says-value : (p : ℕ) → fileValue t v p ≡ valueAt eight t (dataStart t) p
-  unfolding filePlace
-  says-value p = rw (says-width, says-order)
-
-  pub says-bytes : bytesOf (v .width) ≡ 8
-  unfolding bytesOf
-  says-bytes = rw says-width
+values-same : (t : List ℕ) {w w' : Width} {o o' : Order} {d d' : ℕ} {n n' : List ℕ} {m m' : ℕ} → w' ≡ w → o' ≡ o → d' ≡ d → n' ≡ n → m' ≡ m
+    → table m' (valuesOf w' o' t d' n') ≡ table m (valuesOf w o t d n)
+values-same t a b e f g = rw (a, b, e, f, g)
 
 -- a refusal as the code makes it
 pub refused : {t : List ℕ} {old : List Float} (n : ℕ) {r : Refusal} → r ≡ refusedBy n
@@ -104,30 +105,56 @@ module _ (t : List ℕ) (old : List Float) {o : Opened} (opens : Opens t o) wher
         unfolding isRoom
         read-short l = Reading.sizes v (found .says) (rw (good-shape, lt-leb (product (v .shape)) (length old) (omega (arith, l, count-here))))
 
+        lengths-here : o .shape .n ≡ lengthsOf (v .shape)
+        lengths-here = ap (λ (x : Header). x .lengths) (sym kept ∙ head-here)
+
+        width-here : o .width ≡ bytesOf (v .width)
+        width-here = found .width ∙ width-bytes (v .width)
+
+        -- no more than the bytes of 4,096 values
+        pub read-bytes : o .width * c ≤ 32768
+        read-bytes =
+            let a : o .width ≤ 8 = omega (arith, found .width, width-most (v .width)) in
+            let b : c ≤ 4096 = omega (arith, count-here, good-most (v .shape) good-shape) in
+            mul-le-mul a b
+
+        pub read-inside : o .start ≤ length t
+        read-inside = found .inside
+
         module _ (l : c ≤ length old) where
           room : isRoom v (length old) ≡ true
           unfolding isRoom
           room = rw (good-shape, le-leb (product (v .shape)) (length old) (omega (arith, l, count-here)))
 
-          ends : dataStart t + bytesOf (v .width) * product (v .shape) ≡ o .start + 8 * c
-          ends = rw (says-bytes (found .says)) (omega (arith, found .start, count-here))
+          ends : dataStart t + bytesOf (v .width) * product (v .shape) ≡ o .start + o .width * c
+          ends = ends-same (found .start) width-here count-here
 
-          pub read-unlike : (length t ≡ o .start + 8 * c → ⊥) → Reading t old (Refused (refusedBy 10)) old
+          pub read-unlike : (length t ≡ o .start + o .width * c → ⊥) → Reading t old (Refused (refusedBy 10)) old
           unfolding dataFits
           read-unlike n = Reading.unlike v (found .says) room (ne-eqb (length t) (dataStart t + bytesOf (v .width) * product (v .shape)) (λ e. n (e ∙ ends)))
 
-          module _ (e : length t ≡ o .start + 8 * c) where
+          module _ (e : length t ≡ o .start + o .width * c) where
             fits : dataFits t v ≡ true
             unfolding dataFits
             fits = eq-eqb (length t) (dataStart t + bytesOf (v .width) * product (v .shape)) (e ∙ sym ends)
 
-            filled : table c (valueAt eight t (o .start)) ≡ table (product (v .shape)) (fileValue t v)
-            filled =
-                ap (λ (p : ℕ). table c (valueAt eight t p)) (found .start)
-                ∙ (ap (λ (n : ℕ). table n (valueAt eight t (dataStart t))) count-here
-                ∙ sym (table-same (fileValue t v) (valueAt eight t (dataStart t)) (product (v .shape)) (λ i m. says-value (found .says) i)))
+            width-is : widthOf (o .width) ≡ v .width
+            width-is = ap widthOf (found .width) ∙ width-back (v .width)
 
-            pub read-done : {w : ℕ} {new : List Float} → w ≡ wordOf h → new ≡ table c (valueAt eight t (o .start)) ++ drop c old → Reading t old (Done w) new
+            pub read-fits : {m : ℕ} → m ≡ c → ColumnsFit (widthOf (o .width)) (o .start) (count (o .shape .n)) (length t) m
+            read-fits k =
+                let b : bytesOf (widthOf (o .width)) * count (o .shape .n) ≡ o .width * c =
+                ap₂ (λ (x y : ℕ). x * y) (ap bytesOf width-is ∙ sym width-here) (sym ec) in
+                record { bytes = omega (arith, b, e); full = k ∙ ec }
+
+            filled : table (count (o .shape .n)) (valuesOf (widthOf (o .width)) (orderOf (o .order)) t (o .start) (o .shape .n))
+                ≡ table (product (v .shape)) (fileValue t v)
+            filled =
+                values-same t width-is (ap orderOf (found .order) ∙ order-back (v .order)) (found .start) lengths-here (sym ec ∙ count-here)
+
+            pub read-done : {w : ℕ} {new : List Float} → w ≡ wordOf h
+                → new ≡ table (count (o .shape .n)) (valuesOf (widthOf (o .width)) (orderOf (o .order)) t (o .start) (o .shape .n)) ++ drop c old
+                → Reading t old (Done w) new
             read-done {w} {new} ew en =
                 let a : Done w ≡ Done (wordOf (headOf (v .shape))) = ap Done (ew ∙ ap wordOf head-here) in
                 let b : new ≡ table (product (v .shape)) (fileValue t v) ++ drop (product (v .shape)) old =

@@ -5,12 +5,14 @@ use mathlib.Core.Bool.{Bool, true, false, _&&_}
 use mathlib.Core.Path.{_≡_, refl, sym, ap, _∙_}
 use native.Mathlib.Omega.{arith}
 use native.Mathlib.Numerals.{add-one}
-use native.Mathlib.Nat.{add-zero}
+use native.Mathlib.Nat.{mul-comm}
 use lib.Dec.{leb, eqb}
 use lib.ListN.{length, getD, take, drop, set, length-append, drop-of-length-le}
 use lib.Seq.{drop-cons, take-suc, take-all, length-take-le}
 use lib.Ieee.{Float, nan, toBits, binary64}
-use lib.Pow.{shr-shr}
+use lib.Arith.{digits-lt}
+use lib.Bits.{bitOr, or-shifted-r}
+use lib.Pow.{shr-shr, shl-exact, pow-add}
 use borrow.Author.Tests.{eq-eqb, ne-eqb}
 use Rattle.lists.specs.Table.{table}
 use Rattle.npy_files.specs.Frame.{byteAt, little, startsWith}
@@ -45,9 +47,27 @@ module _ (w t : List ℕ) where
 
 -- ---- numbers
 
+-- a byte above k bits
+pub joined-is : (low b k : ℕ) → low < 2 ^ k → b ≤ 255 → k ≤ 56
+    → (bitOr low (b * 2 ^ k % 2 ^ 64) ≡ b * 2 ^ k + low) × (bitOr low (b * 2 ^ k % 2 ^ 64) < 2 ^ (k + 8))
+joined-is low b k h l m =
+    let e : b * 2 ^ k % 2 ^ 64 ≡ b * 2 ^ k = shl-exact {a = b} 8 k 64 (omega arith) (omega arith) in
+    let f : bitOr low (b * 2 ^ k % 2 ^ 64) ≡ b * 2 ^ k + low = rw e (or-shifted-r b k low h) in
+    let g : 2 ^ (k + 8) ≡ 256 * 2 ^ k = pow-add 2 k 8 ∙ mul-comm (2 ^ k) 256 in
+    (f, rw (f, g) (digits-lt (omega arith) h))
+
 pub little-two : (t : List ℕ) (p : ℕ) {a b : ℕ} → a ≡ byteAt t p → b ≡ byteAt t (p + 1) → a + 256 * b ≡ little 2 t p
 unfolding little
 little-two t p e f = let k : p + 1 ≡ suc p = omega arith in omega (arith, e, f ∙ ap (byteAt t) k)
+
+pub little-four : (t : List ℕ) (p : ℕ) {a b c d : ℕ} → a ≡ byteAt t p → b ≡ byteAt t (p + 1) → c ≡ byteAt t (p + 2) → d ≡ byteAt t (p + 3)
+    → a + 256 * b + 65536 * c + 16777216 * d ≡ little 4 t p
+unfolding little
+little-four t p ea eb ec ed =
+    let k1 : p + 1 ≡ suc p = omega arith in
+    let k2 : p + 2 ≡ suc (suc p) = omega arith in
+    let k3 : p + 3 ≡ suc (suc (suc p)) = omega arith in
+    omega (arith, ea, eb ∙ ap (byteAt t) k1, ec ∙ ap (byteAt t) k2, ed ∙ ap (byteAt t) k3)
 
 module _ (t : List ℕ) (p : ℕ) {a b c d e f g h : ℕ} (ea : a ≡ byteAt t p) (eb : b ≡ byteAt t (p + 1)) (ec : c ≡ byteAt t (p + 2)) (ed : d ≡ byteAt t (p + 3))
     (ee : e ≡ byteAt t (p + 4)) (ef : f ≡ byteAt t (p + 5)) (eg : g ≡ byteAt t (p + 6)) (eh : h ≡ byteAt t (p + 7)) where

@@ -1,5 +1,5 @@
--- Document 02, W2: what reading an array file answers and leaves. Refusals in order: 10 for another format, kind or
--- order of values, to the header's very last byte; 5 for dimensions, count or a short buffer; 10 for data unlike the
+-- Document 02, W2 and W12: what reading an array file answers and leaves. Refusals in order: 10 for another format or
+-- kind of values, to the header's very last byte; 5 for dimensions, count or a short buffer; 10 for data unlike the
 -- shape.
 use Prim.Native.Nat.{ℕ}
 use mathlib.Core.List.{List, _++_}
@@ -13,28 +13,15 @@ use Rattle.model.specs.declared.Answer.{Answer}
 use Rattle.model.specs.declared.Answer.the-variants.{Done, Refused}
 use Rattle.model.specs.Refusals.{refusedBy}
 use Rattle.model.specs.Word.{wordOf}
-use Rattle.npy_grammar.specs.Text.{Width, eight, four, Order, rows, columns, Values, Right}
-use Rattle.npy_files.specs.Frame.{isVersion, isFramed, headText}
+use Rattle.npy_grammar.specs.Text.{Values, Right}
+use Rattle.npy_files.specs.Frame.{isFramed, headText}
 use Rattle.npy_files.specs.Shapes.{product, goodShape, headOf}
 use Rattle.npy_files.specs.Values.{fileValue, dataFits}
 
-unfoldable pub isEight : Width → Bool
-isEight eight = true
-isEight four = false
-
-unfoldable pub isRows : Order → Bool
-isRows rows = true
-isRows columns = false
-
--- which files are taken: version 1.0, little-endian f64, row order
-unfoldable pub isTaken : List ℕ → Values → Bool
-isTaken t v = isVersion 1 t && (isEight (v .width) && isRows (v .order))
-
--- a file of this format that is taken and says v
+-- a file of this format that says v: either version, both widths, both orders
 pub record Says (t : List ℕ) (v : Values) : Type 0 where
   pub framed : isFramed t ≡ true
   pub right : Right (headText t) v
-  pub taken : isTaken t v ≡ true
 
 -- m places are lent for the coefficients
 unfoldable pub isRoom : Values → ℕ → Bool

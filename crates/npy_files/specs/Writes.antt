@@ -1,5 +1,5 @@
--- Document 02, W2: writing. One layout, 128 bytes before the data, the bytes that `np.save` writes; refusals 1, 2, then
--- 5 for a short byte buffer.
+-- Document 02, W2 and W12: writing. One layout a version, 128 bytes before the data, the bytes that NumPy writes;
+-- refusals 1, 2, then 5 for a short byte buffer.
 use Prim.Native.Nat.{ℕ, zero, suc, _+_, _-_, _*_, _/_, _%_}
 use mathlib.Core.List.{List, [], _∷_, _++_}
 use mathlib.Core.Bool.{Bool, cond}
@@ -11,9 +11,9 @@ use Rattle.lists.specs.Grow.{over}
 use Rattle.lists.specs.Table.{table}
 use Rattle.model.specs.declared.Refusal.{Refusal}
 use Rattle.model.specs.Header.{stored}
-use Rattle.model.specs.Word.{headerOf, goodWord}
+use Rattle.model.specs.Word.{headerOf}
 use Rattle.model.specs.Refusals.{ask, isNone, noRefusal}
-use Rattle.model.specs.Gates.{full}
+use Rattle.model.specs.Gates.{askWord, full}
 use Rattle.model_texts.specs.Printed.{decimal}
 use Rattle.npy_files.specs.declared.Written.{Written}
 use Rattle.npy_files.specs.declared.Written.the-variants.{Done, Refused}
@@ -57,20 +57,33 @@ unfoldable pub dataOut : List Float → List ℕ
 dataOut [] = []
 dataOut (x ∷ xs) = lowBytes 8 (toBits binary64 x) ++ dataOut xs
 
--- version 1.0: 118 in two bytes, so that 128 bytes stand before the data
-unfoldable pub frontOut : List ℕ → List ℕ
-frontOut s = (opening 1 ++ lowBytes 2 118) ++ headOut 118 s
+-- version 1.0, or the newer one, 2.0: its number; the header's length, so that 128 bytes stand before the data; in how
+-- many bytes that length stands
+abbrev pub versionOf : Bool → ℕ
+versionOf newer = cond newer 2 1
 
-unfoldable pub fileOut : List ℕ → List Float → List ℕ
-fileOut s xs = frontOut s ++ dataOut xs
+abbrev pub headBytes : Bool → ℕ
+headBytes newer = cond newer 116 118
 
--- ---- the entry: w a header word, a the coefficients, old the byte buffer
+abbrev pub lengthBytes : Bool → ℕ
+lengthBytes newer = cond newer 4 2
+
+unfoldable pub startOut : Bool → List ℕ
+startOut newer = opening (versionOf newer) ++ lowBytes (lengthBytes newer) (headBytes newer)
+
+unfoldable pub frontOut : Bool → List ℕ → List ℕ
+frontOut newer s = startOut newer ++ headOut (headBytes newer) s
+
+unfoldable pub fileOut : Bool → List ℕ → List Float → List ℕ
+fileOut newer s xs = frontOut newer s ++ dataOut xs
+
+-- ---- the entries: newer says the version, w is a header word, a the coefficients, old the byte buffer
 
 abbrev pub fileLength : ℕ → ℕ
 fileLength w = 128 + 8 * stored (headerOf w)
 
 unfoldable pub writeGate : ℕ → ℕ → ℕ → Refusal
-writeGate w m n = ask (goodWord w) 1 (ask (full w m) 2 (ask (leb (fileLength w) n) 5 noRefusal))
+writeGate w m n = askWord w (ask (full w m) 2 (ask (leb (fileLength w) n) 5 noRefusal))
 
 -- how many bytes were written
 unfoldable pub writeAnswer : ℕ → List Float → List ℕ → Written
@@ -78,7 +91,7 @@ writeAnswer w a old =
     let r = writeGate w (length a) (length old) in
     cond (isNone r) (Done (fileLength w)) (Refused r)
 
-unfoldable pub writeFile : ℕ → List Float → List ℕ → List ℕ
-writeFile w a old =
+unfoldable pub writeFile : Bool → ℕ → List Float → List ℕ → List ℕ
+writeFile newer w a old =
     let r = writeGate w (length a) (length old) in
-    cond (isNone r) (over (fileOut (shapeOf (headerOf w)) (take (stored (headerOf w)) a)) old) old
+    cond (isNone r) (over (fileOut newer (shapeOf (headerOf w)) (take (stored (headerOf w)) a)) old) old

@@ -1,5 +1,7 @@
 pub mod Spelt
+pub mod Forms
 pub mod Back
-pub mod Same
 pub mod Written
+pub mod Same
 pub mod Front
+pub mod Widths

@@ -17,10 +17,10 @@ use Rattle.model.specs.declared.Answer.the-variants.{Done, Refused}
 use Rattle.model.specs.Refusals.{refusedBy}
 use Rattle.model.specs.Word.{wordOf}
 use Rattle.npy_grammar.specs.Text.{Width, eight, four, Order, Values, Right}
-use Rattle.npy_files.specs.Frame.{byteAt, little, opening, startsWith, isVersion, headStart, headLength, dataStart, isFramed, headText}
+use Rattle.npy_files.specs.Frame.{byteAt, little, isVersion, headStart, headLength, dataStart, isFramed, headText}
 use Rattle.npy_files.specs.Shapes.{product, headOf}
 use Rattle.npy_files.specs.Values.{bytesOf, valueAt, filePlace, fileValue, dataFits}
-use Rattle.npy_files.specs.Reads.{isEight, isRows, isTaken, Says, isRoom, readAnswer, readOut, Reading}
+use Rattle.npy_files.specs.Reads.{Says, isRoom, readAnswer, readOut, Reading}
 use Rattle.npy_files.specs.Once.{says-room, says-one, room-good, reading-once}
 
 -- the bytes behind the header
@@ -91,9 +91,11 @@ module _ {t r : List ℕ} {v : Values} (a : Says t v) (b : Says r v) (e : dataOf
 
 -- ---- a file that is read
 
-taken-starts : (t : List ℕ) (v : Values) → isTaken t v ≡ true → startsWith (opening 1) t ≡ true
-unfolding isTaken isVersion
-taken-starts t v h = and-left (isVersion 1 t) (isEight (v .width) && isRows (v .order)) h
+framed-version : (t : List ℕ) → isFramed t ≡ true → (isVersion 1 t || isVersion 2 t) ≡ true
+unfolding isFramed
+framed-version t f =
+    and-left (isVersion 1 t || isVersion 2 t) (leb (headStart t) (length t))
+    (and-left ((isVersion 1 t || isVersion 2 t) && leb (headStart t) (length t)) (leb (dataStart t) (length t)) f)
 
 cut-three : (t : List ℕ) → t ≡ take (headStart t) t ++ (headText t ++ dataOf t)
 unfolding headText
@@ -105,7 +107,7 @@ cut-three t =
 
 pub record Accounted (t : List ℕ) (w : ℕ) : Type 0 where
   pub values : Values
-  pub begins : startsWith (opening 1) t ≡ true
+  pub begins : (isVersion 1 t || isVersion 2 t) ≡ true
   pub parts : t ≡ take (headStart t) t ++ (headText t ++ dataOf t)
   pub header : Right (headText t) values
   pub bytes : length (dataOf t) ≡ bytesOf (values .width) * product (values .shape)
@@ -117,7 +119,7 @@ pub accounted : {t : List ℕ} {old new : List Float} {w : ℕ} → Reading t ol
 accounted {t} (Reading.done v s f g) =
     record {
       values = v;
-      begins = taken-starts t v (s .taken);
+      begins = framed-version t (s .framed);
       parts = cut-three t;
       header = s .right;
       bytes = eqb-true (length (dataOf t)) (bytesOf (v .width) * product (v .shape)) (sym (fits-data t v (s .framed)) ∙ g);

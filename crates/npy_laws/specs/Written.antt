@@ -79,7 +79,8 @@ module _ (h : Header) (g : Good h) where
           (omega (arith, e, r .pos), omega (arith, e, r .fit, r .most))
 
 -- w and a: what was written into `file`; out: the buffer that it is read into
-module _ (w : ℕ) (a : List Float) (file : List ℕ) (good : goodWord w ≡ true) (full : stored (headerOf w) ≤ length a) (room : fileLength w ≤ length file) where
+module _ (newer : Bool) (w : ℕ) (a : List Float) (file : List ℕ) (good : goodWord w ≡ true)
+    (full : stored (headerOf w) ≤ length a) (room : fileLength w ≤ length file) where
   abbrev s : List ℕ
   s = shapeOf (headerOf w)
 
@@ -93,18 +94,18 @@ module _ (w : ℕ) (a : List Float) (file : List ℕ) (good : goodWord w ≡ tru
   unfolding writeGate
   open-gate = rw (good, le-leb (stored (headerOf w)) (length a) full, le-leb (fileLength w) (length file) room)
 
-  written-is : take (fileLength w) (writeFile w a file) ≡ fileOut s xs
+  written-is : take (fileLength w) (writeFile newer w a file) ≡ fileOut newer s xs
   unfolding writeFile
   written-is =
       rw open-gate
-      (take-over (fileOut s xs) file (fileLength w)
-      (file-long s (shape-good (headerOf w) (good-word w good)) xs many ∙ ap (λ (k : ℕ). 128 + 8 * k) (length-take-le (stored (headerOf w)) a full)))
+      (take-over (fileOut newer s xs) file (fileLength w)
+      (file-long s (shape-good (headerOf w) (good-word w good)) newer xs many ∙ ap (λ (k : ℕ). 128 + 8 * k) (length-take-le (stored (headerOf w)) a full)))
 
   pub written-back : allFit xs → (out : List Float) → length xs ≤ length out
-      → Reading (take (fileLength w) (writeFile w a file)) out (Done (wordOf (headOf s))) (xs ++ drop (length xs) out)
+      → Reading (take (fileLength w) (writeFile newer w a file)) out (Done (wordOf (headOf s))) (xs ++ drop (length xs) out)
   written-back f out l =
       subst (λ (t : List ℕ). Reading t out (Done (wordOf (headOf s))) (xs ++ drop (length xs) out)) (sym written-is)
-      (read-back s (shape-good (headerOf w) (good-word w good)) xs many f out l)
+      (read-back s (shape-good (headerOf w) (good-word w good)) newer xs many f out l)
 
   -- whose lengths are those that were written
   pub written-lengths : headerOf (wordOf (headOf s)) .lengths ≡ headerOf w .lengths
@@ -112,9 +113,9 @@ module _ (w : ℕ) (a : List Float) (file : List ℕ) (good : goodWord w ≡ tru
       ap (λ (h : Header). h .lengths) (word-shape s (shape-good (headerOf w) (good-word w good))) ∙ lengths-back (headerOf w) (good-word w good)
 
 -- what is written of a word and as many coefficients as it says, into a buffer that is long enough
-pub write-done : (w : ℕ) (xs : List Float) (file : List ℕ) → goodWord w ≡ true → length xs ≡ stored (headerOf w) → fileLength w ≤ length file
-    → (writeAnswer w xs file ≡ Written.Done (fileLength w)) × (writeFile w xs file ≡ over (fileOut (shapeOf (headerOf w)) xs) file)
+pub write-done : (newer : Bool) (w : ℕ) (xs : List Float) (file : List ℕ) → goodWord w ≡ true → length xs ≡ stored (headerOf w) → fileLength w ≤ length file
+    → (writeAnswer w xs file ≡ Written.Done (fileLength w)) × (writeFile newer w xs file ≡ over (fileOut newer (shapeOf (headerOf w)) xs) file)
 unfolding writeAnswer writeFile
-write-done w xs file good many room =
-    let g : writeGate w (length xs) (length file) ≡ noRefusal = open-gate w xs file good (omega (arith, many)) room in
-    (rw g, rw g (ap (λ (a : List Float). over (fileOut (shapeOf (headerOf w)) a) file) (take-all (stored (headerOf w)) xs (omega (arith, many)))))
+write-done newer w xs file good many room =
+    let g : writeGate w (length xs) (length file) ≡ noRefusal = open-gate newer w xs file good (omega (arith, many)) room in
+    (rw g, rw g (ap (λ (a : List Float). over (fileOut newer (shapeOf (headerOf w)) a) file) (take-all (stored (headerOf w)) xs (omega (arith, many)))))

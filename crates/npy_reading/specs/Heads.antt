@@ -37,11 +37,11 @@ range-in (x ∷ s) h =
     let e = h 0 (omega arith) in
     rw (le-leb 1 x (e .0), le-leb x 64 (e .1), range-in s (λ k l. h (suc k) (omega arith)))
 
-good-few : (s : List ℕ) → goodShape s ≡ true → length s ≤ 4
+pub good-few : (s : List ℕ) → goodShape s ≡ true → length s ≤ 4
 unfolding goodShape
 good-few s h = leb-true (length s) 4 (and-left (leb (length s) 4) (allInRange s) (and-left (leb (length s) 4 && allInRange s) (leb (product s) 4096) h))
 
-good-most : (s : List ℕ) → goodShape s ≡ true → product s ≤ 4096
+pub good-most : (s : List ℕ) → goodShape s ≡ true → product s ≤ 4096
 unfolding goodShape
 good-most s h = leb-true (product s) 4096 (and-right (leb (length s) 4 && allInRange s) (leb (product s) 4096) h)
 

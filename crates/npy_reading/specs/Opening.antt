@@ -6,10 +6,10 @@ use mathlib.Core.Path.{_≡_, refl, sym, ap, _∙_}
 use native.Mathlib.Omega.{arith}
 use lib.Dec.{leb, eqb}
 use lib.ListN.{length, take, drop}
-use borrow.Author.Tests.{leb-true, le-leb, lt-leb, eqb-true, eq-eqb}
+use borrow.Author.Tests.{leb-true, le-leb, lt-leb}
 use Rattle.lists.specs.Part.{part}
 use Rattle.lists.specs.Test.{decide, and-left, and-right}
-use Rattle.npy_grammar.specs.Text.{Width, eight, four, Order, rows, columns, Values, Right}
+use Rattle.npy_grammar.specs.Text.{Values, Right}
 use Rattle.npy_grammar.specs.Reading.{cap}
 use Rattle.npy_grammar.specs.Items.{widthNumber, orderNumber}
 use Rattle.npy_header.specs.declared.Shape.{Shape}
@@ -17,106 +17,128 @@ use Rattle.npy_header.specs.declared.Found.{Found}
 use Rattle.npy_header.specs.Shapes.{Kept}
 use Rattle.npy_header.specs.Cursors.{HeaderRead}
 use Rattle.npy_files.specs.Frame.{little, startsWith, opening, isVersion, headStart, headLength, dataStart, isFramed, headText}
-use Rattle.npy_files.specs.Reads.{isEight, isRows, isTaken, Says}
+use Rattle.npy_files.specs.Reads.{Says}
 use Rattle.npy_reading.specs.declared.Opened.{Opened}
-
--- where the data of a framed file of version 1.0 begin, else 0
-unfoldable pub startOf : List ℕ → ℕ
-startOf t = cond (isVersion 1 t && isFramed t) (dataStart t) 0
 
 apart : {b : Bool} → b ≡ true → b ≡ false → ⊥
 apart p q = let z : true ≡ false = sym p ∙ q in let n : _≡_ {A = ℕ} 0 1 = cc in omega arith
 
+-- one of the two versions
+abbrev isEither : List ℕ → Bool
+isEither t = isVersion 1 t || isVersion 2 t
+
+-- where the header begins, and where the data; 0 where no such file begins so, or it ends before
+unfoldable pub beginOf : List ℕ → ℕ
+beginOf t = cond (isEither t) (cond (leb (headStart t) (length t)) (headStart t) 0) 0
+
+unfoldable pub endOf : List ℕ → ℕ
+endOf t = cond (leb (dataStart t) (length t)) (dataStart t) 0
+
 -- ---- the code's tests, one after the other
 
-module _ (t : List ℕ) {s : Bool} (e : s ≡ startsWith (opening 1) t) where
-  pub start-other : s ≡ false → 0 ≡ startOf t
-  unfolding startOf isVersion
-  start-other h = sym (rw (sym e ∙ h))
-
-  module _ (h : s ≡ true) where
-    version : isVersion 1 t ≡ true
-    unfolding isVersion
-    version = sym e ∙ h
-
-    begins : headStart t ≡ 10
-    unfolding headStart
-    begins = rw version
-
-    long : headLength t ≡ little 2 t 8
-    unfolding headLength
-    long = rw begins
-
-    framed-is : isFramed t ≡ (leb 10 (length t) && leb (10 + little 2 t 8) (length t))
-    unfolding isFramed
-    framed-is = rw (version, begins, long)
-
-    start-is : startOf t ≡ cond (leb 10 (length t) && leb (10 + little 2 t 8) (length t)) (10 + little 2 t 8) 0
-    unfolding startOf
-    start-is = rw (version, framed-is, begins, long)
-
-    pub start-short : length t < 10 → 0 ≡ startOf t
-    start-short l = sym (start-is ∙ rw (lt-leb 10 (length t) l))
-
-    module _ {p : ℕ} (k : p ≡ 10 + little 2 t 8) (l : 10 ≤ length t) where
-      pub start-cut : length t < p → 0 ≡ startOf t
-      start-cut m = sym (start-is ∙ rw (le-leb 10 (length t) l, lt-leb (10 + little 2 t 8) (length t) (omega arith)))
-
-      pub start-here : p ≤ length t → p ≡ startOf t
-      start-here m = k ∙ sym (start-is ∙ rw (le-leb 10 (length t) l, le-leb (10 + little 2 t 8) (length t) (omega arith)))
-
--- ---- what a place says that is not 0
-
-pub record Begun (t : List ℕ) (p : ℕ) : Type 0 where
-  pub version : isVersion 1 t ≡ true
-  pub framed : isFramed t ≡ true
-  pub is : p ≡ dataStart t
-  pub from : 10 ≤ p
-  pub inside : p ≤ length t
-  pub head : part 10 p t ≡ headText t
-
 module _ (t : List ℕ) where
-  ten : isVersion 1 t ≡ true → headStart t ≡ 10
-  unfolding headStart
-  ten v = rw v
+  pub begin-one : {r : ℕ} {s : Bool} → s ≡ startsWith (opening 1) t → s ≡ true → r ≡ cond (leb 10 (length t)) 10 0 → r ≡ beginOf t
+  unfolding beginOf isVersion headStart
+  begin-one e h k = k ∙ sym (rw (sym e ∙ h))
 
-  framed-long : isFramed t ≡ true → dataStart t ≤ length t
-  unfolding isFramed
-  framed-long f =
-      leb-true (dataStart t) (length t) (and-right ((isVersion 1 t || isVersion 2 t) && leb (headStart t) (length t))
-      (leb (dataStart t) (length t)) f)
+  module _ {s : Bool} (e : s ≡ startsWith (opening 1) t) (h : s ≡ false) {u : Bool} (f : u ≡ startsWith (opening 2) t) where
+    pub begin-two : {r : ℕ} → u ≡ true → r ≡ cond (leb 12 (length t)) 12 0 → r ≡ beginOf t
+    unfolding beginOf isVersion headStart
+    begin-two g k = k ∙ sym (rw (sym e ∙ h, sym f ∙ g))
 
-  begun-at : {p : ℕ} → isVersion 1 t ≡ true → isFramed t ≡ true → p ≡ dataStart t → Begun t p
-  unfolding headText
-  begun-at {p} v f e =
-      let s = ten v in
-      let k : p - 10 ≡ headLength t = omega (arith, e, s) in
+    pub begin-none : u ≡ false → 0 ≡ beginOf t
+    unfolding beginOf isVersion
+    begin-none g = sym (rw (sym e ∙ h, sym f ∙ g))
+
+-- the header begins at p
+pub record Begun (t : List ℕ) (p : ℕ) : Type 0 where
+  pub version : isEither t ≡ true
+  pub is : p ≡ headStart t
+  pub inside : p ≤ length t
+  pub from : 10 ≤ p
+  pub twelve : (p ≡ 10 → ⊥) → p ≡ 12
+
+head-start-two : (t : List ℕ) → (10 ≤ headStart t) × ((headStart t ≡ 10 → ⊥) → headStart t ≡ 12)
+unfolding headStart
+head-start-two t = decide (isVersion 1 t) (λ v. rw v (omega arith, λ n. absurd (n refl))) (λ v. rw v (omega arith, λ n. refl))
+
+module _ (t : List ℕ) {p : ℕ} (e : p ≡ beginOf t) where
+  begun-at : isEither t ≡ true → leb (headStart t) (length t) ≡ true → Begun t p
+  unfolding beginOf
+  begun-at v l =
+      let k : p ≡ headStart t = e ∙ rw (v, l) in
+      let two = head-start-two t in
       record {
         version = v;
-        framed = f;
-        is = e;
-        from = omega (arith, e, s);
-        inside = omega (arith, e, framed-long f);
-        head = rw (k, s);
+        is = k;
+        inside = omega (arith, k, leb-true (headStart t) (length t) l);
+        from = omega (arith, k, two .0);
+        twelve = λ n. k ∙ two .1 (λ q. n (k ∙ q));
       }
 
-  pub begun : {p : ℕ} → p ≡ startOf t → (p ≡ 0 → ⊥) → Begun t p
-  unfolding startOf
-  begun {p} e n =
-      decide (isVersion 1 t && isFramed t)
-      (λ b. begun-at (and-left (isVersion 1 t) (isFramed t) b) (and-right (isVersion 1 t) (isFramed t) b) (e ∙ rw b))
-      (λ b. absurd (n (e ∙ rw b)))
+  pub begun : (p ≡ 0 → ⊥) → Begun t p
+  unfolding beginOf
+  begun n =
+      decide (isEither t)
+      (λ v. decide (leb (headStart t) (length t)) (begun-at v) (λ l. absurd (n (e ∙ rw (v, l)))))
+      (λ v. absurd (n (e ∙ rw v)))
 
-  taken-version : (v : Values) → Says t v → isVersion 1 t ≡ true
-  unfolding isTaken
-  taken-version v s = and-left (isVersion 1 t) (isEight (v .width) && isRows (v .order)) (s .taken)
+  pub not-begun : p ≡ 0 → (v : Values) → Says t v → ⊥
+  unfolding beginOf isFramed
+  not-begun z v s =
+      let ab = and-left (isEither t && leb (headStart t) (length t)) (leb (dataStart t) (length t)) (s .framed) in
+      let a = and-left (isEither t) (leb (headStart t) (length t)) ab in
+      let b = and-right (isEither t) (leb (headStart t) (length t)) ab in
+      let k : beginOf t ≡ headStart t = rw (a, b) in
+      omega (arith, e, z, k, head-start-two t .0)
 
-  pub not-begun : {p : ℕ} → p ≡ startOf t → p ≡ 0 → (v : Values) → Says t v → ⊥
-  unfolding startOf
-  not-begun {p} e z v s =
-      let a = taken-version v s in
-      let k : startOf t ≡ dataStart t = rw (a, s .framed) in
-      omega (arith, e, z, k, ten a)
+module _ (t : List ℕ) {p : ℕ} (b : Begun t p) where
+  length-at : (n : ℕ) → p ≡ 8 + n → headLength t ≡ little n t 8
+  unfolding headLength
+  length-at n e = let k : headStart t - 8 ≡ n = omega (arith, b .is, e) in rw k
+
+  pub end-one : {x : ℕ} → p ≡ 10 → x ≡ little 2 t 8 → 10 + x ≡ dataStart t
+  end-one e k = omega (arith, b .is, e, k, length-at 2 e)
+
+  pub end-two : {x : ℕ} → (p ≡ 10 → ⊥) → x ≡ little 4 t 8 → 12 + x ≡ dataStart t
+  end-two n k = let e = b .twelve n in omega (arith, b .is, e, k, length-at 4 e)
+
+  pub end-is : {r q : ℕ} → q ≡ dataStart t → r ≡ cond (leb q (length t)) q 0 → r ≡ endOf t
+  unfolding endOf
+  end-is {r} {q} e k = k ∙ ap (λ (x : ℕ). cond (leb x (length t)) x 0) e
+
+-- the frame is whole: the header from p on, the data from s on
+pub record Framed (t : List ℕ) (p s : ℕ) : Type 0 where
+  pub framed : isFramed t ≡ true
+  pub is : s ≡ dataStart t
+  pub from : p ≤ s
+  pub inside : s ≤ length t
+  pub head : part p s t ≡ headText t
+
+module _ (t : List ℕ) {p s : ℕ} (b : Begun t p) (e : s ≡ endOf t) where
+  framed-at : leb (dataStart t) (length t) ≡ true → Framed t p s
+  unfolding endOf isFramed headText
+  framed-at l =
+      let k : s ≡ dataStart t = e ∙ rw l in
+      let m : s - p ≡ headLength t = omega (arith, k, b .is) in
+      record {
+        framed = rw (b .version, le-leb (headStart t) (length t) (omega (arith, b .is, b .inside)), l);
+        is = k;
+        from = omega (arith, k, b .is);
+        inside = omega (arith, k, leb-true (dataStart t) (length t) l);
+        head = rw (m, b .is);
+      }
+
+  pub framed : (s ≡ 0 → ⊥) → Framed t p s
+  unfolding endOf
+  framed n = decide (leb (dataStart t) (length t)) framed-at (λ l. absurd (n (e ∙ rw l)))
+
+  pub not-framed : s ≡ 0 → (v : Values) → Says t v → ⊥
+  unfolding endOf isFramed
+  not-framed z v y =
+      let l = and-right (isEither t && leb (headStart t) (length t)) (leb (dataStart t) (length t)) (y .framed) in
+      let k : endOf t ≡ dataStart t = rw l in
+      omega (arith, e, z, k, head-start-two t .0)
 
 -- ---- the whole
 
@@ -125,6 +147,8 @@ pub record Opening (t : List ℕ) (r : Opened) : Type 0 where
   pub says : Says t values
   pub start : r .start ≡ dataStart t
   pub inside : r .start ≤ length t
+  pub width : r .width ≡ widthNumber (values .width)
+  pub order : r .order ≡ orderNumber (values .order)
   pub kept : Kept (map cap (values .shape)) (r .shape)
 
 -- taken is a file that says so; and no other file says anything
@@ -132,66 +156,28 @@ pub record Opens (t : List ℕ) (r : Opened) : Type 0 where
   pub sound : r .right ≡ true → Opening t r
   pub complete : r .right ≡ false → (v : Values) → Says t v → ⊥
 
-abbrev pub opened : Bool → ℕ → Shape → Opened
-opened b p s = record { right = b; start = p; shape = s }
+pub opens-none : (t : List ℕ) {r : Opened} → r .right ≡ false → ((v : Values) → Says t v → ⊥) → Opens t r
+opens-none t e n = record { sound = λ h. absurd (apart h e); complete = λ h. n }
 
-pub opens-none : (t : List ℕ) (s : Shape) {p : ℕ} → p ≡ startOf t → p ≡ 0 → Opens t (opened false 0 s)
-opens-none t s e z = record { sound = λ h. absurd (apart h refl); complete = λ h. not-begun t e z }
+abbrev opened : ℕ → Found → Opened
+opened s f = record { right = f .right; start = s; width = f .width; order = f .order; shape = f .shape }
 
-width-eight : (w : Width) → widthNumber w ≡ 8 → isEight w ≡ true
-unfolding isEight widthNumber
-width-eight eight h = refl
-width-eight four h = absurd (omega arith)
-
-eight-width : (w : Width) → isEight w ≡ true → widthNumber w ≡ 8
-unfolding isEight widthNumber
-eight-width eight h = refl
-eight-width four h = absurd (apart h refl)
-
-order-rows : (o : Order) → orderNumber o ≡ 1 → isRows o ≡ true
-unfolding isRows orderNumber
-order-rows rows h = refl
-order-rows columns h = absurd (omega arith)
-
-rows-order : (o : Order) → isRows o ≡ true → orderNumber o ≡ 1
-unfolding isRows orderNumber
-rows-order rows h = refl
-rows-order columns h = absurd (apart h refl)
-
-module _ (t : List ℕ) {p : ℕ} {f : Found} (b : Begun t p) (h : HeaderRead (part 10 p t) f) where
-  abbrev taking : Bool
-  taking = (f .right && eqb (f .width) 8) && eqb (f .order) 1
-
-  found-sound : taking ≡ true → Opening t (opened taking p (f .shape))
-  unfolding isTaken
+module _ (t : List ℕ) {p s : ℕ} {f : Found} (b : Framed t p s) (h : HeaderRead (part p s t) f) where
+  found-sound : f .right ≡ true → Opening t (opened s f)
   found-sound e =
-      let rw₂ = and-left (f .right && eqb (f .width) 8) (eqb (f .order) 1) e in
-      let o : f .order ≡ 1 = eqb-true (f .order) 1 (and-right (f .right && eqb (f .width) 8) (eqb (f .order) 1) e) in
-      let w : f .width ≡ 8 = eqb-true (f .width) 8 (and-right (f .right) (eqb (f .width) 8) rw₂) in
-      let k = h .sound (and-left (f .right) (eqb (f .width) 8) rw₂) in
-      let v : Values = k .values in
+      let k = h .sound e in
       record {
-        values = v;
-        says =
-            record {
-              framed = b .framed;
-              right = rw (b .head) at (k .right);
-              taken = rw (b .version, width-eight (v .width) (sym (k .says .width) ∙ w), order-rows (v .order) (sym (k .says .order) ∙ o));
-            };
+        values = k .values;
+        says = record { framed = b .framed; right = rw (b .head) at (k .right) };
         start = b .is;
         inside = b .inside;
+        width = k .says .width;
+        order = k .says .order;
         kept = k .says .shape;
       }
 
-  found-complete : taking ≡ false → (v : Values) → Says t v → ⊥
-  unfolding isTaken
-  found-complete e v s =
-      let k = h .complete v (rw (← b .head) at (s .right)) in
-      let z = and-right (isVersion 1 t) (isEight (v .width) && isRows (v .order)) (s .taken) in
-      let w : f .width ≡ 8 = k .1 .width ∙ eight-width (v .width) (and-left (isEight (v .width)) (isRows (v .order)) z) in
-      let o : f .order ≡ 1 = k .1 .order ∙ rows-order (v .order) (and-right (isEight (v .width)) (isRows (v .order)) z) in
-      let all : taking ≡ true = rw (k .0, eq-eqb (f .width) 8 w, eq-eqb (f .order) 1 o) in
-      apart all e
+  found-complete : f .right ≡ false → (v : Values) → Says t v → ⊥
+  found-complete e v s = apart (h .complete v (rw (← b .head) at (s .right)) .0) e
 
-  pub opens-found : Opens t (opened taking p (f .shape))
+  pub opens-found : Opens t (opened s f)
   opens-found = record { sound = found-sound; complete = found-complete }

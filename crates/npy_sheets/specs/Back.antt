@@ -3,7 +3,7 @@
 -- npy_laws/specs/Back.antt).
 use Prim.Native.Nat.{ℕ, _^_, _<_}
 use mathlib.Core.List.{List}
-use mathlib.Core.Bool.{true}
+use mathlib.Core.Bool.{Bool, true}
 use lib.Dec.{T}
 use mathlib.Core.Path.{_≡_, ap, ap₂, _∙_}
 use lib.ListN.{length, getD}
@@ -16,11 +16,11 @@ use Rattle.npy_files.specs.Writes.{fileOut}
 use Rattle.npy_answers.specs.Printed.{text-is, done-answer, done-word, done-values}
 use Rattle.npy_sheets.specs.Arrays.{arrayText}
 
-pub answer-array : (n w : ℕ) (xs : List Float) → n < 100 → w < 2 ^ 64 → goodWord w ≡ true → length xs ≡ stored (headerOf w)
-    → ((k : ℕ) → k < length xs → T (fits binary64 (getD xs k nan))) → arrayText (doneText n w xs) ≡ fileOut (shapeOf (headerOf w)) xs
+pub answer-array : (newer : Bool) (n w : ℕ) (xs : List Float) → n < 100 → w < 2 ^ 64 → goodWord w ≡ true → length xs ≡ stored (headerOf w)
+    → ((k : ℕ) → k < length xs → T (fits binary64 (getD xs k nan))) → arrayText newer (doneText n w xs) ≡ fileOut newer (shapeOf (headerOf w)) xs
 unfolding arrayText
-answer-array n w xs few small good many fit =
-    ap arrayText (text-is n w xs few small good many fit)
+answer-array newer n w xs few small good many fit =
+    ap (arrayText newer) (text-is n w xs few small good many fit)
     ∙ rw (done-answer n w xs few small good many fit)
-    (ap₂ (λ (v : ℕ) (ys : List Float). fileOut (shapeOf (headerOf v)) ys) (done-word n w xs few small good many fit)
+    (ap₂ (λ (v : ℕ) (ys : List Float). fileOut newer (shapeOf (headerOf v)) ys) (done-word n w xs few small good many fit)
     (done-values n w xs few small good many fit))

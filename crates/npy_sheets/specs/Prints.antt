@@ -42,7 +42,7 @@ unfoldable isDone : Written → ℕ
 isDone (Done n) = 1
 isDone (Refused r) = 0
 
-module _ (t : List ℕ) (yes : isAnswer t ≡ true) where
+module _ (newer : Bool) (t : List ℕ) (yes : isAnswer t ≡ true) where
   abbrev w : ℕ
   w = headWord t
 
@@ -50,7 +50,7 @@ module _ (t : List ℕ) (yes : isAnswer t ≡ true) where
   facts = answer-good (answered t yes)
 
   abbrev file : List ℕ
-  file = fileOut (shapeOf (headerOf w)) (answerValues t)
+  file = fileOut newer (shapeOf (headerOf w)) (answerValues t)
 
   many : length (answerValues t) ≡ stored (headerOf w)
   unfolding answerValues
@@ -58,7 +58,7 @@ module _ (t : List ℕ) (yes : isAnswer t ≡ true) where
 
   file-bytes : length file ≡ fileLength w
   file-bytes =
-      file-long (shapeOf (headerOf w)) (shape-good (headerOf w) facts) (answerValues t) (many ∙ sym (shape-product (headerOf w) facts))
+      file-long (shapeOf (headerOf w)) (shape-good (headerOf w) facts) newer (answerValues t) (many ∙ sym (shape-product (headerOf w) facts))
       ∙ ap (λ (n : ℕ). 128 + 8 * n) many
 
   module _ {s v : ℕ} (es : s ≡ linesStart t) (ev : v ≡ wordAt t s) where
@@ -101,17 +101,17 @@ module _ (t : List ℕ) (yes : isAnswer t ≡ true) where
         given-are = take-at x (drop c values) c x-long ∙ values-are
 
         module _ (old : List ℕ) (fit : 32896 ≤ length old) {r : Written} {new : List ℕ}
-            (er : r ≡ writeAnswer v (take c (x ++ drop c values)) old) (en : new ≡ writeFile v (take c (x ++ drop c values)) old) where
-          done-is : (writeAnswer w (answerValues t) old ≡ Done (fileLength w)) × (writeFile w (answerValues t) old ≡ over file old)
-          done-is = write-done w (answerValues t) old (answered t yes .good) many (omega (arith, facts .most, fit))
+            (er : r ≡ writeAnswer v (take c (x ++ drop c values)) old) (en : new ≡ writeFile newer v (take c (x ++ drop c values)) old) where
+          done-is : (writeAnswer w (answerValues t) old ≡ Done (fileLength w)) × (writeFile newer w (answerValues t) old ≡ over file old)
+          done-is = write-done newer w (answerValues t) old (answered t yes .good) many (omega (arith, facts .most, fit))
 
           r-is : r ≡ Done (fileLength w)
           r-is = er ∙ (ap₂ (λ (k : ℕ) (a : List Float). writeAnswer k a old) word-is given-are ∙ done-is .0)
 
           new-is : new ≡ over file old
-          new-is = en ∙ (ap₂ (λ (k : ℕ) (a : List Float). writeFile k a old) word-is given-are ∙ done-is .1)
+          new-is = en ∙ (ap₂ (λ (k : ℕ) (a : List Float). writeFile newer k a old) word-is given-are ∙ done-is .1)
 
-          pub array-done : (n : ℕ) → r ≡ Done n → Arrayed t values (x ++ drop c values) old new n
+          pub array-done : (n : ℕ) → r ≡ Done n → Arrayed newer t values (x ++ drop c values) old new n
           unfolding arrayText lengthOf
           array-done n e =
               let long : n ≡ length file = ap lengthOf (sym e ∙ r-is) ∙ sym file-bytes in
@@ -135,17 +135,17 @@ passed-short t h =
     leb-true (length t) 64 (and-left c e (and-right b (c && e) (and-right a (b && (c && e)) h)))
 
 -- a text that is no answer
-module _ (t : List ℕ) (no : isAnswer t ≡ false) (values : List Float) where
+module _ (newer : Bool) (t : List ℕ) (no : isAnswer t ≡ false) (values : List Float) where
   kept : values ≡ arrayMemory t values
   unfolding arrayMemory
   kept = rw no
 
-  pub array-passed : {old new : List ℕ} {n : ℕ} → isRefusal t ≡ true → Put 0 t old new n → Arrayed t values values old new n
+  pub array-passed : {old new : List ℕ} {n : ℕ} → isRefusal t ≡ true → Put 0 t old new n → Arrayed newer t values values old new n
   unfolding arrayText
   array-passed h p = record { put = rw (no, h) p; memory = kept }
 
   pub array-other : {old new : List ℕ} {n : ℕ} {r : Refusal} → r ≡ refusedBy 8 → isRefusal t ≡ false → Put 0 (refusedText r) old new n
-      → Arrayed t values values old new n
+      → Arrayed newer t values values old new n
   unfolding arrayText
   array-other {old} {new} {n} e h p =
       record { put = rw (no, h) (subst (λ (x : Refusal). Put 0 (refusedText x) old new n) e p); memory = kept }

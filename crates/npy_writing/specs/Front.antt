@@ -1,6 +1,7 @@
 -- The bytes before the data, put piece by piece.
 use Prim.Native.Nat.{ℕ, zero, suc, _+_, _-_, _*_, _^_, _≤_, _<_}
 use mathlib.Core.List.{List, [], _∷_, _++_, append-assoc, append-nil}
+use mathlib.Core.Bool.{Bool, true, false}
 use mathlib.Core.Path.{_≡_, refl, sym, ap, _∙_, subst}
 use native.Mathlib.Omega.{arith}
 use native.Mathlib.Numerals.{add-one}
@@ -10,8 +11,7 @@ use Rattle.lists.specs.Bytes.{bytes}
 use Rattle.lists.specs.Four.{at}
 use Rattle.lists.specs.Table.{table, length-table}
 use Rattle.model_texts.specs.Printed.{decimal}
-use Rattle.npy_files.specs.Frame.{opening}
-use Rattle.npy_files.specs.Writes.{lowBytes, followed, listed, closing, tupleOut, dictOut, headOut, frontOut}
+use Rattle.npy_files.specs.Writes.{lowBytes, followed, listed, closing, tupleOut, dictOut, headBytes, startOut, headOut, frontOut}
 use Rattle.sheet_text.specs.Decimal.{decimal-most}
 use Rattle.sheet_text.specs.Put.{Put, put-none, put-then, put-len}
 
@@ -26,8 +26,8 @@ pub record PutShort (m place : ℕ) (xs old new : List ℕ) (next : ℕ) : Type 
   pub put : Put place xs old new next
   pub most : next ≤ place + m
 
-pub record PutFront (s old new : List ℕ) (next : ℕ) : Type 0 where
-  pub put : Put 0 (frontOut s) old new next
+pub record PutFront (newer : Bool) (s old new : List ℕ) (next : ℕ) : Type 0 where
+  pub put : Put 0 (frontOut newer s) old new next
   pub is : next ≡ 128
 
 pub two-digits : (x : ℕ) → x ≤ 64 → length (decimal x) ≤ 2
@@ -143,14 +143,26 @@ module _ (s : List ℕ) {place : ℕ} {old : List ℕ} where
         most = omega (arith, x .behind, y .most, z .behind);
       }
 
-pub front-put : (s : List ℕ) {old a b c d : List ℕ} {p q r e : ℕ} → Put 0 (opening 1 ++ (118 ∷ 0 ∷ [])) old a p
+-- ---- the whole
+
+pub start-put : (newer : Bool) {old new : List ℕ} {e : ℕ} → Put 0 (startOut newer) old new e → PutShort 12 0 (startOut newer) old new e
+unfolding startOut lowBytes
+start-put true p = record { put = p; most = omega (arith, p .behind) }
+start-put false p = record { put = p; most = omega (arith, p .behind) }
+
+start-long : (newer : Bool) → length (startOut newer) + headBytes newer ≡ 128
+unfolding startOut lowBytes
+start-long true = refl
+start-long false = refl
+
+pub front-put : (newer : Bool) (s : List ℕ) {old a b c d : List ℕ} {p q r e : ℕ} → PutShort 12 0 (startOut newer) old a p
     → PutShort 70 p (dictOut s) a b q → Put q (table (127 - q) (λ k. 32)) b c r
-    → Put r (10 ∷ []) c d e → PutFront s old d e
-unfolding frontOut headOut lowBytes
-front-put s {old} {a} {b} {c} {d} {p} {q} {r} {e} w x y z =
-    let k : 127 - q ≡ 118 - 1 - length (dictOut s) = omega (arith, w .behind, x .put .behind) in
-    let y' : Put q (table (118 - 1 - length (dictOut s)) (λ k. 32)) b c r = subst (λ (m : ℕ). Put q (table m (λ k. 32)) b c r) k y in
+    → Put r (10 ∷ []) c d e → PutFront newer s old d e
+unfolding frontOut headOut
+front-put newer s {old} {a} {b} {c} {d} {p} {q} {r} {e} w x y z =
+    let k : 127 - q ≡ headBytes newer - 1 - length (dictOut s) = omega (arith, w .put .behind, x .put .behind, start-long newer) in
+    let y' : Put q (table (headBytes newer - 1 - length (dictOut s)) (λ k. 32)) b c r = subst (λ (m : ℕ). Put q (table m (λ k. 32)) b c r) k y in
     record {
-      put = put-then w (put-then (x .put) (put-then y' z));
-      is = omega (arith, w .behind, x .most, y .behind, z .behind, length-table {A = ℕ} (λ k. 32) (127 - q));
+      put = put-then (w .put) (put-then (x .put) (put-then y' z));
+      is = omega (arith, w .most, x .most, y .behind, z .behind, length-table {A = ℕ} (λ k. 32) (127 - q));
     }

@@ -1,5 +1,5 @@
-// The 128 bytes before the data of an array file that is written (document 02, W2). Each function answers the place
-// behind its text.
+// The 128 bytes before the data of an array file that is written (document 02, W2 and W12). Each function
+// answers the place behind its text.
 use sheet_text::print::put_byte;
 use sheet_text::print::put_bytes;
 use sheet_text::print::put_decimal;
@@ -8,7 +8,7 @@ ghost use mathlib.Core.Path.{_≡_};
 ghost use mathlib.Core.List.{List};
 ghost use Prim.Native.Nat.{ℕ, _+_, _≤_};
 ghost use lib.ListN.{length, take, drop};
-ghost use Rattle.npy_files.specs.Writes.{followed, listed, closing, tupleOut, dictOut};
+ghost use Rattle.npy_files.specs.Writes.{followed, listed, closing, tupleOut, dictOut, startOut};
 ghost use Rattle.npy_writing.specs.Front.{Shaped, PutShort, PutFront};
 
 // The numbers of a shape behind the first, a comma and a space before each.
@@ -74,12 +74,23 @@ fn put_dict(vars: usize, n: [usize; 4], at: usize, to: &mut [u8]) -> usize
     put_bytes(b", }", b, to)
 }
 
-// All that stands before the data.
-pub fn put_front(vars: usize, n: [usize; 4], to: &mut [u8]) -> usize
-    requires { ⌜ Shaped vars n ⌝ ∗ ⌜ 128 ≤ length (now to) ⌝ }
-    ensures { λ r. ⌜ PutFront (take vars n) (now (to .entry)) (now (to .exit)) r ⌝ }
+// The opening bytes, the version and the header's length, of version 1.0 or the newer one, 2.0.
+fn put_start(newer: bool, to: &mut [u8]) -> usize
+    requires { ⌜ 12 ≤ length (now to) ⌝ }
+    ensures { λ r. ⌜ PutShort 12 0 (startOut newer) (now (to .entry)) (now (to .exit)) r ⌝ }
 {
-    let a = put_bytes(&[147, 78, 85, 77, 80, 89, 1, 0, 118, 0], 0, to);
+    if newer {
+        return put_bytes(&[147, 78, 85, 77, 80, 89, 2, 0, 116, 0, 0, 0], 0, to);
+    }
+    put_bytes(&[147, 78, 85, 77, 80, 89, 1, 0, 118, 0], 0, to)
+}
+
+// All that stands before the data.
+pub fn put_front(newer: bool, vars: usize, n: [usize; 4], to: &mut [u8]) -> usize
+    requires { ⌜ Shaped vars n ⌝ ∗ ⌜ 128 ≤ length (now to) ⌝ }
+    ensures { λ r. ⌜ PutFront newer (take vars n) (now (to .entry)) (now (to .exit)) r ⌝ }
+{
+    let a = put_start(newer, to);
     let b = put_dict(vars, n, a, to);
     let c = put_spaces(127 - b, b, to);
     put_byte(10, c, to)

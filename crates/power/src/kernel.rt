@@ -48,6 +48,7 @@ fn times_to(
     requires { ⌜ Step limits la lb pa pb n (length (now work)) (length (now out)) ⌝ ∗ ⌜ to ≤ n ⌝ }
     ensures { λ r. ⌜ Placed (multiplied limits (lain pa la (now (work .entry))) (lain pb lb (now (work .entry)))) to n
         (now (work .entry)) (now (work .exit)) r ⌝ }
+    ensures spent { λ _. ⌜ length (now (out .exit)) ≡ length (now (out .entry)) ⌝ }
 {
     let r = times_front(work, pa, la, pb, lb, n, limits, out);
     let z = shape_words::places::count_of(r);
@@ -67,6 +68,7 @@ fn take_bit(
 ) -> [usize; 4]
     requires { ⌜ (left % 2 ≡ 1 → Step limits lr lb n 0 n (length (now work)) (length (now out))) ⌝ }
     ensures { λ r. ⌜ Placed (taken limits left (lain n lr (now (work .entry))) (lain 0 lb (now (work .entry)))) n n (now (work .entry)) (now (work .exit)) r ⌝ }
+    ensures spent { λ _. ⌜ length (now (out .exit)) ≡ length (now (out .entry)) ⌝ }
 {
     if left % 2 == 1 {
         return times_to(work, n, lr, 0, lb, n, n, limits, out);
@@ -86,6 +88,7 @@ fn squarings(
 ) -> [usize; 4]
     requires { ⌜ Powers la limits e n (length (now work)) (length (now out)) ⌝ ∗ ⌜ 0 < e ⌝ }
     ensures { λ r. ⌜ Stands (squared 32 limits e (constantBlock oneF) (lain 0 la (now (work .entry)))) (now (out .exit)) r ⌝ }
+    ensures spent { λ _. ⌜ length (now (work .exit)) ≡ length (now (work .entry)) ⌝ }
 {
     work[n] = 1.0;
     let mut lr = [1usize; 4];
@@ -112,6 +115,7 @@ fn power_front(
 ) -> [usize; 4]
     requires { ⌜ Powers la limits e n (length (now work)) (length (now out)) ⌝ }
     ensures { λ r. ⌜ Stands (powerBlock e limits (lain 0 la (now (work .entry)))) (now (out .exit)) r ⌝ }
+    ensures spent { λ _. ⌜ length (now (work .exit)) ≡ length (now (work .entry)) ⌝ }
 {
     if e == 0 {
         out[0] = 1.0;
@@ -137,6 +141,7 @@ pub fn power_loaded(
     requires { ⌜ Powers la limits e n (length (now work)) (length (now out)) ⌝ }
     ensures lengths { λ r. ⌜ r ≡ powerBlock e limits (lain 0 la (now (work .entry))) .lengths ⌝ }
     ensures written { λ r. ⌜ now (out .exit) ≡ padded n (powerBlock e limits (lain 0 la (now (work .entry))) .places) ⌝ }
+    ensures spent { λ _. ⌜ length (now (work .exit)) ≡ length (now (work .entry)) ⌝ }
 {
     let r = power_front(work, la, e, limits, n, out);
     let z = shape_words::places::count_of(r);
@@ -168,6 +173,7 @@ pub fn power_into(
     requires { ⌜ Powers la limits e n (length (now work)) (length (now out)) ⌝ ∗ ⌜ length (now a) ≡ count la ⌝ }
     ensures lengths { λ r. ⌜ r ≡ powerBlock e limits (block la (now (a .entry))) .lengths ⌝ }
     ensures written { λ r. ⌜ now (out .exit) ≡ padded n (powerBlock e limits (block la (now (a .entry))) .places) ⌝ }
+    ensures spent { λ _. ⌜ length (now (work .exit)) ≡ length (now (work .entry)) ⌝ }
 {
     load_base(a, e, work);
     power_loaded(work, la, e, limits, n, out)

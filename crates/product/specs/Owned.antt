@@ -2,14 +2,14 @@
 -- what the entry owes.
 use Prim.Native.Nat.{ℕ, _+_, _*_, _%_, _^_, _≤_, _<_}
 use mathlib.Core.List.{List, _++_}
-use mathlib.Core.Bool.{Bool, true, _&&_}
+use mathlib.Core.Bool.{Bool, true, false, _&&_}
 use mathlib.Core.Path.{_≡_, refl, sym, ap, _∙_}
 use native.Mathlib.Omega.{arith}
 use lib.Dec.{leb, ltb, eqb}
 use lib.ListN.{length, take, drop}
 use lib.Seq.{length-take-le}
 use lib.Ieee.{Float}
-use borrow.Author.Tests.{leb-true, ltb-true, le-leb}
+use borrow.Author.Tests.{leb-true, ltb-true, eqb-true, le-leb, eq-eqb}
 use Rattle.lists.specs.Test.{and-left, and-right, decide}
 use Rattle.lists.specs.Four.{at}
 use Rattle.lists.specs.Table.{length-table}
@@ -18,7 +18,7 @@ use Rattle.model.specs.declared.Way.{Way}
 use Rattle.model.specs.declared.Refusal.{Refusal}
 use Rattle.model.specs.declared.Answer.the-variants.{Done}
 use Rattle.model.specs.declared.Family.the-variants.{Product}
-use Rattle.model.specs.Header.{header, limit, len, count, stored}
+use Rattle.model.specs.Header.{header, limit, len, count, stored, goodHeader}
 use Rattle.model.specs.Word.{headerOf, goodWord, wordOf}
 use Rattle.model.specs.Refusals.{zeros, noRefusal, leaves, cleared}
 use Rattle.model.specs.Gates.{full, pairGate, announcedPair}
@@ -26,14 +26,15 @@ use Rattle.model.specs.Poly.{Poly, poly, polyOf, held, block}
 use Rattle.model.specs.Product.{multiplied, productPoly, productAnswer, productOut, productScratch}
 use Rattle.shape_words.specs.Rules.{Ruled, Good, ruled-at, header-good}
 use Rattle.shape_words.specs.Lengths.{Lengths, lengths-of}
+use Rattle.shape_words.specs.Sound.{good-word-is}
 use Rattle.shape_words.specs.Words.{good-word, pack-unpack}
-use Rattle.product_kept.specs.Kept.{KeepsLength, Keeps, keeps-ruled, keeps-announced}
+use Rattle.product_kept.specs.Kept.{keepsHeader, KeepsLength, Keeps, keeps-header, keeps-ruled, keeps-announced}
 use Rattle.gates.specs.Gate.{PairReady, pair-ready}
 use Rattle.blocks.specs.Entry.{done-answer, done-full}
 use Rattle.laws_keeps.specs.Sits.{Sits}
 use Rattle.product.specs.Room.{Caps}
-use Rattle.product.specs.Own.{Light, Owns, Shortens, ShortRoom, shortPlaces}
-use Rattle.product.specs.Short.{short-var, short-value}
+use Rattle.product.specs.Own.{longWay, lightWay, owns, ownCount, shortWay, Owns, Shortens, ShortRoom, shortPlaces}
+use Rattle.product.specs.Short.{light-is, short-var, short-value}
 
 -- ---- the gate
 
@@ -41,13 +42,13 @@ use Rattle.product.specs.Short.{short-var, short-value}
 pub owns-it : (w ma u mb mo ms : ℕ) {x y : Header} {n m : ℕ} → x ≡ headerOf w → y ≡ headerOf u → goodWord w ≡ true
     → Keeps x y → eqb (u % 2 ^ 13) 0 ≡ true → n ≡ stored x → m ≡ stored y
     → 1 < n → m ≤ 2 → n ≤ ma → m ≤ mb → n ≤ mo → 8 * n ≤ ms → Owns w ma u mb mo ms n
-unfolding pairGate goodWord
+unfolding pairGate
 owns-it w ma u mb mo ms {x} {y} {n} {m} ex ey g k z en em big few fa fb fo fs =
     let kw : Keeps (headerOf w) (headerOf u) = rw (ex, ey) at k in
     let gw = good-word w g in
     let nw : n ≡ stored (headerOf w) = rw ex at en in
     let mu : m ≡ stored (headerOf u) = rw ey at em in
-    let gu : goodWord u ≡ true = simp (header-good (keeps-ruled (gw .regular .rules) kw) (omega arith), z) in
+    let gu : goodWord u ≡ true = good-word-is u ∙ simp (header-good (keeps-ruled (gw .regular .rules) kw) (omega arith), z) in
     let t : announcedPair Product w u ≡ headerOf w = keeps-announced (gw .regular) kw in
     let most = gw .most in
     record {
@@ -68,35 +69,167 @@ owns-it w ma u mb mo ms {x} {y} {n} {m} ex ey g k z en em big few fa fb fo fs =
       big = big;
     }
 
--- the same from the tests that are made: g whether w is good, k whether the header is kept
-module _ (w ma u mb mo ms : ℕ) {x y : Header} (ex : x ≡ headerOf w) (ey : y ≡ headerOf u) {g k : Bool}
-    (eg : g ≡ goodWord w) (ek : k ≡ true → Keeps x y) (h : ((g && k) && eqb (u % 2 ^ 13) 0) ≡ true) where
-  good-left : goodWord w ≡ true
-  good-left = sym eg ∙ and-left g k (and-left (g && k) (eqb (u % 2 ^ 13) 0) h)
+-- two tests, each of which follows from the other
+both-ways : (a b : Bool) → (a ≡ true → b ≡ true) → (b ≡ true → a ≡ true) → a ≡ b
+both-ways true b f g = sym (f refl)
+both-ways false true f g = g refl
+both-ways false false f g = refl
 
-  kept : Keeps x y
-  kept = ek (and-right g k (and-left (g && k) (eqb (u % 2 ^ 13) 0) h))
+-- the tests that are made: of words and headers, and of the places
+abbrev firstTest : ℕ → ℕ → Bool
+firstTest w u = (goodWord w && keepsHeader (headerOf w) (headerOf u)) && eqb (u % 2 ^ 13) 0
 
-  pub tested-good : Good x
-  tested-good = rw ex (good-word w good-left)
+abbrev roomTest : ℕ → ℕ → ℕ → ℕ → ℕ → ℕ → Bool
+roomTest n ma m mb mo ms = ((((ltb 1 n && leb m 2) && leb n ma) && leb m mb) && leb n mo) && leb (8 * n) ms
 
-  pub tested-ruled : Ruled y
-  tested-ruled = keeps-ruled (tested-good .regular .rules) kept
+module _ (w ma u mb mo ms : ℕ) where
+  abbrev n : ℕ
+  n = stored (headerOf w)
 
-  pub tested-owns : {n m : ℕ} → n ≡ stored x → m ≡ stored y
-      → (((((ltb 1 n && leb m 2) && leb n ma) && leb m mb) && leb n mo) && leb (8 * n) ms) ≡ true
-      → Owns w ma u mb mo ms n
-  tested-owns {n} {m} en em t =
+  abbrev m : ℕ
+  m = stored (headerOf u)
+
+  -- what `owns` says
+  module _ (t : owns w ma u mb mo ms ≡ true) where
+    passed : (eqb (pairGate Product w ma u mb mo ms .number) 0 && keepsHeader (headerOf w) (headerOf u)) ≡ true
+    unfolding owns
+    passed = and-left (eqb (pairGate Product w ma u mb mo ms .number) 0 && keepsHeader (headerOf w) (headerOf u)) (ltb 1 n && leb m 2) t
+
+    sizes : (ltb 1 n && leb m 2) ≡ true
+    unfolding owns
+    sizes = and-right (eqb (pairGate Product w ma u mb mo ms .number) 0 && keepsHeader (headerOf w) (headerOf u)) (ltb 1 n && leb m 2) t
+
+    let-pass : PairReady Product w ma u mb mo ms
+    let-pass =
+        pair-ready Product w ma u mb mo ms
+        (eqb-true _ _ (and-left (eqb (pairGate Product w ma u mb mo ms .number) 0) (keepsHeader (headerOf w) (headerOf u)) passed))
+
+    kept-test : keepsHeader (headerOf w) (headerOf u) ≡ true
+    kept-test = and-right (eqb (pairGate Product w ma u mb mo ms .number) 0) (keepsHeader (headerOf w) (headerOf u)) passed
+
+    spare-bits : eqb (u % 2 ^ 13) 0 ≡ true
+    spare-bits = and-right (goodHeader (headerOf u)) (eqb (u % 2 ^ 13) 0) (sym (good-word-is u) ∙ let-pass .word-b)
+
+    told-left : announcedPair Product w u ≡ headerOf w
+    told-left = keeps-announced (let-pass .good-a .regular) (keeps-header _ _ kept-test)
+
+    room-out : n ≤ mo
+    room-out = omega (arith, ap stored told-left, let-pass .room)
+
+    room-scratch : 8 * n ≤ ms
+    room-scratch = omega (arith, ap stored told-left, let-pass .spare)
+
+    pub owns-worth : Owns w ma u mb mo ms n
+    owns-worth =
+        owns-it w ma u mb mo ms refl refl (let-pass .word-a) (keeps-header _ _ kept-test) spare-bits refl refl
+        (ltb-true _ _ (and-left (ltb 1 n) (leb m 2) sizes)) (leb-true _ _ (and-right (ltb 1 n) (leb m 2) sizes))
+        (let-pass .full-a) (let-pass .full-b) room-out room-scratch
+
+    owns-first : firstTest w u ≡ true
+    owns-first = rw (let-pass .word-a, kept-test, spare-bits)
+
+    owns-room : roomTest n ma m mb mo ms ≡ true
+    owns-room = rw (sizes, le-leb n ma (let-pass .full-a), le-leb m mb (let-pass .full-b), le-leb n mo room-out, le-leb (8 * n) ms room-scratch)
+
+  -- what the tests say
+  tests-own : (firstTest w u && roomTest n ma m mb mo ms) ≡ true → owns w ma u mb mo ms ≡ true
+  unfolding owns
+  tests-own h =
+      let f = and-left (firstTest w u) (roomTest n ma m mb mo ms) h in
+      let t = and-right (firstTest w u) (roomTest n ma m mb mo ms) h in
+      let g = and-left (goodWord w && keepsHeader (headerOf w) (headerOf u)) (eqb (u % 2 ^ 13) 0) f in
+      let good = and-left (goodWord w) (keepsHeader (headerOf w) (headerOf u)) g in
+      let keep = and-right (goodWord w) (keepsHeader (headerOf w) (headerOf u)) g in
       let t5 = and-left ((((ltb 1 n && leb m 2) && leb n ma) && leb m mb) && leb n mo) (leb (8 * n) ms) t in
       let t4 = and-left (((ltb 1 n && leb m 2) && leb n ma) && leb m mb) (leb n mo) t5 in
       let t3 = and-left ((ltb 1 n && leb m 2) && leb n ma) (leb m mb) t4 in
       let t2 = and-left (ltb 1 n && leb m 2) (leb n ma) t3 in
-      owns-it w ma u mb mo ms ex ey good-left kept (and-right (g && k) (eqb (u % 2 ^ 13) 0) h) en em
+      let o =
+      owns-it w ma u mb mo ms refl refl good (keeps-header _ _ keep) (and-right (goodWord w && keepsHeader (headerOf w) (headerOf u)) (eqb (u % 2 ^ 13) 0) f)
+      refl refl
       (ltb-true _ _ (and-left (ltb 1 n) (leb m 2) t2)) (leb-true _ _ (and-right (ltb 1 n) (leb m 2) t2))
       (leb-true _ _ (and-right (ltb 1 n && leb m 2) (leb n ma) t3))
       (leb-true _ _ (and-right ((ltb 1 n && leb m 2) && leb n ma) (leb m mb) t4))
       (leb-true _ _ (and-right (((ltb 1 n && leb m 2) && leb n ma) && leb m mb) (leb n mo) t5))
-      (leb-true _ _ (and-right ((((ltb 1 n && leb m 2) && leb n ma) && leb m mb) && leb n mo) (leb (8 * n) ms) t))
+      (leb-true _ _ (and-right ((((ltb 1 n && leb m 2) && leb n ma) && leb m mb) && leb n mo) (leb (8 * n) ms) t)) in
+      rw (eq-eqb (pairGate Product w ma u mb mo ms .number) 0 (ap (λ (q : Refusal). q .number) (o .gate)), keep, t2)
+
+  owns-tests : owns w ma u mb mo ms ≡ (firstTest w u && roomTest n ma m mb mo ms)
+  owns-tests =
+      both-ways (owns w ma u mb mo ms) (firstTest w u && roomTest n ma m mb mo ms) (λ t. rw (owns-first t) (owns-room t)) tests-own
+
+  -- the count, by the tests that are made: g whether w is good, k whether the header is kept
+  module _ {x y : Header} (ex : x ≡ headerOf w) (ey : y ≡ headerOf u) {g k : Bool}
+      (eg : g ≡ goodWord w) (ek : k ≡ keepsHeader x y) where
+    first-is : ((g && k) && eqb (u % 2 ^ 13) 0) ≡ firstTest w u
+    first-is = rw (eg, ek, ex, ey)
+
+    pub count-bad : ((g && k) && eqb (u % 2 ^ 13) 0) ≡ false → 0 ≡ ownCount w ma u mb mo ms
+    unfolding ownCount
+    count-bad h = let f : firstTest w u ≡ false = sym first-is ∙ h in rw (owns-tests, f)
+
+    module _ (h : ((g && k) && eqb (u % 2 ^ 13) 0) ≡ true) where
+      pub tested-good : Good x
+      tested-good = rw ex (good-word w (sym eg ∙ and-left g k (and-left (g && k) (eqb (u % 2 ^ 13) 0) h)))
+
+      pub tested-ruled : Ruled y
+      tested-ruled = keeps-ruled (tested-good .regular .rules) (keeps-header _ _ (sym ek ∙ and-right g k (and-left (g && k) (eqb (u % 2 ^ 13) 0) h)))
+
+      module _ {i j : ℕ} (en : i ≡ stored x) (em : j ≡ stored y) where
+        first-yes : firstTest w u ≡ true
+        first-yes = sym first-is ∙ h
+
+        room-is : roomTest i ma j mb mo ms ≡ roomTest n ma m mb mo ms
+        room-is = rw (en, em, ex, ey)
+
+        pub count-yes : roomTest i ma j mb mo ms ≡ true → i ≡ ownCount w ma u mb mo ms
+        unfolding ownCount
+        count-yes t = let r : roomTest n ma m mb mo ms ≡ true = sym room-is ∙ t in rw (owns-tests, first-yes, r) (en ∙ ap stored ex)
+
+        pub count-no : roomTest i ma j mb mo ms ≡ false → 0 ≡ ownCount w ma u mb mo ms
+        unfolding ownCount
+        count-no t = let r : roomTest n ma m mb mo ms ≡ false = sym room-is ∙ t in rw (owns-tests, first-yes, r)
+
+-- a count that is not 0
+pub owned-worth : (w ma u mb mo ms : ℕ) {n : ℕ} → n ≡ ownCount w ma u mb mo ms → (n ≡ 0 → ⊥) → Owns w ma u mb mo ms n
+unfolding ownCount
+owned-worth w ma u mb mo ms {n} e z =
+    decide (owns w ma u mb mo ms)
+    (λ t. let i : n ≡ stored (headerOf w) = rw t at e in rw i (owns-worth w ma u mb mo ms t))
+    (λ f. absurd (z (rw f at e)))
+
+module _ (w : ℕ) (a : List Float) (u : ℕ) (b : List Float) (mo ms : ℕ) where
+  -- a count that is 0
+  pub short-none : {n : ℕ} → n ≡ ownCount w (length a) u (length b) mo ms → n ≡ 0 → longWay ≡ shortWay w a u b mo ms
+  unfolding ownCount shortWay
+  short-none {n} e z =
+      decide (owns w (length a) u (length b) mo ms)
+      (λ t.
+      let i : n ≡ stored (headerOf w) = rw t at e in
+      absurd (omega (arith, i, z, owns-worth w (length a) u (length b) mo ms t .big)))
+      (λ f. rw f)
+
+  pub short-some : {n : ℕ} → n ≡ ownCount w (length a) u (length b) mo ms → (n ≡ 0 → ⊥) → {m : ℕ} {x y : Header} → x ≡ headerOf w → y ≡ headerOf u
+      → m ≡ stored y → lightWay (block (x .lengths) (take n a)) (block (y .lengths) (take m b)) ≡ shortWay w a u b mo ms
+  unfolding ownCount shortWay
+  short-some {n} e z ex ey em =
+      decide (owns w (length a) u (length b) mo ms)
+      (λ t. let i : n ≡ stored (headerOf w) = rw t at e in rw (t, i, em, ex, ey))
+      (λ f. absurd (z (rw f at e)))
+
+  -- a short way
+  pub short-worth : {c : Way} → c ≡ shortWay w a u b mo ms → (c .kind ≡ 6 → ⊥) → Shortens w a u b mo ms c
+  unfolding shortWay
+  short-worth {c} e z =
+      decide (owns w (length a) u (length b) mo ms)
+      (λ t.
+      let i : c ≡ lightWay (block (headerOf w .lengths) (take (stored (headerOf w)) a))
+      (block (headerOf u .lengths) (take (stored (headerOf u)) b)) = rw t at e in
+      record {
+        owns = owns-worth w (length a) u (length b) mo ms t;
+        light = rw i (light-is _ _ (λ k. z (ap (λ (q : Way). q .kind) i ∙ k)));
+      })
+      (λ f. absurd (z (ap (λ (q : Way). q .kind) (rw f at e))))
 
 -- ---- the operands that the gate let pass
 
@@ -129,12 +262,6 @@ module _ {w ma u mb mo ms n : ℕ} (o : Owns w ma u mb mo ms n) where
                 ),
               ),
             )
-
-        pub owned-shortens : {c : Way} → Light (block (x .lengths) (take n a)) (block (y .lengths) (take m b)) c → Shortens w a u b mo ms c
-        owned-shortens {c} l =
-            let i : n ≡ stored (headerOf w) = o .count in
-            let j : m ≡ stored (headerOf u) = em ∙ ap stored ey in
-            record { owns = rw (← ea, ← eb, ← i) o; light = rw (← i, ← j, ← ex, ← ey) l }
 
 -- what the two buffers hold then, h the left header
 module _ (h : Header) {n : ℕ} (e : n ≡ stored h) (old : List Float) {o : List Float} where

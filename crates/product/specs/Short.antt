@@ -30,7 +30,7 @@ use Rattle.product.specs.Room.{Caps, RaisesTo}
 use Rattle.product.specs.Ways.{sits-under, chosen-five, product-five, product-plain, plain-3}
 use Rattle.product.specs.Lined.{neither, by-scale, lined-block}
 use Rattle.product.specs.Times.{cut-none}
-use Rattle.product.specs.Own.{Light, ShortBlock, shortPlaces}
+use Rattle.product.specs.Own.{longWay, isLight, lightWay, Light, ShortBlock, shortPlaces}
 use Rattle.product_linear.specs.Raise.{linedAt, Raising}
 
 -- a light factor is no zero
@@ -126,8 +126,7 @@ module _ {limits la lb : List ℕ} {xs ys : List Float} {w : Way} (sa : Sits lim
       (λ e. by-line (eqb-false _ _ e) ∙ (lined (eqb-false _ _ e) ∙ rw e))
 
 -- a way that passed the tests is light
-pub light-tested : (a b : Block) (w : Way) → w ≡ chosen 1 a b
-    → ((eqb (w .kind) 3 || eqb (w .kind) 5) && not (eq (w .line .c) zeroF || eq (w .line .c) oneF)) ≡ true → Light a b w
+light-tested : (a b : Block) (w : Way) → w ≡ chosen 1 a b → isLight w ≡ true → Light a b w
 light-tested a b w e h =
     let t = and-left (eqb (w .kind) 3 || eqb (w .kind) 5) (not (eq (w .line .c) zeroF || eq (w .line .c) oneF)) h in
     let n =
@@ -140,6 +139,23 @@ light-tested a b w e h =
       one = n .1;
       kind = λ q. eqb-true _ _ (or-right (eqb (w .kind) 3) (eqb (w .kind) 5) t (ne-eqb _ _ q));
     }
+
+module _ (a b : Block) where
+  pub light-yes : (w : Way) → w ≡ chosen 1 a b → isLight w ≡ true → w ≡ lightWay a b
+  unfolding lightWay
+  light-yes w e t = rw (← e, t)
+
+  pub light-no : (w : Way) → w ≡ chosen 1 a b → isLight w ≡ false → longWay ≡ lightWay a b
+  unfolding lightWay
+  light-no w e t = rw (← e, t)
+
+  -- a light way that is not the long one
+  pub light-is : (lightWay a b .kind ≡ 6 → ⊥) → Light a b (lightWay a b)
+  unfolding lightWay
+  light-is z =
+      decide (isLight (chosen 1 a b))
+      (λ t. let e : chosen 1 a b ≡ lightWay a b = light-yes (chosen 1 a b) refl t in rw e at (light-tested a b (chosen 1 a b) refl t))
+      (λ t. absurd (z (rw t refl)))
 
 -- a linear factor that adds no row: the lengths stay
 pub short-raising : {w : Way} {n : List ℕ} {m o : ℕ} → ShortBlock w n m o → (w .kind ≡ 3 → ⊥) → Raising n (w .line .variable) n m o

@@ -360,6 +360,7 @@ fn line_whole(
 ) -> [usize; 4]
     requires { ⌜ LineWhole n (line .variable) limits (length (now a)) (length (now out)) (length (now work)) ⌝ }
     ensures { λ r. ⌜ Stands (linearProduct (λ x. productOf 0 limits x (constantBlock (line .c))) limits line (block n (now (a .entry)))) (now (out .exit)) r ⌝ }
+    ensures spent { λ _. ⌜ length (now (work .exit)) ≡ length (now (work .entry)) ⌝ }
 {
     let e = a.len();
     let c = line.c;
@@ -385,6 +386,7 @@ fn product_whole(
 ) -> [usize; 4]
     requires { ⌜ Whole la lb limits (length (now a)) (length (now b)) (length (now out)) (length (now work)) ⌝ }
     ensures { λ r. ⌜ Stands (productOf 1 limits (block la (now (a .entry))) (block lb (now (b .entry)))) (now (out .exit)) r ⌝ }
+    ensures spent { λ _. ⌜ length (now (work .exit)) ≡ length (now (work .entry)) ⌝ }
 {
     let w = choose(a, la, b, lb, 1);
     let kind = w.kind;
@@ -413,6 +415,7 @@ fn multiply_front(
 ) -> [usize; 4]
     requires { ⌜ Times la lb limits n (length (now a)) (length (now b)) (length (now out)) (length (now work)) ⌝ }
     ensures { λ r. ⌜ Stands (multiplied limits (block la (now (a .entry))) (block lb (now (b .entry)))) (now (out .exit)) r ⌝ }
+    ensures spent { λ _. ⌜ length (now (work .exit)) ≡ length (now (work .entry)) ⌝ }
 {
     let ca = shape::limits::cut_to(limits, la);
     let cb = shape::limits::cut_to(limits, lb);
@@ -442,6 +445,7 @@ pub fn multiply_into(
     requires { ⌜ Times la lb limits n (length (now a)) (length (now b)) (length (now out)) (length (now work)) ⌝ }
     ensures lengths { λ r. ⌜ r ≡ multiplied limits (block la (now (a .entry))) (block lb (now (b .entry))) .lengths ⌝ }
     ensures written { λ r. ⌜ now (out .exit) ≡ padded n (multiplied limits (block la (now (a .entry))) (block lb (now (b .entry))) .places) ⌝ }
+    ensures spent { λ _. ⌜ length (now (work .exit)) ≡ length (now (work .entry)) ⌝ }
 {
     let r = multiply_front(a, la, b, lb, limits, n, out, work);
     let z = shape_words::places::count_of(r);

@@ -21,11 +21,11 @@ ghost use Rattle.model.specs.Refusals.{zeros};
 ghost use Rattle.model.specs.Poly.{block};
 ghost use Rattle.model.specs.declared.Answer.the-variants.{Done};
 ghost use Rattle.shape_words.specs.Lengths.{Lengths};
-ghost use Rattle.product.specs.Own.{Light, Owns, Shortens, ShortBlock, ShortRoom, shortPlaces};
+ghost use Rattle.product.specs.Own.{longWay, lightWay, ownCount, shortWay, ShortBlock, ShortRoom, shortPlaces};
 
 // No short way.
 fn long_way() -> Way
-    ensures { λ r. ⌜ r .kind ≡ 6 ⌝ }
+    ensures { λ r. ⌜ r ≡ longWay ⌝ }
 {
     Way {
         kind: 6,
@@ -36,7 +36,7 @@ fn long_way() -> Way
 // The way of two operands, if it is that by a constant or a linear factor on the right, c neither zero nor one.
 fn light_way(a: &[f64], la: [usize; 4], b: &[f64], lb: [usize; 4]) -> Way
     requires { ⌜ Lengths la ⌝ ∗ ⌜ Lengths lb ⌝ ∗ ⌜ length (now a) ≡ count la ⌝ ∗ ⌜ length (now b) ≡ count lb ⌝ }
-    ensures { λ r. ⌜ ((r .kind ≡ 6 → ⊥) → Light (block la (now (a .entry))) (block lb (now (b .entry))) r) ⌝ }
+    ensures { λ r. ⌜ r ≡ lightWay (block la (now (a .entry))) (block lb (now (b .entry))) ⌝ }
 {
     let w = choose(a, la, b, lb, 1);
     let line = w.line;
@@ -48,10 +48,10 @@ fn light_way(a: &[f64], la: [usize; 4], b: &[f64], lb: [usize; 4]) -> Way
     long_way()
 }
 
-// How many places the answer has, if a product by the right factor has the left operand's header, more places than one,
-// and room; else 0.
+// How many places the answer has, if the call is not refused, a product by the right factor, of two places at most, has
+// the left operand's header, and that has more places than one; else 0.
 fn own_count(ah: u64, am: usize, bh: u64, bm: usize, lent: usize, scratch: usize) -> usize
-    ensures { λ r. ⌜ ((r ≡ 0 → ⊥) → Owns ah am bh bm lent scratch r) ⌝ }
+    ensures { λ r. ⌜ r ≡ ownCount ah am bh bm lent scratch ⌝ }
 {
     let x = header_of(ah);
     let y = header_of(bh);
@@ -68,7 +68,7 @@ fn own_count(ah: u64, am: usize, bh: u64, bm: usize, lent: usize, scratch: usize
 
 // The short way of a product, if it has one.
 pub fn short_way(ah: u64, a: &[f64], bh: u64, b: &[f64], lent: usize, scratch: usize) -> Way
-    ensures { λ r. ⌜ ((r .kind ≡ 6 → ⊥) → Shortens ah (now (a .entry)) bh (now (b .entry)) lent scratch r) ⌝ }
+    ensures { λ r. ⌜ r ≡ shortWay ah (now (a .entry)) bh (now (b .entry)) lent scratch ⌝ }
 {
     let n = own_count(ah, a.len(), bh, b.len(), lent, scratch);
     if n == 0 {

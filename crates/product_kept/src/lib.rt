@@ -2,19 +2,18 @@
 // one row, or all rows of the left operand stored.
 use model::Header;
 ghost use mathlib.Core.Path.{_≡_};
-ghost use mathlib.Core.Bool.{true};
-ghost use Rattle.product_kept.specs.Kept.{KeepsLength, Keeps};
+ghost use Rattle.product_kept.specs.Kept.{keepsLength, keepsHeader};
 
 // In one variable: l and n are the left operand's limit and length, limit and m the right one's.
 fn keeps_length(l: usize, n: usize, limit: usize, m: usize) -> bool
-    ensures { λ r. ⌜ (r ≡ true → KeepsLength l n limit m) ⌝ }
+    ensures { λ r. ⌜ r ≡ keepsLength l n limit m ⌝ }
 {
     (limit == l) & (1 <= m) & ((m == 1) | ((n == l) & (m <= l)))
 }
 
 // Whether a product by y has the header x.
 pub fn keeps_header(x: Header, y: Header) -> bool
-    ensures { λ r. ⌜ (r ≡ true → Keeps x y) ⌝ }
+    ensures { λ r. ⌜ r ≡ keepsHeader x y ⌝ }
 {
     let l = x.limits;
     let n = x.lengths;

@@ -72,6 +72,7 @@ fn gather_first(
         ⌜ Laid p (table (inRow r 0) (firstAt lx (take nx (now (work .entry))) ly r k
         (part q (q + k * inRow r 0) (now (work .entry))) (part b f (now (work .entry))))) (length (now (work .entry)))
         (now (work .entry)) (now (work .exit)) ⌝ }
+    ensures spent { λ _. ⌜ length (now (row .exit)) ≡ length (now (row .entry)) ⌝ }
 {
     let s = sr[0];
     let end = q + k * s;
@@ -100,6 +101,7 @@ fn each_first(
     ensures { λ _.
         ⌜ Laid q (recurred (block lx (take nx (now (work .entry)))) (block ly (part b f (now (work .entry)))) r) p
         (now (work .entry)) (now (work .exit)) ⌝ }
+    ensures spent { λ _. ⌜ length (now (row .exit)) ≡ length (now (row .entry)) ⌝ }
 {
     let n = r[0];
     let s = sr[0];
@@ -126,6 +128,7 @@ pub fn recur(
     requires { ⌜ Recurring lx ly r nx ny (length (now work)) (length (now out)) ⌝ }
     ensures { λ _. ⌜ now (out .exit) ≡ recurred (block lx (take nx (now (work .entry))))
         (block ly (part (length (now (out .entry))) (length (now (out .entry)) + ny) (now (work .entry)))) r ⌝ }
+    ensures spent { λ _. ⌜ length (now (work .exit)) ≡ length (now (work .entry)) ⌝ }
 {
     let n = out.len();
     let sy = shape_words::places::strides_of(ly);
@@ -161,6 +164,7 @@ pub fn divide_loaded(
 )
     requires { ⌜ Recurring ca cb r na nb (length (now work)) (length (now out)) ⌝ ∗ ⌜ (nb ≡ 1 → length (now out) ≡ na) ⌝ }
     ensures { λ _. ⌜ now (out .exit) ≡ loadedQuotient ca na cb nb r (length (now (out .entry))) (now (work .entry)) ⌝ }
+    ensures spent { λ _. ⌜ length (now (work .exit)) ≡ length (now (work .entry)) ⌝ }
 {
     let n = out.len();
     if nb == 1 {
@@ -183,6 +187,7 @@ pub fn divide_into(
 )
     requires { ⌜ Divides la lb limits r (length (now a)) (length (now b)) (length (now out)) (length (now work)) ⌝ }
     ensures { λ _. ⌜ now (out .exit) ≡ divided limits (block la (now (a .entry))) (block lb (now (b .entry))) .places ⌝ }
+    ensures spent { λ _. ⌜ length (now (work .exit)) ≡ length (now (work .entry)) ⌝ }
 {
     let n = out.len();
     let ca = shape::limits::cut_to(limits, la);

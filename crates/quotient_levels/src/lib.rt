@@ -90,6 +90,7 @@ fn gather(
         ⌜ Laid e (table (inRow r v) (leftAt ly r v k (part q (q + k * inRow r v) (now (work .entry)))
         (part b f (now (work .entry))) (part p e (now (work .entry))))) (length (now (work .entry)))
         (now (work .entry)) (now (work .exit)) ⌝ }
+    ensures spent { λ _. ⌜ length (now (row .exit)) ≡ length (now (row .entry)) ⌝ }
 {
     let at = k * sr[v];
     let end = q + at;
@@ -154,6 +155,7 @@ fn each_row(
 )
     requires { ⌜ Dividing ly sy r sr ⌝ ∗ ⌜ Room ly r v p e q b f (length (now work)) (length (now row)) ⌝ ∗ ⌜ 1 < at sr v ⌝ }
     ensures { λ _. ⌜ Laid q (levelOf ly r (part b f (now (work .entry))) v (part p e (now (work .entry)))) e (now (work .entry)) (now (work .exit)) ⌝ }
+    ensures spent { λ _. ⌜ length (now (row .exit)) ≡ length (now (row .entry)) ⌝ }
 {
     let w = v + 1;
     let n = r[v];
@@ -186,6 +188,7 @@ pub fn level(
 )
     requires { ⌜ Dividing ly sy r sr ⌝ ∗ ⌜ Room ly r v p e q b f (length (now work)) (length (now row)) ⌝ }
     ensures { λ _. ⌜ Laid q (levelOf ly r (part b f (now (work .entry))) v (part p e (now (work .entry)))) e (now (work .entry)) (now (work .exit)) ⌝ }
+    ensures spent { λ _. ⌜ length (now (row .exit)) ≡ length (now (row .entry)) ⌝ }
 {
     if sr[v] == 1 {
         line(work, p, e, q, b, f, ly, r, v);

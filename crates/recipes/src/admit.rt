@@ -72,6 +72,7 @@ pub fn run_admitted(
         ++ drop (length (now (steps .entry))) (now (words .entry)) ⌝ }
     ensures cleared { λ _. ⌜ now (scratch .exit) ≡ cleared (largest (announcedSteps (now (headers .entry)) (now (steps .entry)))) (now (scratch .entry)) ⌝ }
     ensures last { λ r. ⌜ r ≡ total (take (length (now (steps .entry)) - 1) (announcedSteps (now (headers .entry)) (now (steps .entry)))) ⌝ }
+    ensures spent { λ _. ⌜ length (now (known .exit)) ≡ length (now (known .entry)) ⌝ }
 {
     let from = headers.len();
     let to = from + steps.len();

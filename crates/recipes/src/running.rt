@@ -72,6 +72,7 @@ fn step_word(
         (take at (now (pool .entry))) (s .a)) (lyingAt inputs (now (known .entry)) (now (starts .entry))
         (now (coefficients .entry)) (take at (now (pool .entry))) (s .b)) .coeffs))
         (now (pool .entry)) (now (pool .exit)) ⌝ }
+    ensures spent { λ _. ⌜ length (now (scratch .exit)) ≡ length (now (scratch .entry)) ⌝ }
 {
     if s.kind == Step::CONSTANT {
         constant_to(s.n, pool, at, room);
@@ -115,6 +116,7 @@ pub fn run_steps(
     ensures values { λ _. ⌜ now (pool .exit) ≡ laid (announcedSteps (now (headers .entry)) (now (steps .entry)))
         (stepValues (now (headers .entry)) (now (coefficients .entry)) (now (steps .entry)))
         ++ drop (total (announcedSteps (now (headers .entry)) (now (steps .entry)))) (now (pool .entry)) ⌝ }
+    ensures spent { λ _. ⌜ length (now (scratch .exit)) ≡ length (now (scratch .entry)) ⌝ }
 {
     let inputs = headers.len();
     let mut i = 0;

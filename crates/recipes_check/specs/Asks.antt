@@ -6,6 +6,7 @@ use lib.Dec.{eqb}
 use borrow.Author.Tests.{eq-eqb, ne-eqb, eqb-true, eqb-false}
 use Rattle.lists.specs.Test.{decide}
 use Rattle.model.specs.declared.Refusal.{Refusal}
+use Rattle.model.specs.Refusals.{askFor}
 use Rattle.model_recipes.specs.Check.{askAt, orElse}
 
 pub or-first : {r : Refusal} (next : Refusal) → (r .number ≡ 0 → ⊥) → orElse r next ≡ r
@@ -30,3 +31,7 @@ or-none r next e =
 pub ask-none : (b : Bool) {k : ℕ} (p : ℕ) (next : Refusal) → (k ≡ 0 → ⊥) → askAt b k p next .number ≡ 0 → (b ≡ true) × (next .number ≡ 0)
 ask-none true p next h e = (refl, e)
 ask-none false p next h e = absurd (h e)
+
+pub ask-for-none : (b : Bool) (q next : Refusal) → (q .number ≡ 0 → ⊥) → askFor b q next .number ≡ 0 → (b ≡ true) × (next .number ≡ 0)
+ask-for-none true q next h e = (refl, e)
+ask-for-none false q next h e = absurd (h e)

@@ -11,13 +11,14 @@ use Rattle.lists.specs.All.{All}
 use Rattle.lists.specs.Grow.{over, length-over, over-more}
 use Rattle.model.specs.Header.{noHeader, span}
 use Rattle.model.specs.Word.{goodWord}
-use Rattle.model.specs.Refusals.{refusedAt, noRefusal}
+use Rattle.model.specs.Refusals.{askFor, noRefusal}
+use Rattle.model.specs.Gates.{badWord}
 use Rattle.model_recipes.specs.Recipe.{inputHeads}
-use Rattle.model_recipes.specs.Check.{askAt, inputsRefusal}
+use Rattle.model_recipes.specs.Check.{inputsRefusal}
 use Rattle.shape_words.specs.Rules.{Good, none-regular}
 use Rattle.shape_words.specs.Words.{good-word}
 use Rattle.recipes_kinds.specs.Known.{Known}
-use Rattle.recipes_check.specs.Asks.{ask-none}
+use Rattle.recipes_check.specs.Asks.{ask-for-none}
 
 -- the loop that looks at them, after i turns
 pub record Looking (hs : List ℕ) (i : ℕ) : Type 0 where
@@ -28,14 +29,14 @@ pub looking-none : (hs : List ℕ) → Looking hs 0
 looking-none hs = record { most = omega arith; left = refl }
 
 module _ {hs : List ℕ} {i : ℕ} (k : Looking hs i) where
-  ahead : i < length hs → inputsRefusal 0 hs ≡ askAt (goodWord (getD hs i 0)) 1 i (inputsRefusal (suc i) (drop (suc i) hs))
+  ahead : i < length hs → inputsRefusal 0 hs ≡ askFor (goodWord (getD hs i 0)) (badWord (getD hs i 0) i) (inputsRefusal (suc i) (drop (suc i) hs))
   unfolding inputsRefusal
   ahead l = k .left ∙ ap (inputsRefusal i) (drop-cons hs i 0 l)
 
   pub looking-more : {g : Bool} → i < length hs → g ≡ goodWord (getD hs i 0) → g ≡ true → Looking hs (i + 1)
   looking-more {g} l e t = record { most = omega arith; left = ahead l ∙ (rw (sym e ∙ t, add-one i) refl) }
 
-  pub looking-stop : {g : Bool} → i < length hs → g ≡ goodWord (getD hs i 0) → g ≡ false → refusedAt 1 i ≡ inputsRefusal 0 hs
+  pub looking-stop : {g : Bool} → i < length hs → g ≡ goodWord (getD hs i 0) → g ≡ false → badWord (getD hs i 0) i ≡ inputsRefusal 0 hs
   looking-stop {g} l e t = sym (ahead l ∙ rw (sym e ∙ t) refl)
 
   pub looking-end : length hs ≤ i → noRefusal ≡ inputsRefusal 0 hs
@@ -45,7 +46,7 @@ module _ {hs : List ℕ} {i : ℕ} (k : Looking hs i) where
 -- where no input is refused
 pub first-good : (p w : ℕ) (ws : List ℕ) → inputsRefusal p (w ∷ ws) .number ≡ 0 → (goodWord w ≡ true) × (inputsRefusal (suc p) ws .number ≡ 0)
 unfolding inputsRefusal
-first-good p w ws e = ask-none (goodWord w) p (inputsRefusal (suc p) ws) (λ z. omega (arith, z)) e
+first-good p w ws e = ask-for-none (goodWord w) (badWord w p) (inputsRefusal (suc p) ws) (λ z. omega (arith, z)) e
 
 pub none-good : Good noHeader
 unfolding span

@@ -4,6 +4,7 @@ use model::Refusal;
 use recipes_kinds::gate::announce;
 use recipes_kinds::gate::gate;
 use shape::limits::most;
+use shape_words::word::bad_word;
 use shape_words::word::header_of;
 use shape_words::word::is_good;
 use shape_words::word::pack;
@@ -26,8 +27,9 @@ fn inputs_refusal(headers: &[u64]) -> Refusal
 {
     let mut i = 0;
     while i < headers.len() {
-        if !is_good(headers[i]) {
-            return Refusal::at(1, i as u8);
+        let word = headers[i];
+        if !is_good(word) {
+            return bad_word(word, i as u8);
         }
         i += 1;
     }

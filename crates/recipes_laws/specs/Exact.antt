@@ -1,5 +1,5 @@
 -- The check refuses exactly for document 01's reasons: it accepts where there is none, and only there; else it answers
--- the first place that has one, with its lowest number.
+-- the first place that has one, with its lowest number and, of a header, its first variable and cause.
 use Prim.Native.Nat.{ℕ, suc, _+_, _≤_, _<_}
 use mathlib.Core.Bool.{false}
 use mathlib.Core.List.{List}
@@ -9,7 +9,7 @@ use native.Mathlib.Nat.{le-antisymm}
 use lib.Dec.{ltb, eqb}
 use lib.ListN.{length, take, getD, length-map}
 use lib.Seq.{length-take-le}
-use borrow.Author.Tests.{ltb-true, ltb-false, eqb-true, ne-eqb}
+use borrow.Author.Tests.{ltb-true, ltb-false, eqb-true, eqb-false, ne-eqb}
 use Rattle.lists.specs.Chain.{chain, length-chain}
 use Rattle.lists.specs.Test.{decide}
 use Rattle.model.specs.declared.Header.{Header}
@@ -17,13 +17,15 @@ use Rattle.model.specs.declared.Refusal.{Refusal}
 use Rattle.model_recipes.specs.declared.CheckAnswer.the-variants.{Accepted, Refused}
 use Rattle.model.specs.Word.{headerOf, goodWord}
 use Rattle.model.specs.Refusals.{refusedAt}
+use Rattle.model.specs.Gates.{badWord}
 use Rattle.model_recipes.specs.Recipe.{announcedStep, inputHeads, announcedPlaces, announcedSteps, total, largest}
 use Rattle.model_recipes.specs.Check.{checkRefusal, checkAnswer}
 use Rattle.model_recipes.specs.Reasons.{WrongSizes, many-inputs, no-step, many-places, StepReason, Reason, sizes, input, step, turn, FirstReason}
 use Rattle.recipes_check.specs.Asks.{by-refusal}
 use Rattle.recipes_check.specs.Answered.{answer-no, answer-yes}
 use Rattle.recipes_check.specs.Judged.{Sizes}
-use Rattle.recipes_laws.specs.Formed.{not-both}
+use Rattle.shape_words.specs.Faults as faults
+use Rattle.shape_words.specs.Faults.{good-none, bad-first}
 use Rattle.recipes_laws.specs.StepReasons.{numbers, step-clear, Stopped, step-stopped}
 use Rattle.recipes_laws.specs.Outcome.{GoodInputs, ClearSteps, refusalOf, Outcome, by-sizes, at-input, at-step, not-refused, outcome}
 
@@ -42,7 +44,14 @@ first-one {hs} {ss} {r} {q} a b =
     let t : turn (r .place) ≡ turn (q .place) = le-antisymm (a .first _ _ (b .reason)) (b .first _ _ (a .reason)) in
     let p : r .place ≡ q .place = turn-one (r .place) (q .place) t in
     let n : r .number ≡ q .number = le-antisymm (a .lowest (q .number) (rw p (b .reason))) (b .lowest (r .number) (rw p at (a .reason))) in
-    λ i. record { number = n i; place = p i }
+    let f : (r .variable ≡ q .variable) × (r .cause ≡ q .cause) =
+    decide (eqb (r .number) 1)
+    (λ t. faults.first-one (getD hs (r .place) 0) (a .fault (eqb-true _ _ t)) (rw (← p) at (b .fault (sym n ∙ eqb-true _ _ t))))
+    (λ t.
+    let x = a .no-fault (eqb-false (r .number) 1 t) in
+    let y = b .no-fault (λ e. eqb-false (r .number) 1 t (n ∙ e)) in
+    (x .0 ∙ sym (y .0), x .1 ∙ sym (y .1))) in
+    λ i. record { number = n i; place = p i; variable = f .0 i; cause = f .1 i }
 
 module _ (hs ss : List ℕ) where
   sizes-right : Sizes hs ss → WrongSizes hs ss → ⊥
@@ -51,7 +60,7 @@ module _ (hs ss : List ℕ) where
   sizes-right s (many-places l) = omega (arith, s .fit)
 
   -- what the places before the step number i announce
-  abbrev known : ℕ → List Header
+  abbrev pub known : ℕ → List Header
   known i = chain announcedStep (inputHeads hs) (take i ss)
 
   pub length-known : (i : ℕ) → i < length ss → length (known i) ≡ length hs + i
@@ -62,38 +71,52 @@ module _ (hs ss : List ℕ) where
   none : Sizes hs ss → GoodInputs hs (length hs) → ClearSteps (inputHeads hs) ss (length ss) → {p n : ℕ} → Reason hs ss p n → ⊥
   unfolding announcedPlaces
   none s g c (sizes x) = sizes-right s x
-  none s g c (input i l m b) = not-both _ (g i l) b
+  none s g c (input i v d l m b) = good-none _ (g i l) b
   none s g c (step i n l m x) = step-clear (getD ss i 0) (known i) (c i l) n x
 
   -- ---- refused by sizes: every reason at 64 is one of sizes
 
   at-none : {p n : ℕ} → Reason hs ss p n → p ≡ 64 → n ≡ 7
   at-none (sizes x) e = refl
-  at-none (input i l m b) e = absurd (omega (arith, e))
+  at-none (input i v d l m b) e = absurd (omega (arith, e))
   at-none (step i n l m x) e = absurd (omega (arith, e))
 
   first-sizes : WrongSizes hs ss → FirstReason hs ss (refusedAt 7 64)
-  first-sizes x = record { reason = sizes x; first = λ p n y. omega arith; lowest = λ n y. omega (arith, at-none y refl) }
+  first-sizes x =
+      record {
+        reason = sizes x;
+        first = λ p n y. omega arith;
+        lowest = λ n y. omega (arith, at-none y refl);
+        fault = λ e. absurd (omega (arith, e));
+        no-fault = λ _. (refl, refl);
+      }
 
   -- ---- refused at an input
 
   positive : {p n : ℕ} → Reason hs ss p n → 1 ≤ n
   positive (sizes x) = omega arith
-  positive (input i l m b) = omega arith
+  positive (input i v d l m b) = omega arith
   positive (step i n l m x) = omega (arith, numbers (getD ss i 0) (announcedPlaces hs (take i ss)) x)
 
   module _ (s : Sizes hs ss) where
     input-first : (i : ℕ) → GoodInputs hs i → i < length hs → {p n : ℕ} → Reason hs ss p n → suc i ≤ turn p
     input-first i g l (sizes x) = absurd (sizes-right s x)
-    input-first i g l (input j k m b) =
+    input-first i g l (input j v d k m b) =
         rw (turn-place j m)
-        (decide (ltb j i) (λ t. absurd (not-both _ (g j (ltb-true j i t)) b)) (λ t. omega (arith, ltb-false j i t)))
+        (decide (ltb j i) (λ t. absurd (good-none _ (g j (ltb-true j i t)) b)) (λ t. omega (arith, ltb-false j i t)))
     input-first i g l (step j n k m x) = rw (turn-place (length hs + j) m) (omega arith)
 
-    first-input : (i : ℕ) → i < length hs → GoodInputs hs i → goodWord (getD hs i 0) ≡ false → FirstReason hs ss (refusedAt 1 i)
+    first-input : (i : ℕ) → i < length hs → GoodInputs hs i → goodWord (getD hs i 0) ≡ false → FirstReason hs ss (badWord (getD hs i 0) i)
     first-input i l g b =
         let m : i < 64 = omega (arith, s .few) in
-        record { reason = input i l m b; first = λ p n x. rw (turn-place i m) (input-first i g l x); lowest = λ n x. positive x }
+        let f = bad-first (getD hs i 0) b in
+        record {
+          reason = input i _ _ l m (f .reason);
+          first = λ p n x. rw (turn-place i m) (input-first i g l x);
+          lowest = λ n x. positive x;
+          fault = λ _. f;
+          no-fault = λ n. absurd (n refl);
+        }
 
     -- ---- refused at a step
 
@@ -104,7 +127,7 @@ module _ (hs ss : List ℕ) where
       step-first : {p n : ℕ} → Reason hs ss p n → suc (length hs + i) ≤ turn p
       unfolding announcedPlaces
       step-first (sizes x) = absurd (sizes-right s x)
-      step-first (input j k m b) = absurd (not-both _ (g j k) b)
+      step-first (input j v d k m b) = absurd (good-none _ (g j k) b)
       step-first (step j n k m x) =
           rw (turn-place (length hs + j) m)
           (decide (ltb j i) (λ t. absurd (step-clear (getD ss j 0) (known j) (c j (ltb-true j i t)) n x)) (λ t. omega (arith, ltb-false j i t)))
@@ -113,7 +136,7 @@ module _ (hs ss : List ℕ) where
       its-own : {p n : ℕ} → Reason hs ss p n → p ≡ length hs + i → StepReason (getD ss i 0) (known i) n
       unfolding announcedPlaces
       its-own (sizes x) e = absurd (sizes-right s x)
-      its-own (input j k m b) e = absurd (not-both _ (g j k) b)
+      its-own (input j v d k m b) e = absurd (good-none _ (g j k) b)
       its-own (step j n k m x) e = let f : j ≡ i = omega (arith, e) in rw f at x
 
       first-step : {r : Refusal} → r ≡ refusalOf (inputHeads hs) ss i → (r .number ≡ 0 → ⊥) → FirstReason hs ss r
@@ -125,6 +148,8 @@ module _ (hs ss : List ℕ) where
             reason = rw at (step i (r .number) l few (t .reason));
             first = λ p m x. rw (at, turn-place (length hs + i) few) (step-first x);
             lowest = λ m x. t .lowest m (its-own x at);
+            fault = λ z. absurd (omega (arith, z, numbers (getD ss i 0) (known i) (t .reason)));
+            no-fault = λ _. t .alone;
           }
 
   -- ---- the law

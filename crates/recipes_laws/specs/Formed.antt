@@ -14,10 +14,7 @@ use Rattle.model_recipes.specs.Steps.{stepOf, spareOf, rows, noKind, usesOf}
 use Rattle.model_recipes.specs.Check.{namedBefore, zeroUnless, formed}
 use Rattle.model_recipes.specs.Reasons.{WrongWord, no-kind, late-a, late-b, unused-a, unused-b, unused-variable, unused-n, spare-bits}
 use Rattle.recipes_kinds.specs.Known.{small-kind}
-
-pub not-both : (b : Bool) → b ≡ true → b ≡ false → ⊥
-not-both true e f = let z : _≡_ {A = ℕ} 0 1 = cc in omega (arith, z)
-not-both false e f = let z : _≡_ {A = ℕ} 0 1 = cc in omega (arith, z)
+use Rattle.shape_words.specs.Faults.{not-both}
 
 -- the table's rule: there are the kinds 0 to 10
 kind-is : (k : ℕ) → k < 16 → usesOf k .kind ≡ leb k 10

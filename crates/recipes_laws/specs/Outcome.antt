@@ -13,12 +13,13 @@ use Rattle.model.specs.declared.Header.{Header}
 use Rattle.model.specs.declared.Refusal.{Refusal}
 use Rattle.model.specs.Word.{goodWord}
 use Rattle.model.specs.Refusals.{refusedAt, noRefusal}
+use Rattle.model.specs.Gates.{badWord}
 use Rattle.model_recipes.specs.Recipe.{announcedStep, inputHeads}
 use Rattle.model_recipes.specs.Check.{orElse, rightSizes, stepRefusal, inputsRefusal, stepsRefusal, checkRefusal}
 use Rattle.model_recipes.specs.Reasons.{WrongSizes, many-inputs, no-step, many-places}
 use Rattle.recipes_check.specs.Asks.{or-first, or-next, by-refusal}
 use Rattle.recipes_check.specs.Judged.{Sizes, sizes}
-use Rattle.recipes_laws.specs.Formed.{not-both}
+use Rattle.shape_words.specs.Faults.{not-both}
 
 -- ---- the inputs, the first at the place p
 
@@ -28,7 +29,7 @@ GoodInputs hs n = (j : ℕ) → j < n → goodWord (getD hs j 0) ≡ true
 
 data InputsOutcome (p : ℕ) (hs : List ℕ) : Refusal → Type 0 where
   all-good : GoodInputs hs (length hs) → InputsOutcome p hs noRefusal
-  one-bad : (i q : ℕ) → q ≡ p + i → i < length hs → GoodInputs hs i → goodWord (getD hs i 0) ≡ false → InputsOutcome p hs (refusedAt 1 q)
+  one-bad : (i q : ℕ) → q ≡ p + i → i < length hs → GoodInputs hs i → goodWord (getD hs i 0) ≡ false → InputsOutcome p hs (badWord (getD hs i 0) q)
 
 good-more : (w : ℕ) (ws : List ℕ) {n : ℕ} → goodWord w ≡ true → GoodInputs ws n → GoodInputs (w ∷ ws) (suc n)
 good-more w ws g h zero l = g
@@ -100,7 +101,7 @@ module _ (hs ss : List ℕ) where
 
   pub data Outcome : Refusal → Type 0 where
     by-sizes : WrongSizes hs ss → Outcome (refusedAt 7 64)
-    at-input : (i : ℕ) → Sizes hs ss → i < length hs → GoodInputs hs i → goodWord (getD hs i 0) ≡ false → Outcome (refusedAt 1 i)
+    at-input : (i : ℕ) → Sizes hs ss → i < length hs → GoodInputs hs i → goodWord (getD hs i 0) ≡ false → Outcome (badWord (getD hs i 0) i)
     at-step : (i : ℕ) (r : Refusal) → Sizes hs ss → GoodInputs hs (length hs) → r ≡ refusalOf (inputHeads hs) ss i
         → i < length ss → ClearSteps (inputHeads hs) ss i
         → (r .number ≡ 0 → ⊥) → Outcome r
@@ -114,7 +115,7 @@ module _ (hs ss : List ℕ) where
   after-sizes s (all-good h) = rw (or-next noRefusal (stepsRefusal (inputHeads hs) ss) refl) (after-inputs s h (steps-outcome (inputHeads hs) ss))
   after-sizes s (one-bad i q e l h b) =
       let f : q ≡ i = omega (arith, e) in
-      rw (f, or-first {r = refusedAt 1 i} (stepsRefusal (inputHeads hs) ss) (λ z. omega (arith, z))) (at-input i s l h b)
+      rw (f, or-first {r = badWord (getD hs i 0) i} (stepsRefusal (inputHeads hs) ss) (λ z. omega (arith, z))) (at-input i s l h b)
 
   pub outcome : Outcome (checkRefusal hs ss)
   unfolding checkRefusal

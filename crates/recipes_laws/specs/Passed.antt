@@ -17,6 +17,7 @@ use Rattle.model.specs.Header.{limit, stored, noHeader, ones, span, zeroWith}
 use Rattle.model.specs.Word.{headerOf, goodWord, wordOf}
 use Rattle.model.specs.Announced.{announced}
 use Rattle.model.specs.Refusals.{noRefusal}
+use Rattle.model.specs.Faults.{limitsFault}
 use Rattle.model.specs.Gates.{oneGate, workGate, inGate, pairGate, withGate}
 use Rattle.model.specs.Poly.{Poly}
 use Rattle.model_recipes.specs.Steps.{stepOf}
@@ -73,7 +74,7 @@ pair-passes f p q o u r =
     simp (word p o, word q u, back p o, back q u, enough p o, enough q u, le-leb _ _ (r .most), le-leb _ _ (r .fits), le-leb _ _ (r .spare))
 
 with-passes : {n m : ℕ} → Room noHeader n m → withGate 0 ones n .number ≡ 0
-unfolding withGate zeroWith span
+unfolding withGate limitsFault zeroWith span
 with-passes r = simp (le-leb _ _ (r .fits))
 
 -- ---- a step

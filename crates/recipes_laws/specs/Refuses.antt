@@ -1,27 +1,29 @@
 -- What refuses a run: the check, by 7 at most, or a buffer that is too short, by 2, 5 or 6.
 use Prim.Native.Nat.{ℕ, _*_, _≤_}
-use mathlib.Core.Bool.{Bool, true, false, _&&_}
+use mathlib.Core.Bool.{true, _&&_}
 use mathlib.Core.List.{List}
 use mathlib.Core.Path.{_≡_, _∙_}
 use native.Mathlib.Omega.{arith}
 use lib.Dec.{leb}
-use lib.ListN.{length}
+use lib.ListN.{length, getD}
 use lib.Ieee.{Float}
 use borrow.Author.Tests.{le-leb, leb-true}
 use Rattle.lists.specs.Test.{and-left, and-right}
 use Rattle.model.specs.declared.Header.{Header}
 use Rattle.model.specs.declared.Refusal.{Refusal}
-use Rattle.model.specs.Refusals.{ask, noRefusal}
+use Rattle.model.specs.Refusals.{noRefusal}
 use Rattle.model_recipes.specs.Recipe.{inputHeads, announcedSteps, total, largest}
 use Rattle.model_recipes.specs.Check.{checkRefusal}
 use Rattle.model_recipes.specs.Reasons.{StepReason, wrong-word, no-variable, large-n, large-count}
 use Rattle.model_recipes.specs.Run.{lentRefusal, runRefusal}
 use Rattle.gates.specs.Gate.{passed}
+use Rattle.gates.specs.Small.{Small, at-small, word-small, asked-small}
 use Rattle.recipes_check.specs.Asks.{or-first, or-next, by-refusal}
-use Rattle.recipes_laws.specs.StepReasons.{step-stopped}
+use Rattle.recipes_laws.specs.StepReasons.{Stopped, step-stopped}
 use Rattle.recipes_laws.specs.Outcome.{Outcome, by-sizes, at-input, at-step, not-refused, outcome}
+use Rattle.recipes_laws.specs.Exact.{known, length-known}
 
--- ---- the check refuses by 7 at most
+-- ---- the check refuses by 7 at most, at an input, a step or no place
 
 reason-small : {w : ℕ} {known : List Header} {n : ℕ} → StepReason w known n → n ≤ 7
 reason-small (wrong-word x) = omega arith
@@ -29,13 +31,20 @@ reason-small (no-variable x s l) = omega arith
 reason-small (large-n x s l) = omega arith
 reason-small (large-count x l) = omega arith
 
-outcome-small : {hs ss : List ℕ} {r : Refusal} → Outcome hs ss r → r .number ≤ 7
-outcome-small (by-sizes x) = omega arith
-outcome-small (at-input i s l g b) = omega arith
-outcome-small (at-step i r s g e l c n) = rw e (reason-small (step-stopped _ _ (rw e at n) .reason))
-outcome-small (not-refused s g c) = omega arith
+outcome-small : {hs ss : List ℕ} {r : Refusal} → Outcome hs ss r → Small 7 64 r
+outcome-small (by-sizes x) = at-small 7 64 (omega arith) (omega arith)
+outcome-small {hs} (at-input i s l g b) = word-small (getD hs i 0) i (omega arith) (omega (arith, s .few))
+outcome-small {hs} {ss} (at-step i r s g e l c n) =
+    let t : Stopped (getD ss i 0) (known hs ss i) r = rw (← e) at (step-stopped (getD ss i 0) (known hs ss i) (rw e at n)) in
+    record {
+      number = reason-small (t .reason);
+      place = omega (arith, t .at, length-known hs ss i l, s .fit);
+      variable = omega (arith, t .alone .0);
+      cause = omega (arith, t .alone .1);
+    }
+outcome-small (not-refused s g c) = at-small 0 64 (omega arith) (omega arith)
 
-pub check-small : (hs ss : List ℕ) → checkRefusal hs ss .number ≤ 7
+pub check-small : (hs ss : List ℕ) → Small 7 64 (checkRefusal hs ss)
 check-small hs ss = outcome-small (outcome hs ss)
 
 -- ---- tests 2, 5, 6, by the lengths of coefficients, pool, words and scratch
@@ -46,18 +55,14 @@ pub record Lent (hs ss : List ℕ) (c p w s : ℕ) : Type 0 where
   pub words : length ss ≤ w
   pub scratch : 8 * largest (announcedSteps hs ss) ≤ s
 
-ask-small : (x y z : Bool) → ask x 2 (ask y 5 (ask z 6 noRefusal)) .number ≤ 6
-ask-small true true true = omega arith
-ask-small true true false = omega arith
-ask-small true false z = omega arith
-ask-small false y z = omega arith
-
 module _ (hs ss : List ℕ) (c p w s : ℕ) where
-  pub lent-small : lentRefusal hs ss c p w s .number ≤ 6
+  pub lent-small : Small 7 64 (lentRefusal hs ss c p w s)
   unfolding lentRefusal
   lent-small =
-      ask-small (leb (total (inputHeads hs)) c) (leb (total (announcedSteps hs ss)) p && leb (length ss) w)
-      (leb (8 * largest (announcedSteps hs ss)) s)
+      asked-small (leb (total (inputHeads hs)) c) (at-small 2 64 (omega arith) (omega arith))
+      (asked-small (leb (total (announcedSteps hs ss)) p && leb (length ss) w) (at-small 5 64 (omega arith) (omega arith))
+      (asked-small (leb (8 * largest (announcedSteps hs ss)) s) (at-small 6 64 (omega arith) (omega arith))
+      (at-small 0 64 (omega arith) (omega arith))))
 
   pub lent-none : Lent hs ss c p w s → lentRefusal hs ss c p w s ≡ noRefusal
   unfolding lentRefusal
@@ -87,9 +92,9 @@ module _ (hs : List ℕ) (cs : List Float) (ss : List ℕ) (pool : List Float) (
   unfolding runRefusal
   run-none none l = or-next (checkRefusal hs ss) lent none ∙ lent-none hs ss _ _ _ _ l
 
-  pub run-small : runRefusal hs cs ss pool words scratch .number ≤ 7
+  pub run-small : Small 7 64 (runRefusal hs cs ss pool words scratch)
   unfolding runRefusal
   run-small =
       by-refusal (checkRefusal hs ss)
-      (λ z. rw (or-next (checkRefusal hs ss) lent z) (omega (arith, lent-small hs ss (length cs) (length pool) (length words) (length scratch))))
+      (λ z. rw (or-next (checkRefusal hs ss) lent z) (lent-small hs ss (length cs) (length pool) (length words) (length scratch)))
       (λ n. rw (or-first {r = checkRefusal hs ss} lent n) (check-small hs ss))

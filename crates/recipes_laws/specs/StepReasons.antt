@@ -17,7 +17,8 @@ use Rattle.model_recipes.specs.Steps.{stepOf}
 use Rattle.model_recipes.specs.Recipe.{headAt, announcedStep}
 use Rattle.model_recipes.specs.Check.{askAt, formed, lowers, stepRefusal}
 use Rattle.model_recipes.specs.Reasons.{WrongWord, Shifts, StepReason, wrong-word, no-variable, large-n, large-count}
-use Rattle.recipes_laws.specs.Formed.{not-both, formed-right, formed-wrong}
+use Rattle.recipes_laws.specs.Formed.{formed-right, formed-wrong}
+use Rattle.shape_words.specs.Faults.{not-both}
 
 -- a test of the shifts alone
 shift-wrong : {W : Type 0} (w x y : ℕ) → cond (lowers (stepOf w)) (ltb x y) true ≡ false → (Shifts w → y ≤ x → W) → W
@@ -109,10 +110,11 @@ module _ (w : ℕ) (known : List Header) where
     pub at : r .place ≡ place
     pub reason : StepReason w known (r .number)
     pub lowest : (n : ℕ) → StepReason w known n → r .number ≤ n
+    pub alone : (r .variable ≡ 0) × (r .cause ≡ 0)
 
   stopped-by : {r : Refusal} → View r → (r .number ≡ 0 → ⊥) → Stopped r
   stopped-by (fine f) e = absurd (e refl)
-  stopped-by (wrong k x h l) e = record { at = refl; reason = x; lowest = l }
+  stopped-by (wrong k x h l) e = record { at = refl; reason = x; lowest = l; alone = (refl, refl) }
 
   pub step-stopped : (stepRefusal w known .number ≡ 0 → ⊥) → Stopped (stepRefusal w known)
   step-stopped e = stopped-by view e

@@ -75,6 +75,7 @@ fn pair_front(
     ensures { λ r.
         ⌜ Stands (pairOf kind zero (h .limits) (leftIn (h .limits) (x .lengths) (now (work .entry)))
         (rightIn (h .limits) (y .lengths) n (now (work .entry)))) (now (out .exit)) r ⌝ }
+    ensures spent { λ _. ⌜ length (now (work .exit)) ≡ length (now (work .entry)) ⌝ }
 {
     let l = h.limits;
     let r = h.lengths;
@@ -124,6 +125,7 @@ pub fn pair_to(
         (padded n (pairPoly kind (lying xi (now (coefficients .entry)) (take at (now (pool .entry))) xf x)
         (lying yi (now (coefficients .entry)) (take at (now (pool .entry))) yf y) .coeffs))
         (now (pool .entry)) (now (pool .exit)) ⌝ }
+    ensures spent { λ _. ⌜ length (now (scratch .exit)) ≡ length (now (scratch .entry)) ⌝ }
 {
     let limits = h.limits;
     let room = 8 * n;

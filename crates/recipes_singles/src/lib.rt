@@ -87,6 +87,7 @@ pub fn change_to(
         ⌜ Kept at (at + n)
         (padded n (changedPoly kind v d (lying input (now (coefficients .entry)) (take at (now (pool .entry))) from x)
         .coeffs)) (now (pool .entry)) (now (pool .exit)) ⌝ }
+    ensures spent { λ _. ⌜ length (now (scratch .exit)) ≡ length (now (scratch .entry)) ⌝ }
 {
     let r = change_from(
         kind,
@@ -141,6 +142,7 @@ pub fn power_to(
         ⌜ Kept at (at + n)
         (padded n (powerPoly e (lying input (now (coefficients .entry)) (take at (now (pool .entry))) from x) .coeffs))
         (now (pool .entry)) (now (pool .exit)) ⌝ }
+    ensures spent { λ _. ⌜ length (now (scratch .exit)) ≡ length (now (scratch .entry)) ⌝ }
 {
     let limits = h.limits;
     let la = x.lengths;

@@ -52,6 +52,7 @@ fn value_to(
         (padded n (valueOf s (lying xi (now (coefficients .entry)) (take at (now (pool .entry))) xf x)
         (lying yi (now (coefficients .entry)) (take at (now (pool .entry))) yf y) .coeffs))
         (now (pool .entry)) (now (pool .exit)) ⌝ }
+    ensures spent { λ _. ⌜ length (now (scratch .exit)) ≡ length (now (scratch .entry)) ⌝ }
 {
     let kind = s.kind;
     if kind == Step::POWER {
@@ -142,6 +143,7 @@ pub fn perform(
         (padded room (valueOf s (lying xi (now (coefficients .entry)) (take at (now (pool .entry))) xf (headerOf xw))
         (lying yi (now (coefficients .entry)) (take at (now (pool .entry))) yf (headerOf yw)) .coeffs))
         (now (pool .entry)) (now (pool .exit)) ⌝ }
+    ensures spent { λ _. ⌜ length (now (scratch .exit)) ≡ length (now (scratch .entry)) ⌝ }
 {
     let x = header_of(xw);
     let y = header_of(yw);

@@ -8,16 +8,12 @@ use decimals::put_float_of;
 use libc::STDIN_FILENO;
 use libc::STDOUT_FILENO;
 use model_decimals::Read;
+use replay_input::read_next;
 use report_lines::put::put;
-use shape::limits::least;
 use sheet_bits::word_of;
 use sheet_text::line::word_at;
 use sheet_text::print::put_line;
-ghost use mathlib.Core.Path.{_≡_};
-ghost use lib.ListN.{length};
 ghost use Rattle.io.specs.Counts.{Counts};
-
-const BYTES: usize = 65536;
 
 // More cases than any input has.
 const CASES: u64 = 1000000000000;
@@ -52,18 +48,11 @@ fn show(text: &[u8]) {
     }
 }
 
-// The text behind a beginning that says its length, in lent memory.
-fn go_on(bytes: u64, text: &mut [u8])
-    requires { ⌜ 65536 ≡ length (now text) ⌝ }
-{
-    let n = least(bytes as usize, BYTES);
-    io::read_full(STDIN_FILENO, &mut text[..n]);
-    show(&text[..n]);
-}
-
+// The text behind a beginning that says its length.
 fn run(bytes: u64) {
     let mut text = io::large_buffer();
-    go_on(bytes, &mut text);
+    let n = read_next(bytes as usize, &mut text);
+    show(&text[..n]);
 }
 
 // The next case; whether there was one.

@@ -28,6 +28,8 @@ fn show_refusal(r: Refusal) {
     io::write_all(STDOUT_FILENO, b"refused");
     show_number(r.number as u64);
     show_number(r.place as u64);
+    show_number(r.variable as u64);
+    show_number(r.cause as u64);
 }
 
 pub fn show_answer(r: Answer) {

@@ -1,17 +1,13 @@
 // Runs stored array files and answers of standard input through `npy_sheets::show` and `npy_sheets::convert`, and
 // prints what each writes. tests/stored_npy says where they and the stored output are from; none is from this code.
 //
-// Before each stands a line of 16 hex digits: 0 for an array file or 1 for an answer in the first eight, and in the
-// others how many bytes follow, at most 65,536.
+// Before each stands a line of 16 hex digits: 0 for an array file, 1 for an answer and 2 for one whose file is to be
+// of version 2.0 in the first eight, and in the others how many bytes follow, at most 65,536.
 // No contract can say what is read or printed; `show` and `convert` say what is printed for bytes.
 use libc::STDIN_FILENO;
 use libc::STDOUT_FILENO;
-use shape::limits::least;
+use replay_input::read_next;
 use sheet_text::line::word_at;
-ghost use mathlib.Core.Path.{_≡_};
-ghost use lib.ListN.{length};
-
-const BYTES: usize = 65536;
 
 // More cases than any input has.
 const CASES: u64 = 1000000000000;
@@ -23,10 +19,10 @@ fn show(file: &[u8]) {
     io::write_all(STDOUT_FILENO, &output[..n]);
 }
 
-fn convert(text: &[u8]) {
+fn convert(newer: bool, text: &[u8]) {
     let mut values = [0.0f64; 4096];
     let mut output = [0u8; 32896];
-    let n = npy_sheets::convert(text, &mut values, &mut output);
+    let n = npy_sheets::convert(newer, text, &mut values, &mut output);
     io::write_all(STDOUT_FILENO, &output[..n]);
 }
 
@@ -34,23 +30,16 @@ fn either(kind: u64, bytes: &[u8]) {
     if kind == 0 {
         show(bytes);
     } else {
-        convert(bytes);
+        convert(kind == 2, bytes);
     }
-}
-
-// The case behind a line, in lent memory.
-fn go_on(word: u64, text: &mut [u8])
-    requires { ⌜ 65536 ≡ length (now text) ⌝ }
-{
-    let n = least((word % 4294967296) as usize, BYTES);
-    io::read_full(STDIN_FILENO, &mut text[..n]);
-    either(word / 4294967296, &text[..n]);
 }
 
 // The case behind the line `begin`.
 fn run(begin: &[u8]) {
     let mut text = io::large_buffer();
-    go_on(word_at(begin, 0), &mut text);
+    let word = word_at(begin, 0);
+    let n = read_next((word % 4294967296) as usize, &mut text);
+    either(word / 4294967296, &text[..n]);
 }
 
 // The next case; whether there was one.

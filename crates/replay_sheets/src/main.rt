@@ -5,12 +5,8 @@
 // No contract can say what is read or printed; `sheet::answer` says what is printed for a text.
 use libc::STDIN_FILENO;
 use libc::STDOUT_FILENO;
-use shape::limits::least;
+use replay_input::read_next;
 use sheet_text::line::word_at;
-ghost use mathlib.Core.Path.{_≡_};
-ghost use lib.ListN.{length};
-
-const BYTES: usize = 65536;
 
 // More sheets than any input has.
 const SHEETS: u64 = 1000000000000;
@@ -21,19 +17,11 @@ fn show(text: &[u8]) {
     io::write_all(STDOUT_FILENO, &output[..n]);
 }
 
-// The sheet behind a line that says its length, in lent memory.
-fn go_on(bytes: u64, text: &mut [u8])
-    requires { ⌜ 65536 ≡ length (now text) ⌝ }
-{
-    let n = least(bytes as usize, BYTES);
-    io::read_full(STDIN_FILENO, &mut text[..n]);
-    show(&text[..n]);
-}
-
 // The sheet behind the line `begin`.
 fn run(begin: &[u8]) {
     let mut text = io::large_buffer();
-    go_on(word_at(begin, 0), &mut text);
+    let n = read_next(word_at(begin, 0) as usize, &mut text);
+    show(&text[..n]);
 }
 
 // The next sheet; whether there was one.

@@ -1,3 +1,5 @@
+pub mod Said
+pub mod Before
 pub mod Tells
 pub mod Front
 pub mod Traces

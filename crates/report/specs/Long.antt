@@ -1,11 +1,11 @@
--- Whatever the sheet, what `limits` prints keeps to 80 columns and fits the 131,072 bytes that its program has.
+-- Whatever the sheet, what `limits` prints keeps to 80 columns and fits the 262,144 bytes that its program has.
 use Prim.Native.Nat.{ℕ, zero, suc, _+_, _-_, _*_, _≤_, _<_}
 use Prim.Native.String.{String}
 use mathlib.Core.Bool.{Bool, true, _&&_}
 use mathlib.Core.List.{List, [], _∷_, _++_}
 use mathlib.Core.Path.{_≡_, refl, sym, ap, _∙_}
 use native.Mathlib.Omega.{arith}
-use lib.Dec.{leb, ltb}
+use lib.Dec.{leb, ltb, eqb}
 use lib.Ieee.{Float, ofBits, binary64}
 use lib.ListN.{length, getD, take, drop, length-append}
 use lib.Seq.{getD-drop, take-all}
@@ -13,20 +13,24 @@ use borrow.Author.Tests.{ltb-true, leb-true, eqb-true, eqb-false}
 use Rattle.lists.specs.Bytes.{bytes}
 use Rattle.lists.specs.Grow.{over, take-over}
 use Rattle.lists.specs.Table.{length-table}
-use Rattle.lists.specs.Test.{decide, and-left, and-right}
+use Rattle.lists.specs.Test.{decide, of-both, and-left, and-right}
 use Rattle.model.specs.declared.Refusal.{Refusal}
 use Rattle.model.specs.Header.{stored}
+use Rattle.model.specs.Readings.{oneF}
 use Rattle.model.specs.Word.{headerOf, wordOf}
 use Rattle.model.specs.Refusals.{isNone}
 use Rattle.model_recipes.specs.Check.{checkRefusal}
 use Rattle.model_recipes.specs.Recipe.{inputHeads, headAt, announcedPlaces, announcedSteps, total, largest}
 use Rattle.model_recipes.specs.Run.{noValue, valueAt, values, stepValues}
-use Rattle.model_texts.specs.Printed.{refusedWord, space, refusedText}
-use Rattle.model_texts.specs.Report.{tell, when}
+use Rattle.model_texts.specs.Printed.{refusedWord, space, decimal, refusedText}
+use Rattle.model_texts.specs.Full.{fulls}
+use Rattle.model_texts.specs.Report.{tell, when, placeText, cutsText, endText, verdictText}
 use Rattle.model_texts.specs.Sentence.{placeMeanings, sheetMeanings, meaning, refusalReport}
-use Rattle.model_texts.specs.Sheet.{inputCount, stepCount, sheetHeaders, sheetCoefficients, sheetSteps, wordOn}
+use Rattle.model_texts.specs.Sheet.{inputCount, sheetHeaders, sheetCoefficients, sheetSteps, wordOn}
 use Rattle.model_texts.specs.Sheet.{coefficientCount, ownRefusal, recipeRefusal, readRefusal, sheetRefusal, lastValue}
-use Rattle.model_texts.specs.Told.{limitsFirst, toldText}
+use Rattle.model_texts.specs.Trace.{stepWord}
+use Rattle.model_figures.specs.Figures.{figuresText}
+use Rattle.model_forecast.specs.Told.{limitLines, forecastText, toldText}
 use Rattle.shape_words.specs.Words.{unpack-pack}
 use Rattle.shape.specs.Under.{count-under}
 use Rattle.shape.specs.Keeps.{Keeps}
@@ -34,17 +38,23 @@ use Rattle.recipes_check.specs.Asks.{or-none, or-next}
 use Rattle.recipes_check.specs.Judged.{Accepts, accepts, places-known}
 use Rattle.recipes_laws.specs.Ahead.{announced-at, step-largest}
 use Rattle.recipes_laws.specs.Values.{follows-all}
-use Rattle.sheet.specs.Opened.{steps-many}
-use Rattle.sheet.specs.Running.{passed, steps-largest}
+use Rattle.sheet_solving.specs.Opened.{steps-many}
+use Rattle.sheet_solving.specs.Running.{passed, steps-largest}
 use Rattle.report_lines.specs.Puts.{Printed}
 use Rattle.report_lines.specs.Columns.{inColumns, columnAfter, columns-append, columns-earlier, Piece, piece}
-use Rattle.report_lines.specs.Columns.{piece-then, piece-columns, number-piece, tell-two, newline-rest, rest-then}
-use Rattle.report_lines.specs.Columns.{Lines, lines}
-use Rattle.report_lines.specs.Long.{limits-lines}
+use Rattle.report_lines.specs.Columns.{piece-then, piece-columns, small-piece, tell-two, newline-rest, rest-then}
+use Rattle.report_lines.specs.Columns.{Lines, lines, written, lines-up, lines-then, lines-joined}
+use Rattle.model_texts.specs.Cause.{faultText}
+use Rattle.report_header.specs.Causes.{fault-length, fault-columns}
+use Rattle.gates.specs.Small.{Small}
+use Rattle.report.specs.Front.{refusal-small}
+use Rattle.report_lines.specs.Long.{Short, place-lines, cuts-lines, end-lines, verdict-lines}
+use Rattle.report_inputs.specs.Long.{inputs-lines}
+use Rattle.report.specs.Before.{lineOne, lineTwo}
 use Rattle.report_figures.specs.Lines.{word-lengths}
 use Rattle.report_figures.specs.Long.{figures-lines}
 use Rattle.report.specs.Tells.{told-refused, told-done}
-use Rattle.report.specs.Traces.{check-none, few, sheet-ordered, sheet-short}
+use Rattle.report.specs.Traces.{check-ordered, shift-short, check-none}
 
 -- n bytes at most, in 80 columns
 record Kept (n : ℕ) (t : List ℕ) : Type 0 where
@@ -60,12 +70,20 @@ kept-behind {s = s} {t = t} p q =
 
 -- ---- a refusal
 
-refused-lines : (r : Refusal) → Lines 50 (refusedText r)
+-- numbers of three digits
+three : (n : ℕ) → n < 1000 → Piece 3 (decimal n)
+three n h = small-piece 3 n (omega arith) h (omega arith)
+
+refused-lines : (r : Refusal) → Small 8 512 r → Lines 50 (refusedText r)
 unfolding refusedText
-refused-lines r =
-    lines (omega arith)
-    (rest-then (piece 8 refusedWord refl) (rest-then (number-piece (r .number))
-    (rest-then (piece 1 space refl) (rest-then (number-piece (r .place)) newline-rest))))
+refused-lines r s =
+    lines-up
+    (lines (omega arith)
+    (rest-then (piece 8 refusedWord refl) (rest-then (three (r .number) (omega (arith, s .number)))
+    (rest-then (piece 1 space refl) (rest-then (three (r .place) (omega (arith, s .place)))
+    (rest-then (piece 1 space refl) (rest-then (three (r .variable) (omega (arith, s .variable)))
+    (rest-then (piece 1 space refl) (rest-then (three (r .cause) (omega (arith, s .cause))) newline-rest)))))))))
+    (omega arith)
 
 -- texts that keep to the columns from the column c on
 abbrev allFrom : ℕ → List String → Bool
@@ -110,9 +128,43 @@ sentence-kept r =
     rw t k)
     (λ t. let f = sheet-from (r .number) in rw t (record { most = omega (arith, f .0); keeps = f .1 }))
 
-refusal-kept : (r : Refusal) → Kept 190 (refusalReport r)
+fault-kept : (p v c : ℕ) → Kept 140 (faultText p v c)
+fault-kept p v c = record { most = fault-length p v c; keeps = fault-columns p v c }
+
+refusal-kept : (r : Refusal) → Small 8 512 r → Kept 190 (refusalReport r)
 unfolding refusalReport
-refusal-kept r = kept-behind (refused-lines r) (sentence-kept r)
+refusal-kept r s =
+    kept-behind (refused-lines r s)
+    (of-both (Kept 140) (eqb (r .number) 1) (fault-kept (r .place) (r .variable) (r .cause)) (sentence-kept r))
+
+-- ---- all that is said of limits
+
+heads : (Lines 80 lineOne) × (Lines 80 lineTwo)
+unfolding bytes inColumns columnAfter
+heads = (written 80 lineOne refl refl, written 80 lineTwo refl refl)
+
+module _ (hs ss : List ℕ) (z : checkRefusal hs ss .number ≡ 0) where
+  short : (p : ℕ) → length hs ≤ p → p < length hs + length ss → Short (stepWord ss (length hs) p)
+  short p a l e =
+      let n = shift-short hs ss z (p - length hs) (omega arith) (record { from = omega (arith, e); to = omega (arith, e) }) in omega arith
+
+  limits-lines : (fs : List ℕ) → Lines 57000 (limitLines (announcedPlaces hs ss) ss (length hs) fs (length hs + length ss))
+  unfolding limitLines
+  limits-lines fs =
+      let a = accepts hs ss z in
+      let n = length hs + length ss in
+      let f : n ≤ 64 = a .sizes .fit in
+      let s : 1 ≤ n = omega (arith, a .sizes .some) in
+      let known = announcedPlaces hs ss in
+      let g = places-known hs ss (a .inputs) in
+      lines-up
+      (lines-then (heads .0)
+      (lines-then (heads .1)
+      (lines-then (lines-joined (placeText known ss (length hs)) 79 n (λ p l. place-lines known ss (length hs) g p (omega arith) (λ i. short p i l)))
+      (lines-then (lines-joined (cutsText known ss (length hs) fs) 796 n (λ p l. cuts-lines known ss (length hs) g fs p (omega arith)))
+      (lines-joined (endText known ss (length hs) (n - 1)) 124 4
+      (λ v k. end-lines known ss (length hs) g (n - 1) v (omega arith) k (check-ordered hs ss z) (omega arith)))))))
+      (omega arith)
 
 -- ---- a sheet that is not refused
 
@@ -160,37 +212,40 @@ module _ (t : List ℕ) (z : sheetRefusal t .number ≡ 0) where
       rw (announced-at hs ss last last-in) (step-largest hs ss last last-in) in
       rw (unpack-pack (lastValue t .head) (keep .regular)) (omega (arith, count-under (keep .under), l, small-steps))
 
-  first-lines : Lines 57000 (limitsFirst t)
-  unfolding limitsFirst
-  first-lines =
-      limits-lines (announcedPlaces hs ss) ss (inputCount t) (places-known hs ss (accepts-it .inputs)) (inputCount t + stepCount t)
-      (omega (arith, accepts-it .sizes .some, steps-many t)) (few t z) (sheet-ordered t z)
-      (λ p a l e. let n = sheet-short t z p a l (record { from = omega (arith, e); to = omega (arith, e) }) in omega arith)
+  abbrev fs : List ℕ
+  fs = fulls (announcedPlaces hs ss) ss (length hs) (length hs + length ss)
 
-  done-kept : Kept 76000 (toldText t)
+  done-kept : Kept 161000 (toldText t)
+  unfolding forecastText
   done-kept =
-      let f = figures-lines (headerOf (wordOf (lastValue t .head))) (lastValue t .coeffs) (word-lengths (wordOf (lastValue t .head))) last-few in
-      rw (told-done t z) (kept-behind first-lines (record { most = f .most; keeps = f .keeps }))
+      let f = figures-lines (headerOf (wordOf (lastValue t .head))) (lastValue t .coeffs) oneF true (word-lengths (wordOf (lastValue t .head))) last-few in
+      let v = verdict-lines (announcedPlaces hs ss) ss (length hs) (places-known hs ss (accepts-it .inputs)) fs (length hs + length ss - 1) in
+      let k : Kept 95080 (verdictText (announcedPlaces hs ss) ss (length hs) fs (length hs + length ss - 1)
+      ++ figuresText (headerOf (wordOf (lastValue t .head))) (lastValue t .coeffs) oneF true) =
+      kept-behind v (record { most = f .most; keeps = f .keeps }) in
+      let m = kept-behind (limits-lines hs ss (check-none t z) fs)
+      (kept-behind (inputs-lines hs cs (accepts-it .sizes .few)) k) in
+      rw (told-done t z) (record { most = omega (arith, m .most); keeps = m .keeps })
 
 -- ---- the laws
 
-told-kept : (t : List ℕ) → Kept 76000 (toldText t)
+told-kept : (t : List ℕ) → Kept 161000 (toldText t)
 told-kept t =
     decide (isNone (sheetRefusal t))
     (λ a. done-kept t (eqb-true _ _ a))
     (λ a.
-    let k = refusal-kept (sheetRefusal t) in
+    let k = refusal-kept (sheetRefusal t) (refusal-small t) in
     rw (told-refused t refl (eqb-false (sheetRefusal t .number) 0 a)) (record { most = omega (arith, k .most); keeps = k .keeps }))
 
 module _ (t : List ℕ) where
   pub told-columns : inColumns 0 (toldText t) ≡ true
   told-columns = told-kept t .keeps
 
-  pub told-fits : length (toldText t) ≤ 131072
+  pub told-fits : length (toldText t) ≤ 262144
   told-fits = omega (arith, told-kept t .most)
 
   -- so that all of it is printed
-  pub told-whole : {old new : List ℕ} {n : ℕ} → Printed (toldText t) old new n → 131072 ≤ length old → take n new ≡ toldText t
+  pub told-whole : {old new : List ℕ} {n : ℕ} → Printed (toldText t) old new n → 262144 ≤ length old → take n new ≡ toldText t
   told-whole {old} {new} {n} p l =
       let e : n ≡ length (toldText t) = omega (arith, p .behind, told-fits) in
       let f : take (length old) (toldText t) ≡ toldText t = take-all (length old) (toldText t) (omega (arith, told-fits)) in

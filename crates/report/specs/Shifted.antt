@@ -27,7 +27,7 @@ use Rattle.model_recipes.specs.Reasons.{Shifts}
 use Rattle.model_texts.specs.Sheet.{inputCount, stepCount, sheetHeaders, sheetSteps, sheetRefusal}
 use Rattle.model_texts.specs.Trace.{stepWord, shiftsIn, lowering, limitAt, decider, lowerer}
 use Rattle.recipes_laws.specs.Ahead.{announced-at}
-use Rattle.sheet.specs.Opened.{headers-many, steps-many}
+use Rattle.sheet_solving.specs.Opened.{headers-many, steps-many}
 use Rattle.report_trace.specs.Laws.{Operand, first}
 use Rattle.report_trace.specs.Ends.{Ordered, shift-uses}
 use Rattle.report_trace.specs.Lowered.{Lowers, shift, lessOn, decider-limit, lowerer-lowers}

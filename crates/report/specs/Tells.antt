@@ -1,96 +1,171 @@
 -- What is printed, by how a sheet ends; and that every limit is printed before any figure.
-use Prim.Native.Nat.{ℕ, zero, suc, _+_, _-_, _<_}
+use Prim.Native.Nat.{ℕ, zero, suc, _+_, _-_, _≤_, _<_}
+use mathlib.Core.Bool.{true}
 use mathlib.Core.List.{List, [], _∷_, _++_, map}
 use mathlib.Core.Path.{_≡_, refl, sym, ap, _∙_}
 use native.Mathlib.Omega.{arith}
-use lib.Ieee.{Float}
+use lib.Ieee.{Float, ofBits, binary64}
 use lib.ListN.{length, getD, take, drop}
 use borrow.Author.Tests.{eq-eqb, ne-eqb}
 use Rattle.lists.specs.Bytes.{bytes}
-use Rattle.model.specs.declared.Header.{Header}
+use Rattle.lists.specs.Table.{table}
 use Rattle.model.specs.declared.Refusal.{Refusal}
+use Rattle.model.specs.Header.{stored}
+use Rattle.model.specs.Readings.{oneF}
 use Rattle.model.specs.Word.{headerOf, wordOf}
-use Rattle.model_recipes.specs.Recipe.{announcedPlaces}
 use Rattle.model_texts.specs.Full.{fulls}
-use Rattle.model_texts.specs.Report.{placeText, cutsText, endText, verdictText, limitsText}
+use Rattle.model_texts.specs.Report.{placeText, cutsText, endText, verdictText}
 use Rattle.model_texts.specs.Sentence.{placeMeanings, sheetMeanings, refusalReport}
-use Rattle.model_texts.specs.Sheet.{inputCount, stepCount, sheetHeaders, sheetSteps, sheetRefusal, lastValue}
-use Rattle.sheet.specs.declared.Solved.{Solved}
-use Rattle.sheet.specs.Solves.{Solution}
-use Rattle.model_texts.specs.Figures.{figuresText}
-use Rattle.sheet.specs.Opened.{headers-many, steps-many}
-use Rattle.report_lines.specs.Before.{Within, place-told, cuts-told, end-told, verdict-told}
-use Rattle.model_texts.specs.Told.{limitsFirst, toldText}
+use Rattle.model_recipes.specs.Recipe.{inputHeads, total}
+use Rattle.model_recipes.specs.Check.{checkRefusal}
+use Rattle.model_texts.specs.Sheet.{wordOn, sheetHeaders, coefficientCount, sheetCoefficients, sheetSteps}
+use Rattle.model_texts.specs.Sheet.{readRefusal, ownRefusal, recipeRefusal, sheetRefusal, lastValue}
+use Rattle.model_figures.specs.Inputs.{inputsText}
+use Rattle.model_figures.specs.Figures.{figuresText}
+use Rattle.model_forecast.specs.Told.{limitLines, placeCount, forecastText, sheetKnown, toldText}
+use Rattle.sheet_solving.specs.declared.Solved.{Solved}
+use Rattle.sheet_solving.specs.Solves.{Solution}
+use Rattle.sheet_solving.specs.Opened.{headers-many, opened, opened-good}
+use Rattle.sheet_reading.specs.Headers.{good-known}
+use Rattle.sheet_solving.specs.Running.{Passed, passed}
+use Rattle.recipes_kinds.specs.Known.{Known}
+use Rattle.recipes_check.specs.Asks.{or-none, or-next}
+use Rattle.report_lines.specs.Before.{Within}
+use Rattle.report_inputs.specs.Held.{Held}
+use Rattle.report.specs.Before.{place-told, cuts-told, end-told}
+
+-- what a forecast is printed from: n steps, c coefficients of the inputs, the answer's header word w and x coefficients
+pub record Forecast (hs : List ℕ) (n c w x : ℕ) : Type 0 where
+  pub held : Held hs c
+  pub some : 1 ≤ n
+  pub fit : length hs + n ≤ 64
+  pub full : x ≡ stored (headerOf w)
 
 module _ (t : List ℕ) where
   pub told-refused : {q : Refusal} → sheetRefusal t ≡ q → (q .number ≡ 0 → ⊥) → toldText t ≡ refusalReport q
   unfolding toldText
   told-refused {q} e z = rw (e, ne-eqb (q .number) 0 z)
 
-  pub told-done : sheetRefusal t .number ≡ 0 → toldText t ≡ limitsFirst t ++ figuresText (headerOf (wordOf (lastValue t .head))) (lastValue t .coeffs)
+  pub told-done : sheetRefusal t .number ≡ 0
+      → toldText t
+      ≡ forecastText (sheetKnown t) (sheetHeaders t) (sheetCoefficients t) (sheetSteps t) (wordOf (lastValue t .head)) (lastValue t .coeffs)
   unfolding toldText
   told-done e = rw (eq-eqb (sheetRefusal t .number) 0 e)
 
-  abbrev known : List Header
-  known = announcedPlaces (sheetHeaders t) (sheetSteps t)
-
   abbrev places : ℕ
-  places = inputCount t + stepCount t
+  places = placeCount (sheetKnown t) (sheetHeaders t) (sheetCoefficients t) (sheetSteps t)
+
+  abbrev inputs : ℕ
+  inputs = length (sheetHeaders t)
 
   abbrev full : List ℕ
-  full = fulls known (sheetSteps t) (inputCount t) places
+  full = fulls (sheetKnown t) (sheetSteps t) inputs places
 
-  -- the line of the place p, what limits cut off it, what decides the limit of the variable v of the answer, and the
-  -- verdict stand before the figures
+  -- all that is said of limits, and the verdict: from headers and steps alone
+  unfoldable pub limitsFirst : List ℕ
+  limitsFirst = limitLines (sheetKnown t) (sheetSteps t) inputs full places
+
+  unfoldable pub verdictThen : List ℕ
+  verdictThen = verdictText (sheetKnown t) (sheetSteps t) inputs full (places - 1)
+
+  -- the line of the place p, what limits cut off it, and what decides the limit of the variable v of the answer stand
+  -- before what was put in, the verdict stands behind that, and then come the figures
   pub record Told (p v : ℕ) : Type 0 where
-    pub place : Within (placeText known (sheetSteps t) (inputCount t) p) (limitsFirst t)
-    pub cuts : Within (cutsText known (sheetSteps t) (inputCount t) full p) (limitsFirst t)
-    pub ends : Within (endText known (sheetSteps t) (inputCount t) (places - 1) v) (limitsFirst t)
-    pub verdict : Within (verdictText known (sheetSteps t) (inputCount t) full (places - 1)) (limitsFirst t)
+    pub place : Within (placeText (sheetKnown t) (sheetSteps t) inputs p) limitsFirst
+    pub cuts : Within (cutsText (sheetKnown t) (sheetSteps t) inputs full p) limitsFirst
+    pub ends : Within (endText (sheetKnown t) (sheetSteps t) inputs (places - 1) v) limitsFirst
     pub figures : List ℕ
-    pub is : toldText t ≡ limitsFirst t ++ figures
+    pub is : toldText t ≡ limitsFirst ++ (inputsText (sheetHeaders t) (sheetCoefficients t) ++ (verdictThen ++ figures))
 
   pub limits-first : sheetRefusal t .number ≡ 0 → (p v : ℕ) → p < places → v < 4 → Told p v
-  unfolding limitsFirst
+  unfolding limitsFirst verdictThen forecastText
   limits-first e p v l k =
       record {
-        place = place-told known (sheetSteps t) (inputCount t) places p l;
-        cuts = cuts-told known (sheetSteps t) (inputCount t) places p l;
-        ends = end-told known (sheetSteps t) (inputCount t) places v k;
-        verdict = verdict-told known (sheetSteps t) (inputCount t) places;
-        figures = figuresText (headerOf (wordOf (lastValue t .head))) (lastValue t .coeffs);
+        place = place-told (sheetKnown t) (sheetSteps t) inputs full places p l;
+        cuts = cuts-told (sheetKnown t) (sheetSteps t) inputs full places p l;
+        ends = end-told (sheetKnown t) (sheetSteps t) inputs full places v k;
+        figures = figuresText (headerOf (wordOf (lastValue t .head))) (lastValue t .coeffs) oneF true;
         is = told-done e;
       }
 
--- what stands before the figures knows no coefficient: sheets with equal headers and steps print the same up to them
-pub words-decide : (t u : List ℕ) → sheetHeaders t ≡ sheetHeaders u → sheetSteps t ≡ sheetSteps u → limitsFirst t ≡ limitsFirst u
-unfolding limitsFirst
-words-decide t u h s =
-    let i : inputCount t ≡ inputCount u = sym (headers-many t) ∙ (ap length h ∙ headers-many u) in
-    let j : stepCount t ≡ stepCount u = sym (steps-many t) ∙ (ap length s ∙ steps-many u) in
-    rw (h, s, i, j) refl
+-- what is said of limits, and the verdict, know no coefficient: sheets with equal headers and steps have the same
+pub words-decide : (t u : List ℕ) → sheetHeaders t ≡ sheetHeaders u → sheetSteps t ≡ sheetSteps u
+    → (limitsFirst t ≡ limitsFirst u) × (verdictThen t ≡ verdictThen u)
+unfolding limitsFirst verdictThen
+words-decide t u h s = (rw (h, s) refl, rw (h, s) refl)
 
-pub told-solved : {t headers steps known : List ℕ} {pool : List Float} {s : Solved} → Solution t headers steps known pool s → sheetRefusal t .number ≡ 0
-    → toldText t
-    ≡ limitsText (map headerOf (take (s .inputs + s .steps) known)) (take (s .steps) steps) (s .inputs) (s .inputs + s .steps)
-    ++ figuresText (headerOf (s .header)) (take (s .from + s .count - s .from) (drop (s .from) pool))
-unfolding limitsFirst
-told-solved {t} {headers} {steps} {known} {pool} {s} d z =
-    let e : s .from + s .count - s .from ≡ s .count = omega arith in
-    told-done t z ∙ rw (e, d .places, d .step-words, d .last .header, d .last .coefficients, d .inputs, d .steps) refl
+-- the n coefficients on a sheet behind m headers
+abbrev pub coefficientsOf : List ℕ → ℕ → ℕ → List Float
+coefficientsOf t m n = table n (λ j. ofBits binary64 (wordOn t (1 + m + j)))
+
+module _ {t headers steps known : List ℕ} {pool : List Float} {s : Solved} (d : Solution t headers steps known pool s) (z : sheetRefusal t .number ≡ 0) where
+  solved-passed : Passed (sheetHeaders t) (sheetSteps t)
+  unfolding sheetRefusal recipeRefusal
+  solved-passed =
+      let a = or-none (checkRefusal (sheetHeaders t) (sheetSteps t)) _ (or-none (readRefusal t) _ z .1) in
+      let b = or-none (ownRefusal (sheetHeaders t) (sheetSteps t)) _ (a .1) in
+      passed (sheetHeaders t) (sheetSteps t)
+      (ap (λ (x : Refusal). x .number) (or-next (checkRefusal (sheetHeaders t) (sheetSteps t)) (ownRefusal (sheetHeaders t) (sheetSteps t)) (a .0)) ∙ b .0)
+
+  -- the inputs keep the rules
+  pub solved-known : Known (inputHeads (take (s .inputs) headers))
+  unfolding sheetRefusal
+  solved-known = rw (d .header-words) (good-known (opened-good (opened t (or-none (readRefusal t) _ z .0))))
+
+  pub solved-few : length (take (s .inputs) headers) ≤ 64
+  solved-few = omega (arith, ap length (d .header-words), solved-passed .accepts .sizes .few)
+
+  -- n coefficients, as many as the inputs have
+  module _ {n : ℕ} (e : n ≡ total (inputHeads (take (s .inputs) headers))) where
+    pub given-few : n ≤ 2048
+    given-few = omega (arith, e, ap (λ (l : List ℕ). total (inputHeads l)) (d .header-words), solved-passed .inputs)
+
+    pub solved-held : Held (take (s .inputs) headers) n
+    solved-held =
+        record {
+          known = solved-known;
+          few = omega (arith, ap length (d .header-words), solved-passed .accepts .sizes .few);
+          full = omega (arith, e);
+          small = given-few;
+        }
+
+    -- what a forecast is printed from
+    pub solved-forecast : Forecast (take (s .inputs) headers) (length (take (s .steps) steps)) n (s .header)
+        (length (take (s .from + s .count - s .from) (drop (s .from) pool)))
+    solved-forecast =
+        let f : s .from + s .count - s .from ≡ s .count = omega arith in
+        record {
+          held = solved-held;
+          some = omega (arith, ap length (d .step-words), solved-passed .accepts .sizes .some);
+          fit = omega (arith, ap length (d .step-words), ap length (d .header-words), solved-passed .accepts .sizes .fit);
+          full = rw f (ap length (d .last .coefficients) ∙ (sym (d .last .count) ∙ d .last .full));
+        }
+
+    coefficients-are : coefficientsOf t (length (take (s .inputs) headers)) n ≡ sheetCoefficients t
+    unfolding sheetCoefficients coefficientCount
+    coefficients-are = rw (e, d .header-words, headers-many t)
+
+    -- the forecast of the sheet, from what was solved
+    pub told-solved : toldText t
+        ≡ forecastText (map headerOf (take (s .inputs + s .steps) known)) (take (s .inputs) headers)
+        (coefficientsOf t (length (take (s .inputs) headers)) n) (take (s .steps) steps) (s .header)
+        (take (s .from + s .count - s .from) (drop (s .from) pool))
+    told-solved =
+        let f : s .from + s .count - s .from ≡ s .count = omega arith in
+        told-done t z ∙ rw (coefficients-are, f, d .places, d .step-words, d .header-words, d .last .header, d .last .coefficients) refl
 
 -- no other number means anything of a place, or of a sheet
-pub no-place-meaning : (n : ℕ) → (n ≡ 1 → ⊥) → (n ≡ 3 → ⊥) → (n ≡ 4 → ⊥) → (n ≡ 5 → ⊥) → (n ≡ 7 → ⊥) → [] ≡ bytes (getD placeMeanings n "")
+pub no-place-meaning : (n : ℕ) → (n ≡ 3 → ⊥) → (n ≡ 4 → ⊥) → (n ≡ 5 → ⊥) → (n ≡ 7 → ⊥) → [] ≡ bytes (getD placeMeanings n "")
 unfolding placeMeanings bytes
-no-place-meaning zero a b c d e = refl
-no-place-meaning (suc zero) a b c d e = absurd (a refl)
-no-place-meaning (suc (suc zero)) a b c d e = refl
-no-place-meaning (suc (suc (suc zero))) a b c d e = absurd (b refl)
-no-place-meaning (suc (suc (suc (suc zero)))) a b c d e = absurd (c refl)
-no-place-meaning (suc (suc (suc (suc (suc zero))))) a b c d e = absurd (d refl)
-no-place-meaning (suc (suc (suc (suc (suc (suc zero)))))) a b c d e = refl
-no-place-meaning (suc (suc (suc (suc (suc (suc (suc zero))))))) a b c d e = absurd (e refl)
-no-place-meaning (suc (suc (suc (suc (suc (suc (suc (suc n)))))))) a b c d e = refl
+no-place-meaning zero a b c d = refl
+no-place-meaning (suc zero) a b c d = refl
+no-place-meaning (suc (suc zero)) a b c d = refl
+no-place-meaning (suc (suc (suc zero))) a b c d = absurd (a refl)
+no-place-meaning (suc (suc (suc (suc zero)))) a b c d = absurd (b refl)
+no-place-meaning (suc (suc (suc (suc (suc zero))))) a b c d = absurd (c refl)
+no-place-meaning (suc (suc (suc (suc (suc (suc zero)))))) a b c d = refl
+no-place-meaning (suc (suc (suc (suc (suc (suc (suc zero))))))) a b c d = absurd (d refl)
+no-place-meaning (suc (suc (suc (suc (suc (suc (suc (suc n)))))))) a b c d = refl
 
 pub no-sheet-meaning : (n : ℕ) → (n ≡ 5 → ⊥) → (n ≡ 7 → ⊥) → (n ≡ 8 → ⊥) → [] ≡ bytes (getD sheetMeanings n "")
 unfolding sheetMeanings bytes

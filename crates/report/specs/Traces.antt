@@ -22,7 +22,7 @@ use Rattle.recipes_kinds.specs.Known.{small-variable}
 use Rattle.recipes_check.specs.Asks.{or-none}
 use Rattle.recipes_laws.specs.Exact.{check-exact, length-known}
 use Rattle.recipes_check.specs.Judged.{accepts, places-known}
-use Rattle.sheet.specs.Opened.{headers-many, steps-many}
+use Rattle.sheet_solving.specs.Opened.{headers-many, steps-many}
 use Rattle.report_trace.specs.Laws.{Operand, first, second}
 use Rattle.report_trace.specs.Ends.{Ordered, Ends, decider-ends}
 use Rattle.report_trace.specs.Furthest.{Made, furthest-made, furthest-most}

@@ -1,20 +1,78 @@
 // The answer of a sheet in plain text, for people: every limit before any figure, or why the sheet is refused.
+mod limits;
 mod refusal;
 
+use limits::put_limit_lines;
+use recipes_check::total_of;
 use refusal::put_refusal_report;
 use report_figures::line::put_figures;
-use report_lines::put_limits;
-use sheet::solve;
+use report_inputs::put_inputs;
+use report_lines::ends::put_verdict;
+use report_trace::full::fulls;
+use sheet_reading::fill_floats;
+use sheet_solving::solve;
 ghost use lib.ListN.{length};
 ghost use mathlib.Core.Path.{_≡_};
-ghost use Rattle.model_texts.specs.Told.{toldText};
-ghost use Rattle.report_lines.specs.Puts.{Printed};
+ghost use mathlib.Core.List.{map};
+ghost use Rattle.model.specs.Word.{headerOf};
+ghost use Rattle.model_forecast.specs.Told.{forecastText, toldText};
+ghost use Rattle.report_lines.specs.Puts.{Puts, Printed};
+ghost use Rattle.report.specs.Tells.{Forecast, coefficientsOf};
 
-// Memory for a pool.
+// Memory for a pool, or for the coefficients of all inputs.
 fn floats() -> [f64; 2048]
     ensures { λ r. ⌜ length r ≡ 2048 ⌝ }
 {
     [0.0f64; 2048]
+}
+
+// All that is printed for a recipe that was run: the words that its places announce, its inputs' headers, its steps,
+// its inputs' coefficients, and the answer's header and coefficients.
+fn put_forecast(
+    known: &[u64],
+    headers: &[u64],
+    steps: &[u64],
+    coefficients: &[f64],
+    header: u64,
+    xs: &[f64],
+    at: usize,
+    to: &mut [u8],
+) -> usize
+    requires { ⌜ Forecast (now headers) (length (now steps)) (length (now coefficients)) header (length (now xs)) ⌝ }
+    ensures { λ r.
+        ⌜ Puts (forecastText (map headerOf (now (known .entry))) (now (headers .entry)) (now (coefficients .entry))
+        (now (steps .entry)) header (now (xs .entry))) at (now (to .entry)) (now (to .exit)) r ⌝ }
+{
+    let inputs = headers.len();
+    let n = inputs + steps.len();
+    let end = 4 * n;
+    let full = fulls(known, steps, inputs, n);
+    let a = put_limit_lines(known, steps, inputs, &full[..end], n, at, to);
+    let b = put_inputs(headers, coefficients, a, to);
+    let c = put_verdict(known, steps, inputs, &full[..end], n - 1, b, to);
+    put_figures(header, xs, 1.0, true, c, to)
+}
+
+// The same with the inputs' coefficients read off the sheet, as many as `coefficients` has places; from the front of
+// `output`.
+fn put_read(
+    text: &[u8],
+    known: &[u64],
+    headers: &[u64],
+    steps: &[u64],
+    coefficients: &mut [f64],
+    header: u64,
+    xs: &[f64],
+    output: &mut [u8],
+) -> usize
+    requires { ⌜ Forecast (now headers) (length (now steps)) (length (now coefficients)) header (length (now xs)) ⌝ }
+    ensures { λ r.
+        ⌜ Printed (forecastText (map headerOf (now (known .entry))) (now (headers .entry))
+        (coefficientsOf (now (text .entry)) (length (now (headers .entry))) (length (now (coefficients .entry))))
+        (now (steps .entry)) header (now (xs .entry))) (now (output .entry)) (now (output .exit)) r ⌝ }
+{
+    fill_floats(text, 1 + headers.len(), coefficients);
+    put_forecast(known, headers, steps, coefficients, header, xs, 0, output)
 }
 
 // What is printed for a sheet, as far as `output` reaches; answers how long it is.
@@ -25,15 +83,26 @@ pub fn answer(text: &[u8], output: &mut [u8]) -> usize
     let mut steps = [0u64; 64];
     let mut known = [0u64; 64];
     let mut pool = floats();
+    let mut coefficients = floats();
     let solved = solve(text, &mut headers, &mut steps, &mut known, &mut pool);
     let refusal = solved.refusal;
     if refusal.number != 0 {
         return put_refusal_report(refusal, 0, output);
     }
-    let n = solved.inputs + solved.steps;
+    let inputs = solved.inputs;
     let count = solved.steps;
-    let next = put_limits(&known[..n], &steps[..count], solved.inputs, n, 0, output);
+    let n = inputs + count;
+    let given = total_of(&headers[..inputs]);
     let from = solved.from;
     let end = from + solved.count;
-    put_figures(solved.header, &pool[from..end], next, output)
+    put_read(
+        text,
+        &known[..n],
+        &headers[..inputs],
+        &steps[..count],
+        &mut coefficients[..given],
+        solved.header,
+        &pool[from..end],
+        output,
+    )
 }

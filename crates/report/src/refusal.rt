@@ -1,8 +1,9 @@
 // What a person reads where a sheet is refused.
 use model::Refusal;
+use report_header::put_fault;
 use report_lines::put::put;
 use report_lines::put::tell;
-use sheet::print::put_refusal;
+use sheet_text::refused::put_refusal;
 ghost use mathlib.Core.List.{_++_};
 ghost use lib.ListN.{getD};
 ghost use Rattle.lists.specs.Bytes.{bytes};
@@ -10,12 +11,13 @@ ghost use Rattle.model_texts.specs.Printed.{refusedText};
 ghost use Rattle.model_texts.specs.Report.{when, tell};
 ghost use Rattle.model_texts.specs.Sentence.{placeMeanings, sheetMeanings, meaning, refusalReport};
 ghost use Rattle.report_lines.specs.Puts.{Puts};
+ghost use Rattle.report.specs.Said.{saidText};
 
 // The line that `recipe` prints.
 fn put_refused(r: Refusal, at: usize, to: &mut [u8]) -> usize
     ensures { λ n. ⌜ Puts (refusedText r) at (now (to .entry)) (now (to .exit)) n ⌝ }
 {
-    let mut line = [0u8; 16];
+    let mut line = [0u8; 24];
     let end = put_refusal(r, &mut line);
     put(&line[..end], at, to)
 }
@@ -25,11 +27,6 @@ fn put_place_meaning(number: u8, at: usize, to: &mut [u8]) -> usize
     ensures { λ r. ⌜ Puts (bytes (getD placeMeanings number "")) at (now (to .entry)) (now (to .exit)) r ⌝ }
 {
     match number {
-        1 => put(
-            b"its header word breaks the rules; write its limits and lengths anew.\n",
-            at,
-            to,
-        ),
         3 => put(
             b"its variable is not its operand's; name one that the operand has.\n",
             at,
@@ -99,12 +96,22 @@ fn put_where(placed: bool, place: usize, at: usize, to: &mut [u8]) -> usize
     at
 }
 
+// One sentence: of a header word its fault, else which place and what the number means.
+fn put_said(r: Refusal, at: usize, to: &mut [u8]) -> usize
+    ensures { λ n. ⌜ Puts (saidText r) at (now (to .entry)) (now (to .exit)) n ⌝ }
+{
+    let placed = r.place < 64;
+    if r.number == 1 {
+        return put_fault(r.place as usize, r.variable, r.cause, at, to);
+    }
+    let next = put_where(placed, r.place as usize, at, to);
+    put_meaning(placed, r.number, next, to)
+}
+
 // The line that `recipe` prints, then one sentence.
 pub fn put_refusal_report(r: Refusal, at: usize, to: &mut [u8]) -> usize
     ensures { λ n. ⌜ Puts (refusalReport r) at (now (to .entry)) (now (to .exit)) n ⌝ }
 {
-    let placed = r.place < 64;
-    let a = put_refused(r, at, to);
-    let b = put_where(placed, r.place as usize, a, to);
-    put_meaning(placed, r.number, b, to)
+    let next = put_refused(r, at, to);
+    put_said(r, next, to)
 }

@@ -1,5 +1,4 @@
 pub mod Fill
 pub mod Lines
-pub mod Value
+pub mod Number
 pub mod Long
-pub mod Whole

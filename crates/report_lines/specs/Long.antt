@@ -1,5 +1,5 @@
--- What is said of limits keeps to 80 columns and is under 57,000 bytes long, for 64 places whose headers keep the
--- rules.
+-- The lines that are said of limits keep to 80 columns, for 64 places whose headers keep the rules; and how long they
+-- are.
 -- The widest line of a place is that of a `taylor_expansion_of_coeff` in four variables, whose n has two digits since
 -- it is below a limit.
 use Prim.Native.Nat.{ℕ, zero, suc, _+_, _-_, _≤_, _<_}
@@ -20,19 +20,18 @@ use Rattle.model_recipes.specs.Recipe.{headAt}
 use Rattle.model_recipes.specs.Steps.{stepOf, rows, usesOf}
 use Rattle.model_texts.specs.Printed.{decimal}
 use Rattle.model_texts.specs.Trace.{usesIn, stepWord, has, limitAt, isCut, cutOperand, follow, decider, lowerer, furthest}
-use Rattle.model_texts.specs.Full.{many, endless, fullAt, fulls}
+use Rattle.model_texts.specs.Full.{many, endless, fullAt}
 use Rattle.model_texts.specs.Whole.{passes, firstOut, isWhole}
 use Rattle.model_texts.specs.Report.{pairText, shapeText, kindNames, kindText, fieldsText, stepText, whatText, placeKindText, variableText}
 use Rattle.model_texts.specs.Report.{fallsText, fillsText, needText, loweredText, breakText, needsFront, fillsLine, fallsLine, needsLine, cutText, cutsText}
 use Rattle.model_texts.specs.Report.{placeText, source, isLowered, limitText, deciderText, limitHas, furtherText}
-use Rattle.model_texts.specs.Report.{endFront, endLine, endText, verdictText, limitsWith, limitsText}
+use Rattle.model_texts.specs.Report.{endFront, endLine, endText, verdictText}
 use Rattle.shape_words.specs.Rules.{Regular, ruled-at}
 use Rattle.recipes_kinds.specs.Known.{Known, small-kind, small-variable}
 use Rattle.report_trace.specs.Ends.{Ordered}
 use Rattle.report_trace.specs.Furthest.{furthest-before}
 use Rattle.report_trace.specs.Counted.{or-false}
 use Rattle.report_trace.specs.Small.{a-small, b-small, cut-small, follow-small, decider-small, lowerer-small}
-use Rattle.report_lines.specs.Before.{lineOne, lineTwo}
 use Rattle.report_lines.specs.Columns.{inColumns, columnAfter, Piece, piece, piece-up, piece-then, piece-either}
 use Rattle.report_lines.specs.Columns.{piece-when, piece-if, piece-joined, piece-named, small-piece, one-digit}
 use Rattle.report_lines.specs.Columns.{two-digits, tell-two, Rest, newline-rest, rest-up, rest-then, rest-broken}
@@ -61,7 +60,7 @@ fields-piece w m p =
 abbrev stepColumns : ℕ → ℕ → ℕ
 stepColumns k m = length (kindText k) + fieldColumns (usesOf k) m
 
-name-piece : (k : ℕ) → Piece (length (kindText k)) (kindText k)
+pub name-piece : (k : ℕ) → Piece (length (kindText k)) (kindText k)
 unfolding kindText kindNames bytes
 name-piece k = record { most = omega arith; plain = piece-named 25 kindNames k refl .plain }
 
@@ -130,7 +129,7 @@ module _ {h : Header} (r : Regular h) where
 
 -- ---- what decides a limit
 
-kind-place-piece : (inputs d : ℕ) → d < 64 → Piece 16 (placeKindText inputs d)
+pub kind-place-piece : (inputs d : ℕ) → d < 64 → Piece 16 (placeKindText inputs d)
 unfolding placeKindText bytes
 kind-place-piece inputs d l =
     piece-then (tell-two "place " d (piece 6 (bytes "place ") refl) (omega arith))
@@ -165,7 +164,7 @@ module _ (known : List Header) (ss : List ℕ) (inputs : ℕ) (g : Known known) 
   limit-small : (v p : ℕ) → v < 4 → limitAt known v p < 100
   limit-small v p l = omega (arith, ruled-at (g .at p .rules) v l .most)
 
-  place-lines : (p : ℕ) → p < 64 → (inputs ≤ p → Short (stepWord ss inputs p)) → Lines 79 (placeText known ss inputs p)
+  pub place-lines : (p : ℕ) → p < 64 → (inputs ≤ p → Short (stepWord ss inputs p)) → Lines 79 (placeText known ss inputs p)
   unfolding placeText bytes
   place-lines p l s =
       lines (omega arith)
@@ -312,15 +311,15 @@ module _ (known : List Header) (ss : List ℕ) (inputs : ℕ) (g : Known known) 
           let f : Piece 35 (endFront known ss inputs p v) = rw (sym e) at front-piece in
           rest-up (rest-then f (rest-then (piece 2 (bytes ", ") refl) does-rest)) (omega arith) (omega arith)
 
-      end-lines : Lines 124 (endText known ss inputs p v)
+      pub end-lines : Lines 124 (endText known ss inputs p v)
       unfolding endText endLine
       end-lines = lines-if (has known v p) (lines (omega arith) (end-rest lowered refl))
 
-  cuts-lines : (fs : List ℕ) (p : ℕ) → p < 64 → Lines 796 (cutsText known ss inputs fs p)
+  pub cuts-lines : (fs : List ℕ) (p : ℕ) → p < 64 → Lines 796 (cutsText known ss inputs fs p)
   unfolding cutsText
   cuts-lines fs p l = lines-joined (cutText known ss inputs fs p) 199 4 (λ v k. cut-lines p v l k fs)
 
-  verdict-lines : (fs : List ℕ) (p : ℕ) → Lines 80 (verdictText known ss inputs fs p)
+  pub verdict-lines : (fs : List ℕ) (p : ℕ) → Lines 80 (verdictText known ss inputs fs p)
   unfolding verdictText isWhole bytes inColumns columnAfter
   verdict-lines fs p =
       let q = firstOut known ss inputs fs p in
@@ -335,22 +334,3 @@ module _ (known : List Header) (ss : List ℕ) (inputs : ℕ) (g : Known known) 
       (piece 44 (bytes "*** CUT: what lies past the limits of place ") refl) (omega (arith, leb-false 64 q t)))
       (rest-then (piece 17 (bytes " is left out. ***") refl) newline-rest)))
       (omega arith)))
-
-  heads : (Lines 80 lineOne) × (Lines 80 lineTwo)
-  unfolding bytes inColumns columnAfter
-  heads = (written 80 lineOne refl refl, written 80 lineTwo refl refl)
-
-  -- all of it
-  pub limits-lines : (n : ℕ) → 1 ≤ n → n ≤ 64 → Ordered ss inputs n
-      → ((p : ℕ) → inputs ≤ p → p < n → Short (stepWord ss inputs p)) → Lines 57000 (limitsText known ss inputs n)
-  unfolding limitsText limitsWith
-  limits-lines n s f o short =
-      let fs = fulls known ss inputs n in
-      lines-up
-      (lines-then (heads .0)
-      (lines-then (heads .1)
-      (lines-then (lines-joined (placeText known ss inputs) 79 n (λ p l. place-lines p (omega arith) (λ i. short p i l)))
-      (lines-then (lines-joined (cutsText known ss inputs fs) 796 n (λ p l. cuts-lines fs p (omega arith)))
-      (lines-then (lines-joined (endText known ss inputs (n - 1)) 124 4
-      (λ v k. end-lines (n - 1) v (omega arith) k o (omega arith))) (verdict-lines fs (n - 1)))))))
-      (omega arith)

@@ -50,7 +50,7 @@ fn put_shape(h: Header, at: usize, to: &mut [u8]) -> usize
 }
 
 // The name of a kind.
-fn put_kind(kind: usize, at: usize, to: &mut [u8]) -> usize
+pub fn put_kind(kind: usize, at: usize, to: &mut [u8]) -> usize
     ensures { λ r. ⌜ Puts (kindText kind) at (now (to .entry)) (now (to .exit)) r ⌝ }
 {
     match kind {

@@ -26,6 +26,7 @@ fn series_into(
 )
     requires { ⌜ Whole la r n (length (now a)) (length (now out)) (length (now work)) ⌝ ∗ ⌜ Long la r ⌝ }
     ensures { λ _. ⌜ now (out .exit) ≡ seriesRows logs head la r (now (a .entry)) ⌝ }
+    ensures spent { λ _. ⌜ length (now (work .exit)) ≡ length (now (work .entry)) ⌝ }
 {
     if logs {
         series_log::log_into(head, a, la, r, n, out, work);

@@ -35,6 +35,7 @@ fn exp_row(
     ensures { λ _. ⌜ Kept (k * inRow r v) (k * inRow r v + inRow r v)
         (overWhole k (gathered false lx r v k 1 (min (k + 1) (at lx v)) (part n e (now (work .entry)))
         (take (k * inRow r v) (now (work .entry))))) (now (work .entry)) (now (work .exit)) ⌝ }
+    ensures spent { λ _. ⌜ length (now (row .exit)) ≡ length (now (row .entry)) ⌝ }
 {
     let at = k * sr[v];
     let end = at + sr[v];
@@ -58,6 +59,7 @@ fn exp_rows(
     requires { ⌜ Shaped lx sx r sr ⌝ ∗ ⌜ Room lx r v n (length (now xs)) (length (now work)) (length (now row)) ⌝ ∗ ⌜ v < 4 ⌝ }
     ensures { λ _. ⌜ take (span r (4 - v) v) (now (work .exit))
         ≡ stack (at r v - 1) (nextRow lx r v (now (xs .entry))) (take (inRow r v) (now (work .entry))) ⌝ }
+    ensures spent { λ _. ⌜ length (now (row .exit)) ≡ length (now (row .entry)) ⌝ }
 {
     let t = sx[v];
     let s = sr[v];
@@ -86,6 +88,7 @@ fn exp_block(
 )
     requires { ⌜ Shaped lx sx r sr ⌝ ∗ ⌜ Room lx r v n (length (now xs)) (length (now work)) (length (now row)) ⌝ }
     ensures { λ _. ⌜ take (span r (4 - v) v) (now (work .exit)) ≡ expRows head lx r (4 - v) v (now (xs .entry)) ⌝ }
+    ensures spent { λ _. ⌜ length (now (row .exit)) ≡ length (now (row .entry)) ⌝ }
 {
     if v == 4 {
         work[0] = head;
@@ -107,6 +110,7 @@ pub fn exp_into(
 )
     requires { ⌜ Whole lx r n (length (now xs)) (length (now out)) (length (now work)) ⌝ }
     ensures { λ _. ⌜ now (out .exit) ≡ expRows head lx r 4 0 (now (xs .entry)) ⌝ }
+    ensures spent { λ _. ⌜ length (now (work .exit)) ≡ length (now (work .entry)) ⌝ }
 {
     let sx = shape_words::places::strides_of(lx);
     let sr = shape_words::places::strides_of(r);

@@ -58,6 +58,7 @@ fn add_operand(
     ensures { λ _. ⌜ now (row .exit) ≡ table (count ar)
         (λ i. joinAt false (getD (now (row .entry)) i nan)
         (block ax (multipliedBy k (now (a .entry)))) (index ar i)) ⌝ }
+    ensures spent { λ _. ⌜ length (now (times .exit)) ≡ length (now (times .entry)) ⌝ }
 {
     series_scaling::multiply(k, a, times);
     blocks::join_block(false, times, ax, ar, row);
@@ -101,6 +102,7 @@ fn log_gather(
 fn log_divide(xs: &[f64], ax: [usize; 4], ar: [usize; 4], work: &mut [f64], row: &mut [f64])
     requires { ⌜ Divisor ax ar (length (now xs)) (length (now work)) (length (now row)) ⌝ }
     ensures { λ _. ⌜ now (row .exit) ≡ recurred (block ar (now (row .entry))) (block ax (now (xs .entry))) ar ⌝ }
+    ensures spent { λ _. ⌜ length (now (work .exit)) ≡ length (now (work .entry)) ⌝ }
 {
     let s = row.len();
     let t = xs.len();
@@ -126,6 +128,7 @@ fn log_row(
     ensures { λ _. ⌜ Rowed n (k * inRow r v) (k * inRow r v + inRow r v) k
         (dividedRow lx r v k (now (xs .entry)) (part n (n + k * inRow r v) (now (work .entry))))
         (now (work .entry)) (now (work .exit)) ⌝ }
+    ensures spent { λ _. ⌜ length (now (row .exit)) ≡ length (now (row .entry)) ⌝ }
 {
     let s = sr[v];
     let t = sx[v];
@@ -155,6 +158,7 @@ fn log_rows(
     requires { ⌜ Shaped lx sx r sr ⌝ ∗ ⌜ RowsRoom lx r v n (length (now xs)) (length (now work)) (length (now row)) ⌝ ∗ ⌜ v < 4 ⌝ }
     ensures { λ _. ⌜ take (span r (4 - v) v) (now (work .exit))
         ≡ stack (at r v - 1) (logStep lx r v (now (xs .entry))) (take (inRow r v) (now (work .entry))) ⌝ }
+    ensures spent { λ _. ⌜ length (now (row .exit)) ≡ length (now (row .entry)) ⌝ }
 {
     let s = sr[v];
     let m = r[v];
@@ -180,6 +184,7 @@ fn log_block(
 )
     requires { ⌜ LogShaped lx sx r sr ⌝ ∗ ⌜ RowsRoom lx r v n (length (now xs)) (length (now work)) (length (now row)) ⌝ }
     ensures { λ _. ⌜ take (span r (4 - v) v) (now (work .exit)) ≡ logRows head lx r (4 - v) v (now (xs .entry)) ⌝ }
+    ensures spent { λ _. ⌜ length (now (row .exit)) ≡ length (now (row .entry)) ⌝ }
 {
     if v == 4 {
         work[0] = head;
@@ -206,6 +211,7 @@ pub fn log_into(
 )
     requires { ⌜ Whole lx r n (length (now xs)) (length (now out)) (length (now work)) ⌝ ∗ ⌜ Long lx r ⌝ }
     ensures { λ _. ⌜ now (out .exit) ≡ logRows head lx r 4 0 (now (xs .entry)) ⌝ }
+    ensures spent { λ _. ⌜ length (now (work .exit)) ≡ length (now (work .entry)) ⌝ }
 {
     let sx = shape_words::places::strides_of(lx);
     let sr = shape_words::places::strides_of(r);

@@ -1,8 +1,20 @@
 // Answers of the settings store for C, Rust and Python: a word, and what is written through pointers. The names
 // themselves are in crate `taylor`: the archive has the functions of one crate only.
+use model_settings::Content;
 use model_settings::Settled;
 ghost use mathlib.Core.Path.{_≡_};
-ghost use Rattle.settings_face.specs.Face.{wordOf, versionAfter, horizonAfter, recipeAfter, chanceAfter};
+ghost use Rattle.settings_face.specs.Face.{handedOver, wordOf, versionAfter, horizonAfter, recipeAfter, chanceAfter};
+
+// What is handed over, the chance as its bits.
+pub fn content_of(chance: f64, horizon: u64, recipe: u64) -> Content
+    ensures { λ r. ⌜ r ≡ handedOver chance horizon recipe ⌝ }
+{
+    Content {
+        chance: sheet_bits::word_of(chance),
+        horizon,
+        recipe,
+    }
+}
 
 // 0, or the refusal as one word.
 pub fn word_of(a: Settled) -> u64

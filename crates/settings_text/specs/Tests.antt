@@ -1,23 +1,21 @@
 -- What the loops over a text carry, and which way a test went.
 use Prim.Native.Nat.{ℕ, _+_, _-_, _*_, _≤_, _<_}
-use mathlib.Core.Bool.{Bool, true, false, not, _&&_, cond}
+use mathlib.Core.Bool.{Bool, true, false}
 use mathlib.Core.List.{List, []}
 use mathlib.Core.Path.{_≡_, refl, sym, ap, _∙_}
 use native.Mathlib.Omega.{arith}
 use native.Mathlib.Nat.{zero-add}
-use lib.Dec.{ltb, leb, eqb}
-use lib.ListN.{length, getD, take, length-take}
+use lib.ListN.{length, take, length-take}
 use lib.Seq.{length-take-le}
-use borrow.Author.Tests.{eq-eqb, ne-eqb, lt-ltb, le-ltb, le-leb, lt-leb, not-true, not-false}
+use borrow.Author.Tests.{eq-eqb, ne-eqb, le-leb, lt-leb}
 use Rattle.lists.specs.Every.{every}
 use Rattle.lists.specs.Grow.{length-over}
-use Rattle.model_texts.specs.Hex.{isLine, digitAt}
+use Rattle.model_texts.specs.Hex.{isLine}
 use Rattle.io.specs.Counts.{Counts}
 use Rattle.model_texts.specs.Report.{when}
 use Rattle.report_lines.specs.Puts.{Puts, Printed, printed-none}
 use Rattle.model_settings.specs.Words.{versionOf}
-use Rattle.settings_text.specs.Text.{isStore, isDecimal, isNumber, isWord, isText, pushed, keptText}
-use Rattle.settings_text.specs.Text.{versionText}
+use Rattle.settings_text.specs.Text.{isStore, storeWords, takenWords, keptText, versionText}
 
 -- a place of a loop that starts at 0
 pub here : (f : ℕ → Bool) (k : ℕ) {b : Bool} → f k ≡ b → f (0 + k) ≡ b
@@ -32,41 +30,14 @@ module _ (t : List ℕ) where
   unfolding isStore
   store-is h e = rw (eq-eqb _ _ h) (sym e)
 
-  pub word-short : (length t ≡ 16 → ⊥) → false ≡ isWord t
-  unfolding isWord
-  word-short h = rw (ne-eqb _ _ h)
+  -- which way the test of a file went, and what was read
+  pub not-taken : (w : List ℕ) → isStore t ≡ false → w ≡ takenWords t w
+  unfolding takenWords
+  not-taken w h = rw h
 
-  pub word-is : {b : Bool} → length t ≡ 16 → every (digitAt t) 16 0 ≡ b → b ≡ isWord t
-  unfolding isWord
-  word-is h e = rw (eq-eqb _ _ h) (sym e)
-
-  pub number-long : not (leb 1 (length t) && leb (length t) 18) ≡ true → false ≡ isNumber t
-  unfolding isNumber
-  number-long h = rw (not-true (leb 1 (length t) && leb (length t) 18) h)
-
-  pub number-is :
-      {b : Bool} → not (leb 1 (length t) && leb (length t) 18) ≡ false → every (λ p. isDecimal (getD t p 0))
-      (length t) 0 ≡ b → b ≡ isNumber t
-  unfolding isNumber
-  number-is h e = rw (not-false (leb 1 (length t) && leb (length t) 18) h) (sym e)
-
-  pub text-short : (u : List ℕ) → (length t ≡ length u → ⊥) → false ≡ isText t u
-  unfolding isText
-  text-short u h = rw (ne-eqb _ _ h)
-
-  pub text-is :
-      (u : List ℕ) {b : Bool} → length t ≡ length u → every (λ p. eqb (getD t p 0) (getD u p 0)) (length t) 0 ≡ b
-      → b ≡ isText t u
-  unfolding isText
-  text-is u h e = rw (eq-eqb _ _ h) (sym e)
-
-pub pushed-small : (b n : ℕ) {d : ℕ} → d ≡ b - 48 → n < 100000000000000000 → 10 * n + d ≡ pushed b n
-unfolding pushed
-pushed-small b n e h = rw (lt-ltb _ _ h, e)
-
-pub pushed-large : (b n : ℕ) → 100000000000000000 ≤ n → n ≡ pushed b n
-unfolding pushed
-pushed-large b n h = rw (le-ltb _ _ h)
+  pub are-taken : (w : List ℕ) {new : List ℕ} → isStore t ≡ true → new ≡ storeWords t w → new ≡ takenWords t w
+  unfolding takenWords
+  are-taken w h e = rw h e
 
 module _ (w : List ℕ) (d k : ℕ) where
   pub kept-none : versionOf w d + k < 7 → [] ≡ keptText w d k

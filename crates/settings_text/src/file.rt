@@ -8,10 +8,10 @@ ghost use Prim.Native.Nat.{_≤_};
 ghost use lib.ListN.{length};
 ghost use Rattle.model_texts.specs.Hex.{hexLine};
 ghost use Rattle.report_lines.specs.Puts.{Puts};
-ghost use Rattle.settings_text.specs.Text.{isStore, storeWords, storeText};
+ghost use Rattle.settings_text.specs.Text.{isStore, storeWords, takenWords, storeText};
 
 // Whether a text is such a file. Whether calls leave its words is the store's own test.
-pub fn is_store(text: &[u8]) -> bool
+fn is_store(text: &[u8]) -> bool
     ensures { λ r. ⌜ r ≡ isStore (now (text .entry)) ⌝ }
 {
     if text.len() != 9248 {
@@ -28,7 +28,7 @@ pub fn is_store(text: &[u8]) -> bool
 }
 
 // The words of such a file.
-pub fn read_store(text: &[u8], words: &mut [u64])
+fn read_store(text: &[u8], words: &mut [u64])
     requires { ⌜ 544 ≤ length (now words) ⌝ }
     ensures { λ _. ⌜ now (words .exit) ≡ storeWords (now (text .entry)) (now (words .entry)) ⌝ }
 {
@@ -37,6 +37,18 @@ pub fn read_store(text: &[u8], words: &mut [u64])
         words[k] = word_at(text, 17 * k);
         k += 1;
     }
+}
+
+// The words of a text that is such a file; whether it is.
+pub fn take_store(text: &[u8], words: &mut [u64]) -> bool
+    requires { ⌜ 544 ≤ length (now words) ⌝ }
+    ensures { λ r. ⌜ (r ≡ isStore (now (text .entry))) × (now (words .exit) ≡ takenWords (now (text .entry)) (now (words .entry))) ⌝ }
+{
+    if !is_store(text) {
+        return false;
+    }
+    read_store(text, words);
+    true
 }
 
 // The line of a word.

@@ -1,5 +1,4 @@
-// What the program `settings` reads and prints, on slices: the file of a store, arguments, and lines for people.
-pub mod argument;
+// What the program `settings` reads and prints of a store, on slices: its file, and lines for people.
 pub mod file;
 pub mod line;
 pub mod whole;

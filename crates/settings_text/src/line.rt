@@ -1,4 +1,5 @@
 // Lines for people: one a department or version.
+use decimals::put_float_of;
 use model_settings::Content;
 use report_lines::put::put;
 use report_lines::put::tell;
@@ -9,7 +10,7 @@ ghost use Prim.Native.Nat.{_≤_, _<_};
 ghost use lib.ListN.{length};
 ghost use Rattle.model_texts.specs.Number.{hexText};
 ghost use Rattle.report_lines.specs.Puts.{Puts};
-ghost use Rattle.settings_text.specs.Text.{contentText, departmentText, departmentsText, versionText, keptText, versionsText};
+ghost use Rattle.settings_text.specs.Text.{chanceText, contentText, departmentText, departmentsText, versionText, keptText, versionsText};
 
 fn put_hex(word: u64, at: usize, to: &mut [u8]) -> usize
     ensures { λ r. ⌜ Puts (hexText word) at (now (to .entry)) (now (to .exit)) r ⌝ }
@@ -20,12 +21,22 @@ fn put_hex(word: u64, at: usize, to: &mut [u8]) -> usize
     put(&digits[..end], next, to)
 }
 
+// A chance for people, and its word, which is the very float.
+fn put_chance(word: u64, at: usize, to: &mut [u8]) -> usize
+    ensures { λ r. ⌜ Puts (chanceText word) at (now (to .entry)) (now (to .exit)) r ⌝ }
+{
+    let a = put_float_of(word, at, to);
+    let b = put(b" (", a, to);
+    let c = put_hex(word, b, to);
+    put(b")", c, to)
+}
+
 // The rest of a line: what is set.
 pub fn put_content(c: Content, at: usize, to: &mut [u8]) -> usize
     ensures { λ r. ⌜ Puts (contentText c) at (now (to .entry)) (now (to .exit)) r ⌝ }
 {
     let a = put(b", chance ", at, to);
-    let b = put_hex(c.chance, a, to);
+    let b = put_chance(c.chance, a, to);
     let d = tell(b", horizon ", c.horizon as usize, b, to);
     let e = tell(b", recipe ", c.recipe as usize, d, to);
     put(b"\n", e, to)

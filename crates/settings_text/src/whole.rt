@@ -1,15 +1,12 @@
 // Whole texts from the front of lent memory; each answers how many bytes it put there.
 use crate::file::put_store;
-use crate::line::put_department;
-use crate::line::put_departments;
-use crate::line::put_versions;
 use report_lines::put::put;
 ghost use mathlib.Core.List.{_++_};
-ghost use Prim.Native.Nat.{_≤_, _<_};
+ghost use Prim.Native.Nat.{_≤_};
 ghost use lib.ListN.{length};
 ghost use Rattle.io.specs.Counts.{Counts};
 ghost use Rattle.report_lines.specs.Puts.{Printed};
-ghost use Rattle.settings_text.specs.Text.{storeText, departmentText, departmentsText, versionsText};
+ghost use Rattle.settings_text.specs.Text.{storeText};
 
 // A name with an ending behind it.
 pub fn beside(path: &[u8], ending: &[u8], to: &mut [u8]) -> usize
@@ -26,28 +23,4 @@ pub fn store(words: &[u64], to: &mut [u8]) -> usize
     ensures within { λ r. ⌜ Counts r (now (to .exit)) ⌝ }
 {
     put_store(words, 0, to)
-}
-
-pub fn department(words: &[u64], d: usize, to: &mut [u8]) -> usize
-    requires { ⌜ 544 ≤ length (now words) ⌝ ∗ ⌜ d < 32 ⌝ }
-    ensures printed { λ r. ⌜ Printed (departmentText (now (words .entry)) d) (now (to .entry)) (now (to .exit)) r ⌝ }
-    ensures within { λ r. ⌜ Counts r (now (to .exit)) ⌝ }
-{
-    put_department(words, d, 0, to)
-}
-
-pub fn departments(words: &[u64], to: &mut [u8]) -> usize
-    requires { ⌜ 544 ≤ length (now words) ⌝ }
-    ensures printed { λ r. ⌜ Printed (departmentsText (now (words .entry))) (now (to .entry)) (now (to .exit)) r ⌝ }
-    ensures within { λ r. ⌜ Counts r (now (to .exit)) ⌝ }
-{
-    put_departments(words, 0, to)
-}
-
-pub fn versions(words: &[u64], d: usize, to: &mut [u8]) -> usize
-    requires { ⌜ 544 ≤ length (now words) ⌝ ∗ ⌜ d < 32 ⌝ }
-    ensures printed { λ r. ⌜ Printed (versionsText (now (words .entry)) d) (now (to .entry)) (now (to .exit)) r ⌝ }
-    ensures within { λ r. ⌜ Counts r (now (to .exit)) ⌝ }
-{
-    put_versions(words, d, 0, to)
 }

@@ -1,4 +1,6 @@
 pub mod Rules
+pub mod Sound
+pub mod Faults
 pub mod Lengths
 pub mod Words
 pub mod Places

@@ -5,13 +5,12 @@ use mathlib.Core.Bool.{true}
 use mathlib.Core.Path.{_≡_, refl, sym, ap, _∙_}
 use native.Mathlib.Omega.{arith}
 use lib.Pow.{shr-shr, shl-shr}
-use lib.Dec.{eqb}
-use borrow.Author.Tests.{eqb-true, eq-eqb}
-use Rattle.lists.specs.Test.{and-left, and-right}
+use borrow.Author.Tests.{leb-true, eqb-true, eq-eqb}
 use Rattle.model.specs.declared.Header.{Header}
-use Rattle.model.specs.Header.{header, limit, len, goodHeader}
+use Rattle.model.specs.Header.{header, limit, len}
 use Rattle.model.specs.Word.{fieldAt, headerOf, goodWord, pushed, fields, wordOf}
-use Rattle.shape_words.specs.Rules.{Ruled, Regular, Good, header-good, header-ruled, header-most}
+use Rattle.shape_words.specs.Rules.{Ruled, Regular, Good, header-good}
+use Rattle.shape_words.specs.Sound.{good-word-is, word-sound, word-ruled}
 
 -- a field more: how large a word can be
 pub step : (k : ℕ) {r w x : ℕ} → r ≡ pushed w x → w < k → 1 ≤ x → x ≤ 64 → r < k * 64
@@ -77,21 +76,19 @@ unfolding wordOf
 spare h = omega arith
 
 pub packed-good : (h : Header) → Good h → goodWord (wordOf h) ≡ true
-unfolding goodWord
-packed-good h g = simp (unpack-pack h (g .regular), header-good (g .regular .rules) (g .most), eq-eqb _ _ (spare h))
+packed-good h g =
+    rw (good-word-is (wordOf h)) (simp (unpack-pack h (g .regular), header-good (g .regular .rules) (g .most), eq-eqb _ _ (spare h)))
 
 -- what a good word's header keeps
 pub good-word : (w : ℕ) → goodWord w ≡ true → Good (headerOf w)
-unfolding goodWord headerOf
-good-word w g =
-    let k : goodHeader (headerOf w) ≡ true = and-left (goodHeader (headerOf w)) (eqb (w % 2 ^ 13) 0) g in
-    record { regular = record { rules = header-ruled (headerOf w) k; ls = refl; ns = refl }; most = header-most (headerOf w) k }
+unfolding headerOf
+good-word w g = record { regular = record { rules = word-ruled w g; ls = refl; ns = refl }; most = leb-true _ _ (word-sound w g .most) }
 
 -- pack after unpack
 pub pack-unpack : (w : ℕ) → w < 2 ^ 64 → goodWord w ≡ true → wordOf (headerOf w) ≡ w
-unfolding goodWord headerOf wordOf fields
+unfolding headerOf wordOf fields
 pack-unpack w fit g =
-    let z : w % 2 ^ 13 ≡ 0 = eqb-true _ _ (and-right (goodHeader (headerOf w)) (eqb (w % 2 ^ 13) 0) g) in
+    let z : w % 2 ^ 13 ≡ 0 = eqb-true _ _ (word-sound w g .spare) in
     let e : w / 2 ^ 61 % 2 ^ 3 ≡ w / 2 ^ 61 = omega arith in
     let d : fields (headerOf w) ≡ w / 2 ^ 13 = simp (e, up w 55, up w 49, up w 43, up w 37, up w 31, up w 25, up w 19, up w 13) in
     ap (λ (n : ℕ). n * 2 ^ 13) d ∙ omega (arith, z)

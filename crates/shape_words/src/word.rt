@@ -1,4 +1,5 @@
 // Header words, packed and unpacked by shifts and masks.
+use crate::fault::fault_of;
 use model::Header;
 use model::Refusal;
 ghost use mathlib.Core.Path.{_≡_};
@@ -80,7 +81,7 @@ pub fn is_good(word: u64) -> bool
 pub fn bad_word(word: u64, place: u8) -> Refusal
     ensures { λ r. ⌜ r ≡ badWord word place ⌝ }
 {
-    Refusal::at(1, place)
+    Refusal::of_fault(fault_of(word), place)
 }
 
 // One field of six bits more at the low end: x less one.

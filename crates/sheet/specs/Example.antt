@@ -7,8 +7,9 @@ use Rattle.lists.specs.Chain.{chain}
 use Rattle.lists.specs.Every.{every}
 use Rattle.lists.specs.Table.{table}
 use Rattle.lists.specs.Walk.{walk}
-use Rattle.model.specs.Header.{span, goodVar, goodVars, goodHeader}
-use Rattle.model.specs.Word.{headerOf, goodWord, fields, wordOf}
+use Rattle.model.specs.Header.{span}
+use Rattle.model.specs.Faults.{soundVar, headerFault}
+use Rattle.model.specs.Word.{headerOf, faultOf, goodWord, fields, wordOf}
 use Rattle.model.specs.Places.{strides, offset, index, inside}
 use Rattle.model.specs.Announced.{single, paired, announced}
 use Rattle.model.specs.Shifts.{rowsFrom, rowSum, shiftDownPoly}
@@ -43,9 +44,20 @@ exampleOutput =
     ∷ 51 ∷ 102 ∷ 102 ∷ 48 ∷ 48 ∷ 48 ∷ 48 ∷ 48 ∷ 48 ∷ 48 ∷ 48 ∷ 48 ∷ 48 ∷ 48 ∷ 48 ∷ 48 ∷ 10
     ∷ []
 
--- refused 8 64
+-- refused 8 64 0 0
 unfoldable pub refusedOutput : List ℕ
-refusedOutput = 114 ∷ 101 ∷ 102 ∷ 117 ∷ 115 ∷ 101 ∷ 100 ∷ 32 ∷ 56 ∷ 32 ∷ 54 ∷ 52 ∷ 10 ∷ []
+refusedOutput = 114 ∷ 101 ∷ 102 ∷ 117 ∷ 115 ∷ 101 ∷ 100 ∷ 32 ∷ 56 ∷ 32 ∷ 54 ∷ 52 ∷ 32 ∷ 48 ∷ 32 ∷ 48 ∷ 10 ∷ []
+
+-- 0101000000000000, 2084000000000000: variable 0 has length 3 under limit 2
+unfoldable pub faultySheet : List ℕ
+faultySheet =
+    48 ∷ 49 ∷ 48 ∷ 49 ∷ 48 ∷ 48 ∷ 48 ∷ 48 ∷ 48 ∷ 48 ∷ 48 ∷ 48 ∷ 48 ∷ 48 ∷ 48 ∷ 48 ∷ 10
+    ∷ 50 ∷ 48 ∷ 56 ∷ 52 ∷ 48 ∷ 48 ∷ 48 ∷ 48 ∷ 48 ∷ 48 ∷ 48 ∷ 48 ∷ 48 ∷ 48 ∷ 48 ∷ 48 ∷ 10
+    ∷ []
+
+-- refused 1 0 0 2
+unfoldable pub faultOutput : List ℕ
+faultOutput = 114 ∷ 101 ∷ 102 ∷ 117 ∷ 115 ∷ 101 ∷ 100 ∷ 32 ∷ 49 ∷ 32 ∷ 48 ∷ 32 ∷ 48 ∷ 32 ∷ 50 ∷ 10 ∷ []
 
 pub example-holds : sheetOutput exampleSheet ≡ exampleOutput
 unfolding exampleSheet exampleOutput sheetOutput lastValue sheetRefusal readRefusal headersRefusal sheetSteps
@@ -53,8 +65,8 @@ unfolding exampleSheet exampleOutput sheetOutput lastValue sheetRefusal readRefu
     doneText decimal digits hexLines hexLine wordAt isLine digitFor digitOf isDigit runRefusal lentRefusal stepValues
     values stepValue operations inputValues checkRefusal stepsRefusal inputsRefusal stepRefusal formed rightSizes
     orElse largest total announcedSteps announcedPlaces announcedStep families rows stepOf shiftDownPoly rowSum
-    rowsFrom announced paired single inside index offset strides wordOf fields goodWord headerOf goodHeader goodVars
-    goodVar span walk table every chain ofBits toBits neg add sub mul div eq ofInt
+    rowsFrom announced paired single inside index offset strides wordOf fields goodWord faultOf headerFault soundVar
+    headerOf span walk table every chain ofBits toBits neg add sub mul div eq ofInt
 example-holds = refl
 
 -- one byte more, or none at all
@@ -64,8 +76,8 @@ unfolding exampleSheet refusedOutput sheetOutput lastValue sheetRefusal readRefu
     doneText decimal digits hexLines hexLine wordAt isLine digitFor digitOf isDigit runRefusal lentRefusal stepValues
     values stepValue operations inputValues checkRefusal stepsRefusal inputsRefusal stepRefusal formed rightSizes
     orElse largest total announcedSteps announcedPlaces announcedStep families rows stepOf shiftDownPoly rowSum
-    rowsFrom announced paired single inside index offset strides wordOf fields goodWord headerOf goodHeader goodVars
-    goodVar span walk table every chain ofBits toBits neg add sub mul div eq ofInt
+    rowsFrom announced paired single inside index offset strides wordOf fields goodWord faultOf headerFault soundVar
+    headerOf span walk table every chain ofBits toBits neg add sub mul div eq ofInt
 byte-behind = refl
 
 pub nothing-there : sheetOutput [] ≡ refusedOutput
@@ -74,6 +86,12 @@ unfolding refusedOutput sheetOutput lastValue sheetRefusal readRefusal headersRe
     digits hexLines hexLine wordAt isLine digitFor digitOf isDigit runRefusal lentRefusal stepValues values stepValue
     operations inputValues checkRefusal stepsRefusal inputsRefusal stepRefusal formed rightSizes orElse largest total
     announcedSteps announcedPlaces announcedStep families rows stepOf shiftDownPoly rowSum rowsFrom announced paired
-    single inside index offset strides wordOf fields goodWord headerOf goodHeader goodVars goodVar span walk table
+    single inside index offset strides wordOf fields goodWord faultOf headerFault soundVar headerOf span walk table
     every chain ofBits toBits neg add sub mul div eq ofInt
 nothing-there = refl
+
+-- the variable and the cause are printed (document 02, W5)
+pub fault-printed : sheetOutput faultySheet ≡ faultOutput
+unfolding faultySheet faultOutput sheetOutput sheetRefusal readRefusal headersRefusal spare stepCount inputCount refusedText
+    decimal digits wordAt isLine digitOf isDigit rightSizes orElse goodWord faultOf headerFault soundVar headerOf span walk every
+fault-printed = refl

@@ -23,8 +23,8 @@ use Rattle.model_texts.specs.Sheet.{sheetCoefficients, sheetSteps, restCount, h
 use Rattle.model_texts.specs.Sheet.{sheetRefusal, lastValue, sheetOutput}
 use Rattle.recipes_check.specs.Asks.{or-first}
 use Rattle.sheet_reading.specs.Reading.{Sized, sized, sizesTest, restRefusal, after-sizes, count-small}
-use Rattle.sheet.specs.Opened.{Opened, opened, opened-few}
-use Rattle.sheet.specs.Ended.{output-read}
+use Rattle.sheet_solving.specs.Opened.{Opened, opened, opened-few}
+use Rattle.sheet.specs.Output.{output-read}
 
 abbrev pub readAtMost : ℕ
 readAtMost = 1115218

@@ -1,7 +1,4 @@
 pub mod Example
-pub mod Opened
+pub mod Output
+pub mod Promise
 pub mod Front
-pub mod Running
-pub mod Solves
-pub mod Ended
-pub mod Ran

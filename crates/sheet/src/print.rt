@@ -1,5 +1,4 @@
 // The texts that the program prints, put to the front of lent memory; each function answers how long its text is.
-use model::Refusal;
 use sheet_text::print::put_byte;
 use sheet_text::print::put_bytes;
 use sheet_text::print::put_decimal;
@@ -7,20 +6,8 @@ use sheet_text::print::put_floats;
 use sheet_text::print::put_line;
 ghost use Prim.Native.Nat.{_+_, _*_, _≤_};
 ghost use lib.ListN.{length};
-ghost use Rattle.model_texts.specs.Printed.{doneText, refusedText};
+ghost use Rattle.model_texts.specs.Printed.{doneText};
 ghost use Rattle.sheet_text.specs.Put.{Put};
-
-// One line of `refused`, number, place.
-pub fn put_refusal(r: Refusal, to: &mut [u8]) -> usize
-    requires { ⌜ 16 ≤ length (now to) ⌝ }
-    ensures { λ n. ⌜ Put 0 (refusedText r) (now (to .entry)) (now (to .exit)) n ⌝ }
-{
-    let a = put_bytes(b"refused ", 0, to);
-    let b = put_decimal(r.number as u64, a, to);
-    let c = put_byte(32, b, to);
-    let d = put_decimal(r.place as u64, c, to);
-    put_byte(10, d, to)
-}
 
 // `done` and the step count, then the last header, then its coefficients.
 pub fn put_done(steps: u8, header: u64, xs: &[f64], to: &mut [u8]) -> usize

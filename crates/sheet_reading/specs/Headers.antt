@@ -17,14 +17,15 @@ use Rattle.model.specs.declared.Header.{Header}
 use Rattle.model.specs.declared.Refusal.{Refusal}
 use Rattle.model.specs.Header.{noHeader, span, stored}
 use Rattle.model.specs.Word.{headerOf, goodWord}
-use Rattle.model.specs.Refusals.{refusedAt, refusedBy, noRefusal}
+use Rattle.model.specs.Refusals.{askFor, refusedBy, noRefusal}
+use Rattle.model.specs.Gates.{badWord}
 use Rattle.model_recipes.specs.Recipe.{inputHeads, total}
 use Rattle.model_recipes.specs.Check.{askAt}
 use Rattle.model_texts.specs.Sheet.{lined, wordOn, headersRefusal}
 use Rattle.shape_words.specs.Rules.{Good, none-regular}
 use Rattle.shape_words.specs.Words.{good-word}
 use Rattle.recipes_kinds.specs.Known.{Known, head-at}
-use Rattle.recipes_check.specs.Asks.{ask-none}
+use Rattle.recipes_check.specs.Asks.{ask-none, ask-for-none}
 
 -- header number i of a text
 abbrev pub headerOn : List ℕ → ℕ → ℕ
@@ -50,7 +51,7 @@ module _ {t old new : List ℕ} {i : ℕ} (h : HeadersReading t old new i) where
   headers-len = h .filled .len
 
   ahead : i < length old → headersRefusal t (length old) 0
-      ≡ askAt (lined t (1 + i)) 8 64 (askAt (goodWord (headerOn t i)) 1 i
+      ≡ askAt (lined t (1 + i)) 8 64 (askFor (goodWord (headerOn t i)) (badWord (headerOn t i) i)
       (headersRefusal t (length old - (i + 1)) (i + 1)))
   unfolding headersRefusal
   ahead l =
@@ -68,8 +69,8 @@ module _ {t old new : List ℕ} {i : ℕ} (h : HeadersReading t old new i) where
       good : goodWord (headerOn t i) ≡ b
       good = sym (eb ∙ ap goodWord ew)
 
-      pub headers-1 : b ≡ false → HeadersRead t (length old) new (refusedAt 1 i)
-      headers-1 k = refused (λ z. omega (arith, z)) (sym (ahead l ∙ rw (sym eg ∙ f, good ∙ k)))
+      pub headers-1 : b ≡ false → HeadersRead t (length old) new (badWord w i)
+      headers-1 k = refused (λ z. omega (arith, z)) (sym (ahead l ∙ rw (sym eg ∙ f, good ∙ k, ew)))
 
       pub headers-more : b ≡ true → HeadersReading t old (set new i w) (i + 1)
       headers-more k = record { most = omega arith; filled = filled-more (h .filled) ew l; left = ahead l ∙ rw (sym eg ∙ f, good ∙ k) }
@@ -90,8 +91,10 @@ good-at : (t : List ℕ) (n i : ℕ) → headersRefusal t n i .number ≡ 0 → 
 unfolding headersRefusal
 good-at t zero i e j l = absurd (omega arith)
 good-at t (suc n) i e j l =
-    let a = ask-none (lined t (1 + i)) 64 (askAt (goodWord (headerOn t i)) 1 i (headersRefusal t n (suc i))) (λ z. omega (arith, z)) e in
-    let b = ask-none (goodWord (headerOn t i)) i (headersRefusal t n (suc i)) (λ z. omega (arith, z)) (a .1) in
+    let next : Refusal = headersRefusal t n (suc i) in
+    let bad : Refusal = badWord (headerOn t i) i in
+    let a = ask-none (lined t (1 + i)) 64 (askFor (goodWord (headerOn t i)) bad next) (λ z. omega (arith, z)) e in
+    let b = ask-for-none (goodWord (headerOn t i)) bad next (λ z. omega (arith, z)) (a .1) in
     decide (eqb j 0)
     (λ y. let q : i + j ≡ i = omega (arith, eqb-true j 0 y) in rw q (b .0))
     (λ y.

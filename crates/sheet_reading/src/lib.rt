@@ -1,6 +1,7 @@
 // Reading a sheet in order, as far as its words are well formed.
 use model::Refusal;
 use recipes_check::total_of;
+use shape_words::word::bad_word;
 use shape_words::word::is_good;
 use sheet_text::line::is_line;
 use sheet_text::line::word_at;
@@ -53,7 +54,7 @@ fn read_headers(text: &[u8], headers: &mut [u64]) -> Refusal
         }
         let word = word_at(text, at);
         if !is_good(word) {
-            return Refusal::at(1, i as u8);
+            return bad_word(word, i as u8);
         }
         headers[i] = word;
         i += 1;

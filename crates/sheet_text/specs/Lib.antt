@@ -3,3 +3,4 @@ pub mod Lines
 pub mod Texts
 pub mod Decimal
 pub mod Value
+pub mod Refused

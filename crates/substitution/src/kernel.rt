@@ -198,6 +198,7 @@ fn plain_earlier(
     ensures { λ r.
         ⌜ Wrote at n (plainOf w limits v (blockOf (taken p (now (a .entry)) (take at (now (out .entry))))))
         (now (out .entry)) (now (out .exit)) r ⌝ }
+    ensures spent { λ _. ⌜ length (now (work .exit)) ≡ length (now (work .entry)) ⌝ }
 {
     let r = plain_from(w, v, p, limits, a, &out[..at], &mut work[..n]);
     product::kernel::keep(work, n, out, at);
@@ -266,6 +267,7 @@ fn rows_to(
         ⌜ Wrote at n (turns limits v (blockOf (taken p (now (a .entry)) (take at (now (out .entry))))) k
         (block b (part 0 (count b) (now (work .entry)))) (block r (part n (n + count r) (now (work .entry)))))
         (now (out .entry)) (now (out .exit)) q ⌝ }
+    ensures spent { λ _. ⌜ length (now (work .exit)) ≡ length (now (work .entry)) ⌝ }
 {
     let row = 2 * n;
     let end = at + n;
@@ -301,6 +303,7 @@ fn horner_to(
         ⌜ Wrote at n (horner limits v (blockOf (taken p (now (a .entry)) (take at (now (out .entry)))))
         (lengthAt (p .head .lengths) v) (blockOf (taken q (now (b .entry)) (take at (now (out .entry)))))
         (constantBlock zeroF)) (now (out .entry)) (now (out .exit)) r ⌝ }
+    ensures spent { λ _. ⌜ length (now (work .exit)) ≡ length (now (work .entry)) ⌝ }
 {
     let x = p.head;
     let y = q.head;
@@ -338,6 +341,7 @@ fn front_to(
     ensures { λ r.
         ⌜ Wrote at n (putFor (p .head .vars) (h .limits) v (blockOf (taken p (now (a .entry)) (take at (now (out .entry)))))
         (blockOf (taken q (now (b .entry)) (take at (now (out .entry)))))) (now (out .entry)) (now (out .exit)) r ⌝ }
+    ensures spent { λ _. ⌜ length (now (work .exit)) ≡ length (now (work .entry)) ⌝ }
 {
     let x = p.head;
     let limits = h.limits;
@@ -372,6 +376,7 @@ pub fn substitute_to(
     ensures kept { λ r.
         ⌜ Kept at (at + n) (padded n (substitutePoly v (taken p (now (a .entry)) (take at (now (out .entry))))
         (taken q (now (b .entry)) (take at (now (out .entry)))) .coeffs)) (now (out .entry)) (now (out .exit)) ⌝ }
+    ensures spent { λ _. ⌜ length (now (scratch .exit)) ≡ length (now (scratch .entry)) ⌝ }
 {
     let limits = h.limits;
     let room = 8 * n;

@@ -21,6 +21,7 @@ pub fn sum_into(
 )
     requires { ⌜ Summing la lb limits r n (length (now a)) (length (now b)) (length (now out)) (length (now work)) ⌝ }
     ensures { λ _. ⌜ now (out .exit) ≡ joinedBlock minus (cut limits (block la (now (a .entry)))) (cut limits (block lb (now (b .entry)))) .places ⌝ }
+    ensures spent { λ _. ⌜ length (now (work .exit)) ≡ length (now (work .entry)) ⌝ }
 {
     let ca = shape::limits::cut_to(limits, la);
     let cb = shape::limits::cut_to(limits, lb);

@@ -1,9 +1,9 @@
 -- The face: the two kinds of answer cannot be confused. The low five bits of an answered word are the refusal's number,
--- 0 where there is none: a header word ends in 13 zero bits, and gates refuse by 1 to 6, `least` by 11 too. What was
--- answered is read back from the word.
-use Prim.Native.Nat.{ℕ, zero, suc, _+_, _/_, _%_, _^_, _≤_, _<_}
+-- 0 where there is none: a header word ends in 13 zero bits, and gates refuse by 1 to 6, `least` by 11 too,
+-- `exp_constant` by 12 alone. What was answered is read back from the word.
+use Prim.Native.Nat.{ℕ, zero, suc, _+_, _*_, _/_, _%_, _^_, _≤_, _<_}
 use mathlib.Core.List.{List}
-use mathlib.Core.Bool.{Bool, true, false, cond, _&&_}
+use mathlib.Core.Bool.{Bool, true, false, cond}
 use mathlib.Core.Path.{_≡_, refl, ap}
 use native.Mathlib.Omega.{arith}
 use lib.Dec.{eqb, leb, ltb, lit<}
@@ -17,14 +17,17 @@ use Rattle.model.specs.declared.Answer.{Answer}
 use Rattle.model.specs.declared.Answer.the-variants.{Done, Refused}
 use Rattle.model.specs.declared.Linear.{Linear}
 use Rattle.model.specs.declared.LinearReading.{LinearReading}
+use Rattle.model.specs.declared.Reading.{Reading}
+use Rattle.model.specs.declared.Reading.the-variants as reading
 use Rattle.model.specs.declared.Family.{Family}
 use Rattle.model.specs.declared.Family.the-variants.{Same, Sum, Product, Quotient, Series, Power, Shift, Substitution, Term, Order}
 use Rattle.model.specs.Header.{limit, len, zeroWith, varWith}
 use Rattle.model.specs.Word.{headerOf, goodWord, wordOf}
 use Rattle.model.specs.Places.{inside}
-use Rattle.model.specs.Refusals.{refusedAt, noRefusal, isNone, ask, fits, roomy, answerBy, readBy, linearBy}
-use Rattle.model.specs.Gates.{full, noMissing, readGate, indexGate, goodTotal, tailGate, oneGate, workGate, inGate, pairGate}
-use Rattle.model.specs.Gates.{goodLimit, goodLimits, withGate, varWithGate, varHeader, varGate, announcedOne}
+use Rattle.model.specs.Faults.{goodLimit}
+use Rattle.model.specs.Refusals.{noRefusal, isNone, ask, fits, roomy, answerBy, readBy, linearBy}
+use Rattle.model.specs.Gates.{askWord, askLimits, full, noMissing, readGate, indexGate, goodTotal, tailGate, oneGate, workGate, inGate, pairGate}
+use Rattle.model.specs.Gates.{goodLimits, withGate, varWithGate, varHeader, varGate, announcedOne}
 use Rattle.model.specs.Gates.{announcedPair}
 use Rattle.model.specs.Poly.{Poly, Block, blockOf, held}
 use Rattle.model.specs.Linear.{linearIn, lineOf, linearFrom, linear}
@@ -42,33 +45,45 @@ use Rattle.model.specs.Series.{seriesGate, expAnswer, logAnswer}
 use Rattle.model.specs.Shifts.{shiftGate, derivativeAnswer, expansionAnswer, shiftDownAnswer}
 use Rattle.model.specs.Power.{powerGate, powerAnswer}
 use Rattle.model.specs.Substitute.{substituteGate, substituteAnswer}
-use Rattle.taylor.specs.Face.{wordOfRefusal, wordOfAnswer, wordOfReading, wordOfCount, wordOfLinear, variableOf}
+use Rattle.gates.specs.Small.{Small, at-small, word-small, asked-small, limits-small}
+use Rattle.model_exponential.specs.Constant.{inRange, constantGate, expConstantAnswer}
+use Rattle.taylor.specs.Face.{wordOfRefusal, wordOfAnswer, wordOfReading, valueAfter, wordOfCount, wordOfLinear, variableOf}
 
 -- ---- any answer, by the refusal r that decides it
 
-module _ (r : Refusal) (few : r .number < 32) where
+-- a gate's refusal: its number is 31 at most, its place 64, variable and cause are a fault's
+abbrev pub Few : Refusal → Type 0
+Few r = Small 31 64 r
+
+module _ (r : Refusal) (few : Few r) where
   pub low : (h : Header) → wordOfAnswer (answerBy r (wordOf h)) % 32 ≡ r .number
   unfolding answerBy wordOf
-  low h = decide (isNone r) (λ t. simp t (omega (arith, eqb-true (r .number) 0 t))) (λ t. simp t (omega arith))
+  low h = decide (isNone r) (λ t. simp t (omega (arith, eqb-true (r .number) 0 t))) (λ t. simp t (omega (arith, few .number)))
 
   pub read-low : (x : Float) → wordOfReading (readBy r x) % 32 ≡ r .number
   unfolding readBy
-  read-low x = decide (isNone r) (λ t. simp t (omega (arith, eqb-true (r .number) 0 t))) (λ t. simp t (omega arith))
+  read-low x = decide (isNone r) (λ t. simp t (omega (arith, eqb-true (r .number) 0 t))) (λ t. simp t (omega (arith, few .number)))
 
   pub count-low : (k : ℕ) → wordOfCount (countBy r k) % 32 ≡ r .number
   unfolding countBy
-  count-low k = decide (isNone r) (λ t. simp t (omega (arith, eqb-true (r .number) 0 t))) (λ t. simp t (omega arith))
+  count-low k = decide (isNone r) (λ t. simp t (omega (arith, eqb-true (r .number) 0 t))) (λ t. simp t (omega (arith, few .number)))
 
--- the refusal that a word stands for
+-- the refusal that a word stands for: four bytes, number, place, variable, cause
 abbrev pub refusalFrom : ℕ → Refusal
-refusalFrom w = refusedAt (w % 256) (w / 256)
+refusalFrom w = record { number = w % 2 ^ 8; place = w / 2 ^ 8 % 2 ^ 8; variable = w / 2 ^ 16 % 2 ^ 8; cause = w / 2 ^ 24 % 2 ^ 8 }
 
-pub refusal-from : (r : Refusal) → r .number < 256 → refusalFrom (wordOfRefusal r) ≡ r
+-- four numbers below 256 in a word
+bytes-back : (a b c d : ℕ) → a < 256 → b < 256 → c < 256 → d < 256 →
+    let w = a + 2 ^ 8 * b + 2 ^ 16 * c + 2 ^ 24 * d in
+    (w % 2 ^ 8 ≡ a) × ((w / 2 ^ 8 % 2 ^ 8 ≡ b) × ((w / 2 ^ 16 % 2 ^ 8 ≡ c) × (w / 2 ^ 24 % 2 ^ 8 ≡ d)))
+bytes-back a b c d ha hb hc hd = (omega arith, (omega arith, (omega arith, omega arith)))
+
+pub refusal-from : (r : Refusal) → Few r → refusalFrom (wordOfRefusal r) ≡ r
 refusal-from r few =
-    let w = wordOfRefusal r in
-    let n : w % 256 ≡ r .number = omega arith in
-    let p : w / 256 ≡ r .place = omega arith in
-    rw (n, p)
+    let e =
+    bytes-back (r .number) (r .place) (r .variable) (r .cause) (omega (arith, few .number)) (omega (arith, few .place))
+    (omega (arith, few .variable)) (omega (arith, few .cause)) in
+    λ i. record { number = e .0 i; place = e .1 .0 i; variable = e .1 .1 .0 i; cause = e .1 .1 .1 i }
 
 -- the answer that a word stands for
 unfoldable pub answerFrom : ℕ → Answer
@@ -80,13 +95,13 @@ unfolding answerFrom
 word-back w e = rw e
 
 -- refused
-refusal-back : (r : Refusal) → r .number < 32 → (r .number ≡ 0 → ⊥) → answerFrom (wordOfRefusal r) ≡ Refused r
+refusal-back : (r : Refusal) → Few r → (r .number ≡ 0 → ⊥) → answerFrom (wordOfRefusal r) ≡ Refused r
 unfolding answerFrom
 refusal-back r few n =
-    let a : wordOfRefusal r % 32 ≡ r .number = omega arith in
-    rw (a, ne-eqb _ _ n) (ap Refused (refusal-from r (omega arith)))
+    let a : wordOfRefusal r % 32 ≡ r .number = omega (arith, few .number) in
+    rw (a, ne-eqb _ _ n) (ap Refused (refusal-from r few))
 
-pub back : (r : Refusal) → r .number < 32 → (h : Header) → answerFrom (wordOfAnswer (answerBy r (wordOf h))) ≡ answerBy r (wordOf h)
+pub back : (r : Refusal) → Few r → (h : Header) → answerFrom (wordOfAnswer (answerBy r (wordOf h))) ≡ answerBy r (wordOf h)
 unfolding answerBy wordOf
 back r few h =
     decide (isNone r) (λ t. simp t (word-back (wordOf h) (omega arith))) (λ t. simp t (refusal-back r few (eqb-false (r .number) 0 t)))
@@ -117,84 +132,86 @@ extract-small w a = linear-small (blockOf (held w a)) (readGate w (length a))
 
 -- ---- the gates refuse by 1 to 6, or by 11
 
-asked : (a b c d e f : Bool) → ask a 1 (ask b 2 (ask c 3 (ask d 4 (ask e 5 (ask f 6 noRefusal))))) .number < 32
-asked false b c d e f = lit< tt
-asked true false c d e f = lit< tt
-asked true true false d e f = lit< tt
-asked true true true false e f = lit< tt
-asked true true true true false f = lit< tt
-asked true true true true true false = lit< tt
-asked true true true true true true = lit< tt
+-- a test by a number alone, and one of a header word
+pub asked : (b : Bool) (k : ℕ) {next : Refusal} → k ≤ 31 → Few next → Few (ask b k next)
+asked b k l = asked-small b (at-small k 64 l (omega arith))
 
-read-few : (w m : ℕ) → readGate w m .number < 32
+pub by-word : (w : ℕ) {next : Refusal} → Few next → Few (askWord w next)
+by-word w = asked-small (goodWord w) (word-small w 64 (omega arith) (omega arith))
+
+pub none : Few noRefusal
+none = at-small 0 64 (omega arith) (omega arith)
+
+read-few : (w m : ℕ) → Few (readGate w m)
 unfolding readGate
-read-few w m = asked (goodWord w) (full w m) true true true true
+read-few w m = by-word w (asked (full w m) 2 (omega arith) none)
 
-index-few : (w m : ℕ) (i : List ℕ) → indexGate w m i .number < 32
+index-few : (w m : ℕ) (i : List ℕ) → Few (indexGate w m i)
 unfolding indexGate
-index-few w m i = asked (goodWord w) (full w m) (noMissing (headerOf w) i) (inside (headerOf w .limits) i) true true
+index-few w m i =
+    by-word w (asked (full w m) 2 (omega arith) (asked (noMissing (headerOf w) i) 3 (omega arith) (asked (inside (headerOf w .limits) i) 4 (omega arith) none)))
 
--- two tests by one number are one
-ask-both : (a b : Bool) (k : ℕ) (r : Refusal) → ask a k (ask b k r) ≡ ask (a && b) k r
-ask-both true b k r = refl
-ask-both false b k r = refl
-
-tail-few : (w m k : ℕ) (total : Float) → tailGate w m k total .number < 32
+tail-few : (w m k : ℕ) (total : Float) → Few (tailGate w m k total)
 unfolding tailGate
 tail-few w m k total =
-    let b : Bool = ltb k (limit (headerOf w) 0) in
-    rw (ask-both b (goodTotal total) 4 noRefusal)
-    (asked (goodWord w) (full w m) (eqb (headerOf w .vars) 1) (b && goodTotal total) true true)
+    by-word w
+    (asked (full w m) 2 (omega arith)
+    (asked (eqb (headerOf w .vars) 1) 3 (omega arith)
+    (asked (ltb k (limit (headerOf w) 0)) 4 (omega arith)
+    (asked (goodTotal total) 4 (omega arith) none))))
 
--- 11 after three tests
-reached : (a b c d : Bool) → ask a 1 (ask b 2 (ask c 3 (ask d 11 noRefusal))) .number < 32
-reached false b c d = lit< tt
-reached true false c d = lit< tt
-reached true true false d = lit< tt
-reached true true true false = lit< tt
-reached true true true true = lit< tt
-
-least-few : (w : ℕ) (a : List Float) (q : Float) → leastRefusal w a q .number < 32
+least-few : (w : ℕ) (a : List Float) (q : Float) → Few (leastRefusal w a q)
 unfolding leastRefusal
 least-few w a q =
-    reached (goodWord w) (full w (length a)) (eqb (headerOf w .vars) 1) (ltb (leastOf a (len (headerOf w) 0) q) (len (headerOf w) 0))
+    by-word w
+    (asked (full w (length a)) 2 (omega arith)
+    (asked (eqb (headerOf w .vars) 1) 3 (omega arith)
+    (asked (ltb (leastOf a (len (headerOf w) 0) q) (len (headerOf w) 0)) 11 (omega arith) none)))
 
-one-few : (f : Family) (w m n : ℕ) → oneGate f w m n .number < 32
+-- test 5, and 5 and 6, of the announced header
+fits-few : (h : Header) (n : ℕ) → Few (ask (fits h n) 5 noRefusal)
+fits-few h n = asked (fits h n) 5 (omega arith) none
+
+room-few : (h : Header) (n s : ℕ) → Few (ask (fits h n) 5 (ask (roomy h s) 6 noRefusal))
+room-few h n s = asked (fits h n) 5 (omega arith) (asked (roomy h s) 6 (omega arith) none)
+
+one-few : (f : Family) (w m n : ℕ) → Few (oneGate f w m n)
 unfolding oneGate
-one-few f w m n = asked (goodWord w) (full w m) true true (fits (announcedOne f w) n) true
+one-few f w m n = by-word w (asked (full w m) 2 (omega arith) (fits-few (announcedOne f w) n))
 
-work-few : (f : Family) (w m n s : ℕ) → workGate f w m n s .number < 32
+work-few : (f : Family) (w m n s : ℕ) → Few (workGate f w m n s)
 unfolding workGate
-work-few f w m n s = asked (goodWord w) (full w m) true true (fits (announcedOne f w) n) (roomy (announcedOne f w) s)
+work-few f w m n s = by-word w (asked (full w m) 2 (omega arith) (room-few (announcedOne f w) n s))
 
-in-few : (f : Family) (v d w m n : ℕ) → inGate f v d w m n .number < 32
+in-few : (f : Family) (v d w m n : ℕ) → Few (inGate f v d w m n)
 unfolding inGate
-in-few f v d w m n = asked (goodWord w) (full w m) (ltb v (headerOf w .vars)) (ltb d (limit (headerOf w) v)) (fits (announcedOne f w) n) true
+in-few f v d w m n =
+    by-word w
+    (asked (full w m) 2 (omega arith)
+    (asked (ltb v (headerOf w .vars)) 3 (omega arith)
+    (asked (ltb d (limit (headerOf w) v)) 4 (omega arith) (fits-few (announcedOne f w) n))))
 
--- of two operands each is asked 1, then each 2
-pair-asked : (a x b y e f : Bool) → ask a 1 (ask x 1 (ask b 2 (ask y 2 (ask e 5 (ask f 6 noRefusal))))) .number < 32
-pair-asked false x b y e f = lit< tt
-pair-asked true false b y e f = lit< tt
-pair-asked true true false y e f = lit< tt
-pair-asked true true true false e f = lit< tt
-pair-asked true true true true e f = asked true true true true e f
-
-pair-few : (f : Family) (w m u l n s : ℕ) → pairGate f w m u l n s .number < 32
+pair-few : (f : Family) (w m u l n s : ℕ) → Few (pairGate f w m u l n s)
 unfolding pairGate
 pair-few f w m u l n s =
-    pair-asked (goodWord w) (goodWord u) (full w m) (full u l) (fits (announcedPair f w u) n) (roomy (announcedPair f w u) s)
+    by-word w (by-word u (asked (full w m) 2 (omega arith) (asked (full u l) 2 (omega arith) (room-few (announcedPair f w u) n s))))
 
-with-few : (vars : ℕ) (l : List ℕ) (n : ℕ) → withGate vars l n .number < 32
+by-limits : (vars : ℕ) (l : List ℕ) {next : Refusal} → Few next → Few (askLimits vars l next)
+by-limits vars l = asked-small (goodLimits vars l) (limits-small vars l (omega arith) (omega arith))
+
+with-few : (vars : ℕ) (l : List ℕ) (n : ℕ) → Few (withGate vars l n)
 unfolding withGate
-with-few vars l n = asked (goodLimits vars l) true true true (fits (zeroWith vars l) n) true
+with-few vars l n = by-limits vars l (fits-few (zeroWith vars l) n)
 
-var-with-few : (v vars : ℕ) (l : List ℕ) (n : ℕ) → varWithGate v vars l n .number < 32
+var-with-few : (v vars : ℕ) (l : List ℕ) (n : ℕ) → Few (varWithGate v vars l n)
 unfolding varWithGate
-var-with-few v vars l n = asked (goodLimits vars l) true (ltb v vars) true (fits (varWith v vars l) n) true
+var-with-few v vars l n = by-limits vars l (asked (ltb v vars) 3 (omega arith) (fits-few (varWith v vars l) n))
 
-var-few : (v l n : ℕ) → varGate v l n .number < 32
+var-few : (v l n : ℕ) → Few (varGate v l n)
 unfolding varGate
-var-few v l n = asked (goodLimit l) true (leb v 3) true (fits (varHeader v l) n) true
+var-few v l n =
+    asked-small (goodLimit l) (record { number = omega arith; place = omega arith; variable = omega arith; cause = omega arith })
+    (asked (leb v 3) 3 (omega arith) (fits-few (varHeader v l) n))
 
 -- ---- the entries: each answer is read back from its word
 
@@ -286,3 +303,32 @@ module _ (w : ℕ) (a : List Float) where
       unfolding substituteAnswer
       substitute-back v =
           back (substituteGate v w a u b out scratch) (pair-few (Substitution v) w (length a) u (length b) (length out) (length scratch)) _
+
+-- ---- the exponential of a constant: its answer is read back from the word and the number behind the pointer
+
+-- the reading that a word and a number stand for
+unfoldable pub readingFrom : ℕ → Float → Reading
+readingFrom w x = cond (eqb w 0) (reading.Done x) (reading.Refused (refusalFrom w))
+
+reading-back : (r : Refusal) → Few r → (x old : Float)
+    → readingFrom (wordOfReading (readBy r x)) (valueAfter (readBy r x) old) ≡ readBy r x
+unfolding readBy readingFrom
+reading-back r few x old =
+    decide (isNone r) (λ t. rw t) (λ t.
+    let n = eqb-false (r .number) 0 t in
+    let z : eqb (wordOfRefusal r) 0 ≡ false = ne-eqb (wordOfRefusal r) 0 (λ e. n (omega (arith, e))) in
+    rw (t, z) (ap reading.Refused (refusal-from r few)))
+
+-- 12 alone
+constant-few : (x : Float) → Few (constantGate x)
+unfolding constantGate
+constant-few x = asked (inRange x) 12 (omega arith) none
+
+pub exp-constant-low : (x : Float) → wordOfReading (expConstantAnswer x) % 32 ≡ constantGate x .number
+unfolding expConstantAnswer
+exp-constant-low x = read-low (constantGate x) (constant-few x) _
+
+pub exp-constant-back : (x old : Float)
+    → readingFrom (wordOfReading (expConstantAnswer x)) (valueAfter (expConstantAnswer x) old) ≡ expConstantAnswer x
+unfolding expConstantAnswer
+exp-constant-back x old = reading-back (constantGate x) (constant-few x) _ old

@@ -1,6 +1,6 @@
--- The face: one word an answer. Done, the header word; refused, number + 256 * place. A reading that gives a number
--- answers 0 and writes the number, or answers the refusal and writes nothing; `extract_linear` answers 0 for no, 1 +
--- variable for yes, and a refusal + 2^32.
+-- The face: one word an answer. Done, the header word; refused, number + 2^8 place + 2^16 variable + 2^24 cause. A
+-- reading that gives a number answers 0 and writes the number, or answers the refusal and writes nothing;
+-- `extract_linear` answers 0 for no, 1 + variable for yes, and a refusal + 2^32.
 use Prim.Native.Nat.{ℕ, _+_, _*_, _^_}
 use mathlib.Core.Bool.{cond}
 use mathlib.Core.List.{List, [], _∷_}
@@ -28,7 +28,7 @@ abbrev pub fourOf : ℕ → ℕ → ℕ → ℕ → List ℕ
 fourOf a b c d = a ∷ b ∷ c ∷ d ∷ []
 
 abbrev pub wordOfRefusal : Refusal → ℕ
-wordOfRefusal r = r .number + 256 * r .place
+wordOfRefusal r = r .number + 2 ^ 8 * r .place + 2 ^ 16 * r .variable + 2 ^ 24 * r .cause
 
 -- a polynomial was made, or not
 abbrev pub wordOfAnswer : Answer → ℕ

@@ -9,10 +9,11 @@ use Rattle.taylor.specs.Promises.{SettingsSavePromise, TaylorAddPromise,
 use Rattle.taylor.specs.Promises.{TaylorCoefficientsOfTermPromise, TaylorConstantTermPromise, TaylorDerivativePromise, TaylorDividePromise}
 use Rattle.taylor.specs.Promises.{TaylorEvaluateAllOnePromise, TaylorExpPromise, TaylorExtractLinearPromise, TaylorFromU32Promise}
 use Rattle.taylor.specs.Promises.{TaylorFromU32WithPromise, TaylorLeastPromise, TaylorLogPromise, TaylorMultiplyPromise, TaylorNegatePromise}
+use Rattle.taylor.specs.Promises.{TaylorNpyWrite2Promise}
 use Rattle.taylor.specs.Promises.{TaylorNpyWritePromise, TaylorOnePromise, TaylorPowPromise, TaylorRunPromise, TaylorShiftDownPromise}
 use Rattle.taylor.specs.Promises.{TaylorSubstVarPromise, TaylorSubtractPromise, TaylorTailPromise, TaylorTaylorExpansionOfCoeffPromise}
 use Rattle.taylor.specs.Promises.{TaylorTaylorPolynomialPromise, TaylorVarAtZeroPromise, TaylorVarPromise, TaylorVarWithDegreesP1Promise}
-use Rattle.taylor.specs.Promises.{TaylorZeroPromise, TaylorZeroWithPromise}
+use Rattle.taylor.specs.Promises.{TaylorZeroPromise, TaylorZeroWithPromise, TaylorExpConstantPromise}
 
 pub taylor-zero-once : (out : List Float) {r1 r2 : ℕ} {out1 out2 : List Float}
     → TaylorZeroPromise out r1 out1 → TaylorZeroPromise out r2 out2
@@ -174,6 +175,11 @@ pub taylor-npy-write-once : (head : ℕ) (a : List Float) (file : List ℕ) (wri
     → (r1 ≡ r2) × ((file1 ≡ file2) × (written1 ≡ written2))
 taylor-npy-write-once head a file written p1 p2 = once-3 p1 p2
 
+pub taylor-npy-write-2-once : (head : ℕ) (a : List Float) (file : List ℕ) (written : ℕ) {r1 r2 : ℕ} {file1 file2 : List ℕ} {written1 written2 : ℕ}
+    → TaylorNpyWrite2Promise head a file written r1 file1 written1 → TaylorNpyWrite2Promise head a file written r2 file2 written2
+    → (r1 ≡ r2) × ((file1 ≡ file2) × (written1 ≡ written2))
+taylor-npy-write-2-once head a file written p1 p2 = once-3 p1 p2
+
 pub settings-fresh-once : (words : List ℕ) {r1 r2 : ℕ} {words1 words2 : List ℕ}
     → SettingsFreshPromise words r1 words1 → SettingsFreshPromise words r2 words2
     → (r1 ≡ r2) × (words1 ≡ words2)
@@ -205,3 +211,8 @@ pub settings-bring-back-once : (words : List ℕ) (department from kept version 
     department from kept version r2 words2 version2
     → (r1 ≡ r2) × ((version1 ≡ version2) × (words1 ≡ words2))
 settings-bring-back-once words department from kept version p1 p2 = once-3 p1 p2
+
+pub taylor-exp-constant-once : (x value : Float) {r1 r2 : ℕ} {value1 value2 : Float}
+    → TaylorExpConstantPromise x value r1 value1 → TaylorExpConstantPromise x value r2 value2
+    → (r1 ≡ r2) × (value1 ≡ value2)
+taylor-exp-constant-once x value p1 p2 = once-2 (p1 .0) (p2 .0)

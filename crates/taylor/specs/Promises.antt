@@ -23,6 +23,8 @@ use Rattle.model.specs.Series.{expAnswer, expOut, logAnswer, logOut, seriesScra
 use Rattle.model.specs.Shifts.{derivativeAnswer, derivativeOut, expansionAnswer, expansionOut, shiftDownAnswer, shiftDownOut}
 use Rattle.model.specs.Substitute.{substituteAnswer, substituteOut, substituteScratch}
 use Rattle.model.specs.Tail.{tailAnswer}
+use Rattle.model_exponential.specs.Constant.{inRange, expConstantAnswer}
+use Rattle.model_exponential.specs.Exact.{Near}
 use Rattle.model_recipes.specs.Check.{checkAnswer}
 use Rattle.model_recipes.specs.Run.{runAnswer, runPool, runScratch, runWords}
 use Rattle.model_settings.specs.Words.{bringWords, freshAnswer, freshWords, readVersionWords, readWords, wordsBrought}
@@ -200,7 +202,13 @@ TaylorRunPromise headers coefficients steps pool words scratch r pool' words' sc
 abbrev pub TaylorNpyWritePromise : ℕ → List Float → List ℕ → ℕ → ℕ → List ℕ → ℕ → Type 0
 TaylorNpyWritePromise head a file written r file' written' =
     (r ≡ wordOfWritten (writeAnswer head a file))
-    × ((file' ≡ writeFile head a file)
+    × ((file' ≡ writeFile false head a file)
+    × (written' ≡ lengthAfter (writeAnswer head a file) written))
+
+abbrev pub TaylorNpyWrite2Promise : ℕ → List Float → List ℕ → ℕ → ℕ → List ℕ → ℕ → Type 0
+TaylorNpyWrite2Promise head a file written r file' written' =
+    (r ≡ wordOfWritten (writeAnswer head a file))
+    × ((file' ≡ writeFile true head a file)
     × (written' ≡ lengthAfter (writeAnswer head a file) written))
 
 abbrev pub SettingsFreshPromise : List ℕ → ℕ → List ℕ → Type 0
@@ -234,3 +242,10 @@ SettingsBringBackPromise words department from kept version r words' version' =
     (r ≡ wordOf (bringWords words department from kept))
     × ((version' ≡ versionAfter (bringWords words department from kept) version)
     × (words' ≡ wordsBrought words department from kept))
+
+-- what is answered, and what it is worth
+abbrev pub TaylorExpConstantPromise : Float → Float → ℕ → Float → Type 0
+TaylorExpConstantPromise x value r value' =
+    ((r ≡ wordOfReading (expConstantAnswer x))
+    × (value' ≡ valueAfter (expConstantAnswer x) value))
+    × (inRange x ≡ true → Near x value')

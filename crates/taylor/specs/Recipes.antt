@@ -1,7 +1,7 @@
 -- The face: what the check and the run of a recipe answered is read back, from the word and, of the check, from the
 -- totals that were written. Both refuse by 1 to 7, so that the 0 of accepted or done stands for nothing else. What
 -- stood where the totals go makes no difference.
-use Prim.Native.Nat.{ℕ, _<_}
+use Prim.Native.Nat.{ℕ}
 use mathlib.Core.Bool.{false, cond}
 use mathlib.Core.List.{List}
 use mathlib.Core.Path.{_≡_, ap}
@@ -20,7 +20,8 @@ use Rattle.model_recipes.specs.Check.{checkRefusal, checkBy, checkAnswer}
 use Rattle.model_recipes.specs.Run.{endBy, endAnswer, runRefusal, runEnd, runAnswer}
 use Rattle.recipes_laws.specs.Refuses.{check-small, run-small}
 use Rattle.taylor.specs.Face.{wordOfRefusal, wordOfCheck, poolAfter, largestAfter, inputsAfter, wordOfRun}
-use Rattle.taylor.specs.Apart.{refusalFrom, refusal-from}
+use Rattle.gates.specs.Small.{small-up}
+use Rattle.taylor.specs.Apart.{Few, refusalFrom, refusal-from}
 
 -- what a word and three totals stand for
 unfoldable pub checkFrom : ℕ → ℕ → ℕ → ℕ → CheckAnswer
@@ -35,9 +36,9 @@ abbrev CheckBack : CheckAnswer → ℕ → ℕ → ℕ → Type 0
 CheckBack x pool largest inputs = checkFrom (wordOfCheck x) (poolAfter x pool) (largestAfter x largest) (inputsAfter x inputs) ≡ x
 
 -- any refusal r that decides
-module _ (r : Refusal) (few : r .number < 256) where
+module _ (r : Refusal) (few : Few r) where
   word-not-zero : isNone r ≡ false → eqb (wordOfRefusal r) 0 ≡ false
-  word-not-zero t = ne-eqb (wordOfRefusal r) 0 (λ z. eqb-false (r .number) 0 t (omega arith))
+  word-not-zero t = ne-eqb (wordOfRefusal r) 0 (λ z. eqb-false (r .number) 0 t (omega (arith, z)))
 
   by-check : (p l i pool largest inputs : ℕ) → CheckBack (checkBy r p l i) pool largest inputs
   unfolding checkBy checkFrom
@@ -55,9 +56,10 @@ pub check-back : (hs ss : List ℕ) (pool largest inputs : ℕ)
     (largestAfter (checkAnswer hs ss) largest) (inputsAfter (checkAnswer hs ss) inputs)
     ≡ checkAnswer hs ss
 unfolding checkAnswer
-check-back hs ss pool largest inputs = by-check (checkRefusal hs ss) (omega (arith, check-small hs ss)) _ _ _ pool largest inputs
+check-back hs ss pool largest inputs = by-check (checkRefusal hs ss) (small-up (check-small hs ss) (omega arith) (omega arith)) _ _ _ pool largest inputs
 
 pub run-back : (hs : List ℕ) (cs : List Float) (ss : List ℕ) (pool : List Float) (words : List ℕ) (scratch : List Float)
     → runFrom (wordOfRun (runAnswer hs cs ss pool words scratch)) ≡ runAnswer hs cs ss pool words scratch
 unfolding runAnswer runEnd
-run-back hs cs ss pool words scratch = by-run (runRefusal hs cs ss pool words scratch) (omega (arith, run-small hs cs ss pool words scratch))
+run-back hs cs ss pool words scratch =
+    by-run (runRefusal hs cs ss pool words scratch) (small-up (run-small hs cs ss pool words scratch) (omega arith) (omega arith))

@@ -18,7 +18,10 @@ ghost use Rattle.taylor.specs.Face.{wordOfCount, countAfter, wordOfWritt
 fn refusal_word(r: Refusal) -> u64
     ensures { λ w. ⌜ w ≡ wordOfRefusal r ⌝ }
 {
-    (r.number as u64) + 256 * (r.place as u64)
+    (r.number as u64)
+        + 256 * (r.place as u64)
+        + 65536 * (r.variable as u64)
+        + 16777216 * (r.cause as u64)
 }
 
 // An answer as one word.

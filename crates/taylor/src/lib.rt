@@ -20,6 +20,7 @@ ghost use Rattle.taylor.specs.Promises.{TaylorCoefficientsOfTermPromise,
 ghost use Rattle.taylor.specs.Promises.{TaylorMultiplyPromise, TaylorDividePromise, TaylorExpPromise, TaylorLogPromise, TaylorPowPromise};
 ghost use Rattle.taylor.specs.Promises.{TaylorDerivativePromise, TaylorTaylorExpansionOfCoeffPromise, TaylorShiftDownPromise};
 ghost use Rattle.taylor.specs.Promises.{TaylorSubstVarPromise, TaylorCheckPromise, TaylorRunPromise, TaylorNpyWritePromise};
+ghost use Rattle.taylor.specs.Promises.{TaylorNpyWrite2Promise, TaylorExpConstantPromise};
 
 // +0.0, with no variables: refusal 5.
 #[no_mangle]
@@ -421,12 +422,34 @@ pub extern "C" fn taylor_npy_read(file: &[u8], out: &mut [f64]) -> u64
     word_of(npy::read(file, out))
 }
 
-// The NumPy array file of a polynomial, its shape the stored lengths, at the front of `file`, and through `written` how
-// many bytes it has: refusals 1, 2, 5; 0 when done.
+// The NumPy array file of a polynomial, version 1.0, its shape the stored lengths, at the front of `file`, and through
+// `written` how many bytes it has: refusals 1, 2, 5; 0 when done.
 #[no_mangle]
 pub extern "C" fn taylor_npy_write(head: u64, a: &[f64], file: &mut [u8], written: &mut u64) -> u64
     ensures { λ r. ⌜ TaylorNpyWritePromise head (now (a .entry)) (now (file .entry)) (now (written .entry)) r
         (now (file .exit)) (now (written .exit)) ⌝ }
 {
     put_written(npy::write(head, a, file), written)
+}
+
+// The same, version 2.0.
+#[no_mangle]
+pub extern "C" fn taylor_npy_write_2(
+    head: u64,
+    a: &[f64],
+    file: &mut [u8],
+    written: &mut u64,
+) -> u64
+    ensures { λ r. ⌜ TaylorNpyWrite2Promise head (now (a .entry)) (now (file .entry)) (now (written .entry)) r
+        (now (file .exit)) (now (written .exit)) ⌝ }
+{
+    put_written(npy::write_2(head, a, file), written)
+}
+
+// e^x for x from -8 to 8, within 2^-40, relative, of the sum of the series' first 120 terms: refusal 12.
+#[no_mangle]
+pub extern "C" fn taylor_exp_constant(x: f64, value: &mut f64) -> u64
+    ensures { λ r. ⌜ TaylorExpConstantPromise x (now (value .entry)) r (now (value .exit)) ⌝ }
+{
+    put(exponential::exp_constant(x), value)
 }

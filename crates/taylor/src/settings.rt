@@ -1,6 +1,6 @@
 // The settings store under its C names: 0 with what was asked for through pointers, or a refusal's number + 256 * 64
 // and nothing written.
-use model_settings::Content;
+use settings_face::content_of;
 use settings_face::put_chance;
 use settings_face::put_horizon;
 use settings_face::put_recipe;
@@ -74,12 +74,7 @@ pub extern "C" fn settings_save(
     ensures { λ r. ⌜ SettingsSavePromise (now (words .entry)) department from chance horizon recipe
         (now (version .entry)) r (now (words .exit)) (now (version .exit)) ⌝ }
 {
-    let content = Content {
-        chance: sheet_bits::word_of(chance),
-        horizon,
-        recipe,
-    };
-    let a = settings_store::save(words, department, from, content);
+    let a = settings_store::save(words, department, from, content_of(chance, horizon, recipe));
     put_version(a, version);
     word_of(a)
 }

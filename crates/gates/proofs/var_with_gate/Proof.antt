@@ -1,25 +1,27 @@
 use mathlib.Core.Path.{_≡_}
 use mathlib.Core.Bool.{true}
-use borrow.Author.Tests.{not-true, not-false, lt-ltb, le-ltb}
+use borrow.Author.Tests.{eq-eqb, ne-eqb, lt-ltb, le-ltb}
+use Rattle.model.specs.Faults.{limitsFault}
 use Rattle.model.specs.Gates.{goodLimits, varWithGate}
 use Rattle.gates.specs.Given.{good-limits, var-regular}
 use borrow.Author.Needs.{needs}
 use Rattle.gates.proofs.var_with_gate.Statement.{statement}
 use Rattle.gates.proofs.var_with_gate.Tie as tie
 
-limits : (c : tie.Else1) → goodLimits ((c .before .before) .args .vars) ((c .before .before) .args .limits) ≡ true
-limits c = not-false _ (rw (c .before .good-limits .ensures) at (c .if1 .left))
+limits : (c : tie.Else1) → goodLimits (c .before .before .before .args .vars) (c .before .before .before .args .limits) ≡ true
+limits c = eq-eqb _ _ (rw (c .before .before .limits-fault .ensures) at (c .if1 .left))
 
 returns : tie.Need-returns
 unfolding varWithGate
 returns c =
-    let start = c .before .before .before in
-    simp (not-true (goodLimits (start .args .vars) (start .args .limits))
-    (rw (c .before .before .good-limits .ensures) at (c .before .if1 .taken))) (c .by .ensures)
+    let start = c .before .before .before .before in
+    simp (ne-eqb (limitsFault (start .args .vars) (start .args .limits) .cause) 0
+    (rw (c .before .before .before .limits-fault .ensures) at (c .before .if1 .taken)))
+    (rw (c .before .before .before .limits-fault .ensures) at (c .of-fault .ensures))
 
 returns-2 : tie.Need-returns-2
 unfolding varWithGate
-returns-2 c = simp (limits (c .before .before), le-ltb _ _ (c .before .if2 .taken)) (c .by2 .ensures)
+returns-2 c = simp (limits (c .before .before), le-ltb _ _ (c .before .if2 .taken)) (c .by .ensures)
 
 fits-gate-requires : tie.Need-fits-gate-requires
 fits-gate-requires c κs = rw (c .var-with-degrees-p1 .ensures) (var-regular (good-limits _ _ (limits (c .before .before))) _ .rules)

@@ -1,21 +1,23 @@
 use mathlib.Core.Path.{_≡_}
 use mathlib.Core.Bool.{true}
-use borrow.Author.Tests.{not-true, not-false}
+use borrow.Author.Tests.{eq-eqb, ne-eqb}
+use Rattle.model.specs.Faults.{limitsFault}
 use Rattle.model.specs.Gates.{goodLimits, withGate}
 use Rattle.gates.specs.Given.{good-limits, zero-regular}
 use borrow.Author.Needs.{needs}
 use Rattle.gates.proofs.with_gate.Statement.{statement}
 use Rattle.gates.proofs.with_gate.Tie as tie
 
-limits : (c : tie.Else1) → goodLimits ((c .before .before) .args .vars) ((c .before .before) .args .limits) ≡ true
-limits c = not-false _ (rw (c .before .good-limits .ensures) at (c .if1 .left))
+limits : (c : tie.Else1) → goodLimits (c .before .before .before .args .vars) (c .before .before .before .args .limits) ≡ true
+limits c = eq-eqb _ _ (rw (c .before .before .limits-fault .ensures) at (c .if1 .left))
 
 returns : tie.Need-returns
 unfolding withGate
 returns c =
-    let start = c .before .before .before in
-    simp (not-true (goodLimits (start .args .vars) (start .args .limits))
-    (rw (c .before .before .good-limits .ensures) at (c .before .if1 .taken))) (c .by .ensures)
+    let start = c .before .before .before .before in
+    simp (ne-eqb (limitsFault (start .args .vars) (start .args .limits) .cause) 0
+    (rw (c .before .before .before .limits-fault .ensures) at (c .before .if1 .taken)))
+    (rw (c .before .before .before .limits-fault .ensures) at (c .of-fault .ensures))
 
 fits-gate-requires : tie.Need-fits-gate-requires
 fits-gate-requires c κs = rw (c .zero-with .ensures) (zero-regular (good-limits _ _ (limits (c .before))) .rules)

@@ -1,82 +1,41 @@
 use borrow.Author.Needs.{needs}
-use native.Mathlib.Omega.{arith}
-use Prim.Native.Nat.{_-_, _+_, _*_, _≤_}
-use mathlib.Core.Path.{_≡_, refl, ap, _∙_}
-use lib.ListN.{length}
-use lib.Ieee.{ofBits, binary64}
-use Rattle.lists.specs.Table.{Filled, filled-none, filled-more}
-use Rattle.lists.specs.Fill.{filled-all}
-use Rattle.npy_grammar.specs.Text.{eight}
-use Rattle.npy_files.specs.Values.{valueAt}
 use Rattle.npy_bytes.proofs.fill.Statement.{statement}
 use Rattle.npy_bytes.proofs.fill.Tie as tie
 use Rattle.npy_bytes.proofs.fill.Reads as reads
 use Rattle.npy_bytes.proofs.fill.Lts as lts
-use Rattle.npy_bytes.proofs.little_8.Reads as little-8-reads
-use Rattle.sheet_bits.proofs.float_of.Reads as float-of-reads
+use Rattle.npy_bytes.proofs.is_plain.Reads as is-plain-reads
+use Rattle.npy_bytes.proofs.judge_words.Reads as judge-words-reads
+use Rattle.npy_bytes.proofs.take_words.Reads as take-words-reads
 
-abbrev Inv-loop : tie.InvT-loop
-Inv-loop file at out₀ n k₀ out k = (k ≤ n) × ((n ≡ length out₀) × Filled k (valueAt eight file at) out₀ out)
+is-plain-requires : tie.Need-is-plain-requires
+is-plain-requires c κs = search needs
 
-abbrev μ-loop : tie.MeasureT-loop
-μ-loop file at out₀ n k₀ out k = n - k
+take-words-requires : tie.Need-take-words-requires
+take-words-requires c κs = (c .before .before .before .before .before .pre, c .before .before .is-plain .ensures (c .before .if1 .taken))
 
-loop-holds : tie.Need-loop-holds Inv-loop μ-loop
-loop-holds c = (omega arith, (refl, filled-none))
+judge-words-requires : tie.Need-judge-words-requires
+judge-words-requires c κs = search needs
 
-mul-little-8 : tie.Need-mul-little-8 Inv-loop μ-loop
-mul-little-8 c = omega arith
+same-length : tie.Need-same-length
+same-length c = search needs
 
-add-little-8 : tie.Need-add-little-8 Inv-loop μ-loop
-add-little-8 c = omega arith
+returns : tie.Need-returns
+returns c = search needs
 
-little-8-requires : tie.Need-little-8-requires Inv-loop μ-loop
-little-8-requires c κs = omega arith
+same-length-2 : tie.Need-same-length-2
+same-length-2 c = search needs
 
-float-of-requires : tie.Need-float-of-requires Inv-loop μ-loop
-float-of-requires c κs = search needs
-
-mul-out : tie.Need-mul-out Inv-loop μ-loop
-mul-out c = omega arith
-
-slice-write-out : tie.Need-slice-write-out Inv-loop μ-loop
-slice-write-out c = omega arith
-
-add-k : tie.Need-add-k Inv-loop μ-loop
-add-k c = search needs
-
-loop-less : tie.Need-loop-less Inv-loop μ-loop
-loop-less c = search needs
-
-loop-again : tie.Need-loop-again Inv-loop μ-loop
-unfolding valueAt
-loop-again c =
-    let c3 = c .before .before .before in (
-      omega arith,
-      (c3 .loop .inv .1 .0, filled-more (c3 .loop .inv .1 .1) (c .float-of .ensures ∙ ap (ofBits binary64) (c .before .little-8 .ensures)) (omega arith)),
-    )
-
-same-length : tie.Need-same-length Inv-loop μ-loop
-same-length c = c .before .loop .inv .1 .1 .len
-
-returns : tie.Need-returns Inv-loop μ-loop
-returns c = filled-all (c .before .loop .inv .1 .1) (omega arith) (omega arith)
+returns-2 : tie.Need-returns-2
+returns-2 c = search needs
 
 pub fill-spec : {M : Type 1} → statement M
 fill-spec =
     tie.close
     (tie.spec
-    Inv-loop
-    μ-loop
-    loop-holds
-    mul-little-8
-    add-little-8
-    little-8-requires
-    float-of-requires
-    mul-out
-    slice-write-out
-    add-k
-    loop-less
-    loop-again
+    is-plain-requires
+    take-words-requires
+    judge-words-requires
     same-length
-    returns)
+    returns
+    same-length-2
+    returns-2)

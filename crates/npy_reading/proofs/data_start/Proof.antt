@@ -1,57 +1,55 @@
-use borrow.Author.Tests.{not-true, not-false}
 use native.Mathlib.Omega.{arith}
-use Prim.Native.Nat.{ℕ, _+_}
-use mathlib.Core.Path.{ap, _∙_}
-use Rattle.npy_reading.specs.Opening.{start-other, start-short, start-cut, start-here}
+use Rattle.npy_reading.specs.Opening.{end-one, end-two, end-is}
 use borrow.Author.Needs.{needs}
 use Rattle.npy_reading.proofs.data_start.Statement.{statement}
 use Rattle.npy_reading.proofs.data_start.Tie as tie
 use Rattle.npy_reading.proofs.data_start.Reads as reads
 use Rattle.npy_reading.proofs.data_start.Lts as lts
 use Rattle.npy_bytes.proofs.little_2.Reads as little-2-reads
-use Rattle.npy_bytes.proofs.starts_with.Reads as starts-with-reads
+use Rattle.npy_bytes.proofs.little_4.Reads as little-4-reads
+use Rattle.npy_reading.proofs.within.Reads as within-reads
 
-slice-aggregate-starts-with : tie.Need-slice-aggregate-starts-with
-slice-aggregate-starts-with c = search needs
+little-2-requires : tie.Need-little-2-requires
+little-2-requires c κs = omega (arith, c .before .before .pre .inside, c .before .before .pre .from)
 
-starts-with-requires : tie.Need-starts-with-requires
-starts-with-requires c κs = search needs
+add-within : tie.Need-add-within
+add-within c = omega (arith, c .little-2 .ensures .1)
+
+within-requires : tie.Need-within-requires
+within-requires c κs = search needs
 
 returns : tie.Need-returns
-returns c = start-other (c .before .before .before .before .args .file .now) (c .before .starts-with .ensures) (not-true _ (c .if1 .taken))
+returns c =
+    let c2 = c .before .before in
+    let c4 = c2 .before .before in
+    end-is (c4 .args .file .now) (c4 .pre) (end-one (c4 .args .file .now) (c4 .pre) (c2 .if1 .taken) (c .before .little-2 .ensures .0))
+    (c .within .ensures)
+
+little-4-requires : tie.Need-little-4-requires
+little-4-requires c κs = omega (arith, c .before .before .pre .inside, c .before .before .pre .twelve (c .if1 .left))
+
+add-within-2 : tie.Need-add-within-2
+add-within-2 c = omega (arith, c .little-4 .ensures .1)
+
+within-requires-2 : tie.Need-within-requires-2
+within-requires-2 c κs = search needs
 
 returns-2 : tie.Need-returns-2
 returns-2 c =
-    start-short (c .before .before .before .before .before .args .file .now) (c .before .before .starts-with .ensures)
-    (not-false _ (c .before .if1 .left)) (c .if2 .taken)
-
-little-2-requires : tie.Need-little-2-requires
-little-2-requires c κs = search needs
-
-add-end : tie.Need-add-end
-add-end c = search needs
-
-returns-3 : tie.Need-returns-3
-returns-3 c =
-    start-cut (c .before .before .before .before .before .before .before .args .file .now)
-    (c .before .before .before .before .starts-with .ensures) (not-false _ (c .before .before .before .if1 .left))
-    (ap (λ (x : ℕ). 10 + x) (c .before .little-2 .ensures .0)) (c .before .before .if2 .left) (c .if3 .taken)
-
-returns-4 : tie.Need-returns-4
-returns-4 c =
-    start-here (c .before .before .before .before .before .before .before .args .file .now)
-    (c .before .before .before .before .starts-with .ensures) (not-false _ (c .before .before .before .if1 .left))
-    (ap (λ (x : ℕ). 10 + x) (c .before .little-2 .ensures .0)) (c .before .before .if2 .left) (c .if3 .left)
+    let c2 = c .before .before in
+    let c4 = c2 .before .before in
+    end-is (c4 .args .file .now) (c4 .pre) (end-two (c4 .args .file .now) (c4 .pre) (c2 .if1 .left) (c .before .little-4 .ensures .0))
+    (c .within2 .ensures)
 
 pub data-start-spec : {M : Type 1} → statement M
 data-start-spec =
     tie.close
     (tie.spec
-    slice-aggregate-starts-with
-    starts-with-requires
-    returns
-    returns-2
     little-2-requires
-    add-end
-    returns-3
-    returns-4)
+    add-within
+    within-requires
+    returns
+    little-4-requires
+    add-within-2
+    within-requires-2
+    returns-2)

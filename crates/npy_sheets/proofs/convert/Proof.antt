@@ -10,7 +10,7 @@ use Rattle.model.proofs.Refusal.by.Reads as by-reads
 use Rattle.npy_answers.proofs.is_answer.Reads as is-answer-reads
 use Rattle.npy_answers.proofs.is_refusal.Reads as is-refusal-reads
 use Rattle.npy_sheets.proofs.put_array.Reads as put-array-reads
-use Rattle.npy_sheets.proofs.put_refusal.Reads as put-refusal-reads
+use Rattle.sheet_text.proofs.refused.put_refusal.Reads as put-refusal-reads
 use Rattle.sheet_text.proofs.print.put_bytes.Reads as put-bytes-reads
 
 is-answer-requires : tie.Need-is-answer-requires
@@ -46,7 +46,7 @@ returns-2 : tie.Need-returns-2
 returns-2 c =
     let start = c .before .before .before .before .before .before .before .before .before .before .before in
     let i = c .before .before .before .before .before .before in
-    array-passed (start .args .text .now)
+    array-passed (start .args .newer) (start .args .text .now)
     (sym (i .before .is-answer .ensures) ∙ i .if1 .left)
     (start .args .values .now)
     (sym (c .before .before .before .before .before .is-refusal .ensures) ∙ c .before .before .before .before .if2 .taken)
@@ -65,7 +65,7 @@ returns-3 : tie.Need-returns-3
 returns-3 c =
     let start = c .before .before .before .before .before .before .before .before .before .before .before .before in
     let i = c .before .before .before .before .before .before .before in
-    array-other (start .args .text .now)
+    array-other (start .args .newer) (start .args .text .now)
     (sym (i .before .is-answer .ensures) ∙ i .if1 .left)
     (start .args .values .now)
     (c .before .before .before .before .by .ensures)

@@ -1,58 +1,21 @@
-use Rattle.npy_sheets.specs.Shown.{shown-refused}
 use native.Mathlib.Omega.{arith}
-use mathlib.Core.Path.{sym, ap, _∙_}
-use lib.Seq.{length-take-le}
-use Rattle.model.specs.Header.{stored}
-use Rattle.npy_sheets.specs.Shown.{shown-done, done-ruled, done-small}
+use mathlib.Core.Path.{sym, _∙_}
+use Rattle.npy_sheets.specs.Shown.{file-whole, file-long}
 use borrow.Author.Needs.{needs}
 use Rattle.npy_sheets.proofs.show.Statement.{statement}
 use Rattle.npy_sheets.proofs.show.Tie as tie
 use Rattle.npy_sheets.proofs.show.Reads as reads
 use Rattle.npy_sheets.proofs.show.Lts as lts
-use Rattle.gates.proofs.stored_of.Reads as stored-of-reads
-use Rattle.npy.proofs.read.Reads as read-reads
-use Rattle.npy_sheets.proofs.put_refusal.Reads as put-refusal-reads
-use Rattle.npy_sheets.proofs.put_sheet.Reads as put-sheet-reads
-use Rattle.shape_words.proofs.word.header_of.Reads as header-of-reads
+use Rattle.model.proofs.Refusal.by.Reads as by-reads
+use Rattle.npy_sheets.proofs.is_long.Reads as is-long-reads
+use Rattle.sheet_text.proofs.refused.put_refusal.Reads as put-refusal-reads
+use Rattle.npy_sheets.proofs.show_whole.Reads as show-whole-reads
 
-read-requires : tie.Need-read-requires
-read-requires c κs = search needs
+is-long-requires : tie.Need-is-long-requires
+is-long-requires c κs = search needs
 
-enum-known-head : tie.Need-enum-known-head
-enum-known-head c = search needs
-
-header-of-requires : tie.Need-header-of-requires
-header-of-requires c κs = search needs
-
-stored-of-requires : tie.Need-stored-of-requires
-stored-of-requires c κs =
-    done-ruled _ (c .before .before .before .before .before .before .read .ensures)
-    (c .before .before .head .given .1) (c .header-of .ensures)
-
-slice-reshare-prefix-put-sheet : tie.Need-slice-reshare-prefix-put-sheet
-slice-reshare-prefix-put-sheet c = let k =
-    done-small _ (c .before .before .before .before .before .before .before .read .ensures)
-    (c .before .before .before .head .given .1) (c .before .header-of .ensures) (c .stored-of .ensures) in
-    omega arith
-
-slice-aggregate-put-sheet : tie.Need-slice-aggregate-put-sheet
-slice-aggregate-put-sheet c =
-    let c8 = c .before .before .before .before .before .before .before .before in
-    let k =
-    done-small _ (c8 .read .ensures) (c .before .before .before .before .head .given .1)
-    (c .before .before .header-of .ensures) (c .before .stored-of .ensures) in
-    sym (length-take-le _ _ (omega arith))
-
-put-sheet-requires : tie.Need-put-sheet-requires
-put-sheet-requires c κs =
-    let c9 = c .before .before .before .before .before .before .before .before .before in
-    let k =
-    done-small _ (c9 .read .ensures) (c .before .before .before .before .before .head .given .1)
-    (c .before .before .before .header-of .ensures) (c .before .before .stored-of .ensures) in
-    omega (arith, length-take-le (c .before .before .stored-of .result) (c9 .read .last .1 .0) (omega arith))
-
-enum-known-e : tie.Need-enum-known-e
-enum-known-e c = search needs
+by-requires : tie.Need-by-requires
+by-requires c κs = search needs
 
 put-refusal-requires : tie.Need-put-refusal-requires
 put-refusal-requires c κs = search needs
@@ -60,45 +23,40 @@ put-refusal-requires c κs = search needs
 same-length : tie.Need-same-length
 same-length c = search needs
 
-same-length-2 : tie.Need-same-length-2
-same-length-2 c = search needs
-
 returns : tie.Need-returns
 returns c =
-    let c8 = c .before .before .before .before .before .before .before .before in
-    let c12 = c8 .before .before .before .before in
-    shown-done _ (c12 .read .ensures) (c8 .head .given .1)
-    (c .before .before .before .before .before .stored-of .ensures
-    ∙ ap stored (c .before .before .before .before .before .before .header-of .ensures))
-    (c .before .before .put-sheet .ensures)
+    let c2 = c .before .before in
+    let c4 = c2 .before .before in
+    let c5 = c4 .before in
+    let c6 = c5 .before in
+    file-long (sym (c6 .is-long .ensures) ∙ c5 .if1 .taken) (c4 .by .ensures) (c2 .put-refusal .ensures)
+
+show-whole-requires : tie.Need-show-whole-requires
+show-whole-requires c κs = search needs
+
+same-length-2 : tie.Need-same-length-2
+same-length-2 c = search needs
 
 same-length-3 : tie.Need-same-length-3
 same-length-3 c = search needs
 
-same-length-4 : tie.Need-same-length-4
-same-length-4 c = search needs
-
 returns-2 : tie.Need-returns-2
 returns-2 c =
-    let c9 = c .before .before .before .before .before .before .before .before .before in
-    shown-refused _ (c9 .read .ensures) (c .before .before .before .before .before .e .given .1) (c .before .before .put-refusal .ensures)
+    let c4 = c .before .before .before .before in
+    let c7 = c4 .before .before .before in
+    let c8 = c7 .before in
+    file-whole (sym (c8 .is-long .ensures) ∙ c7 .if1 .left) (c4 .show-whole .ensures)
 
 pub show-spec : {M : Type 1} → statement M
 show-spec =
     tie.close
     (tie.spec
-    read-requires
-    enum-known-head
-    header-of-requires
-    stored-of-requires
-    slice-reshare-prefix-put-sheet
-    slice-aggregate-put-sheet
-    put-sheet-requires
-    enum-known-e
+    is-long-requires
+    by-requires
     put-refusal-requires
     same-length
-    same-length-2
     returns
+    show-whole-requires
+    same-length-2
     same-length-3
-    same-length-4
     returns-2)

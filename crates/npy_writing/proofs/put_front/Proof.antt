@@ -10,15 +10,12 @@ use Rattle.npy_writing.proofs.put_front.Tie as tie
 use Rattle.npy_writing.proofs.put_front.Reads as reads
 use Rattle.npy_writing.proofs.put_front.Lts as lts
 use Rattle.npy_writing.proofs.put_dict.Reads as put-dict-reads
+use Rattle.npy_writing.proofs.put_start.Reads as put-start-reads
 use Rattle.sheet_text.proofs.print.put_byte.Reads as put-byte-reads
-use Rattle.sheet_text.proofs.print.put_bytes.Reads as put-bytes-reads
 use Rattle.sheet_text.proofs.print.put_spaces.Reads as put-spaces-reads
 
-slice-aggregate-put-bytes : tie.Need-slice-aggregate-put-bytes
-slice-aggregate-put-bytes c = search needs
-
-put-bytes-requires : tie.Need-put-bytes-requires
-put-bytes-requires c κs = search needs
+put-start-requires : tie.Need-put-start-requires
+put-start-requires c κs = search needs
 
 put-dict-requires : tie.Need-put-dict-requires
 put-dict-requires c κs = search needs
@@ -34,11 +31,11 @@ put-byte-requires c κs =
     let c3 = c .before .before .before in
     let c7 = c3 .before .before .before .before in
     let c11 = c7 .before .before .before .before in
-    let start = c11 .before .before .before .before in
+    let start = c11 .before .before .before in
     omega (
       arith,
-      put-len (c11 .put-bytes .ensures),
-      c11 .put-bytes .ensures .behind,
+      put-len (c11 .put-start .ensures .put),
+      c11 .put-start .ensures .most,
       c7 .put-dict .ensures .most,
       put-len (c7 .put-dict .ensures .put),
       c3 .put-spaces .ensures .behind,
@@ -54,15 +51,14 @@ returns : tie.Need-returns
 returns c =
     let c10 = c .before .before .before .before .before .before .before .before .before .before in
     let c14 = c10 .before .before .before .before in
-    front-put _ (c14 .put-bytes .ensures) (c10 .put-dict .ensures)
+    front-put _ _ (c14 .put-start .ensures) (c10 .put-dict .ensures)
     (c .before .before .before .before .before .before .put-spaces .ensures) (c .before .before .put-byte .ensures)
 
 pub put-front-spec : {M : Type 1} → statement M
 put-front-spec =
     tie.close
     (tie.spec
-    slice-aggregate-put-bytes
-    put-bytes-requires
+    put-start-requires
     put-dict-requires
     sub-put-spaces
     put-spaces-requires

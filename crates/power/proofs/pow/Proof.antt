@@ -118,7 +118,7 @@ returns-2 c =
       (
         done-out e h (value start) z (start .args .out .now) n
             (entry-out (start .args .head) (start .args .a .now) (start .args .e) (t .left) (t .told) (t .count-a)
-            (ready c18 .one .good .regular) (c21 .open-work .result .n) (c10 .power-into .ensures .1)),
+            (ready c18 .one .good .regular) (c21 .open-work .result .n) (c10 .power-into .ensures .1 .0)),
         done-scratch e h (value start) z (start .args .scratch .now) (c10 .power-into .last .1 .1 .1 .1 .1 .1 .0)
             (ap (λ (k : ℕ). 8 * k) n) (used c10) (c .before .before .before .before .clear .ensures) (length-take-le _ _ (rooms c10)),
       ),

@@ -1,18 +1,20 @@
 use native.Mathlib.Omega.{arith}
 use mathlib.Core.Path.{refl, _∙_}
-use Rattle.product.specs.Owned.{short-room, short-answer, short-out, short-scratch}
+use Rattle.product.specs.Owned.{short-worth, short-room, short-answer, short-out, short-scratch}
 use borrow.Author.Needs.{needs}
 use Rattle.product.proofs.multiply.Statement.{statement}
 use Rattle.product.proofs.multiply.Tie as tie
 
 multiply-short-requires : tie.Need-multiply-short-requires
-multiply-short-requires c κs = short-room (c .before .before .before .before .short-way .ensures (c .before .before .if1 .taken)) refl refl
+multiply-short-requires c κs =
+    short-room (short-worth _ _ _ _ _ _ (c .before .before .before .before .short-way .ensures)
+    (c .before .before .if1 .taken)) refl refl
 
 returns : tie.Need-returns
 returns c =
     let c4 = c .before .before .before .before in let c9 = c4 .before .before .before .before .before in
     let start = c9 .before .before .before .before .before in
-    let s = (c9 .short-way .ensures (c .before .before .before .before .before .before .before .if1 .taken)) in (
+    let s = short-worth _ _ _ _ _ _ (c9 .short-way .ensures) (c .before .before .before .before .before .before .before .if1 .taken) in (
       c4 .multiply-short .ensures .0 ∙ short-answer s (omega (arith, start .fits .ah)) (start .args .out .now)
           (start .args .scratch .now) refl refl,
       (

@@ -140,7 +140,7 @@ returns-2 c =
         done-out e (announcedPair Product (start .args .ah) (start .args .bh)) (value start) z (start .args .out .now) n
             (entry-out (start .args .ah) (start .args .a .now) (start .args .bh) (start .args .b .now) (t .left)
             (t .right) (told-by Product t) (t .count-a) (t .count-b) (c23 .open-product .result .n)
-            (c9 .multiply-into .ensures .1)),
+            (c9 .multiply-into .ensures .1 .0)),
         done-scratch e (announcedPair Product (start .args .ah) (start .args .bh)) (value start) z
             (start .args .scratch .now) (c9 .multiply-into .last .1 .1 .1 .1 .1 .1 .1 .0) (ap (λ (k : ℕ). 8 * k) n)
             (used c9) (c .before .before .before .clear .ensures) (length-take-le _ _ (rooms c9)),

@@ -132,7 +132,7 @@ returns-2 c =
         done-full e (announcedPair Quotient (start .args .ah) (start .args .bh)) (value start) z
             (start .args .out .now) n (entry-places (opened-ready (c24 .open-pair .ensures) (c21 .if1 .left)) (t .left)
             (t .right) (told-by Quotient t) (start .args .a .now) (start .args .b .now) (t .count-a) (t .count-b)
-            (c9 .divide-into .ensures)) (c9 .divide-into .kept .1 .1 .1 .1 .1 .1 .0
+            (c9 .divide-into .ensures .0)) (c9 .divide-into .kept .1 .1 .1 .1 .1 .1 .0
             ∙ length-take-le _ _ (opened-fits (c24 .open-pair .ensures) (c21 .if1 .left) .2)),
         done-scratch e (announcedPair Quotient (start .args .ah) (start .args .bh)) (value start) z
             (start .args .scratch .now) (c9 .divide-into .last .1 .1 .1 .1 .1 .1 .1 .0) (ap (λ (k : ℕ). 8 * k) n)

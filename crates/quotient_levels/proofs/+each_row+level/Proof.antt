@@ -4,6 +4,7 @@ use Prim.Native.Nat.{ℕ, _+_, _-_, _*_, _≤_, _<_}
 use lib.ListN.{length, length-append, length-drop, drop}
 use lib.Seq.{length-take-le}
 use mathlib.Core.List.{_++_}
+use borrow.Author.Needs.{needs}
 use Rattle.shape_words.specs.Lengths.{row-small}
 use Rattle.lists.specs.Four.{at}
 use Rattle.quotient_lessening.specs.Laid.{Laid}
@@ -96,7 +97,7 @@ room2 : (t : ℕ) (c : each-row-lts.After-gather (each-row-claims t) (each-row-a
     (length (c .gather .last .1 .1 .1 .1 .1 .1 .1 .1 .1 .1 .1 .1 .0
     ++ drop (at (start .args .t10) (start .args .v)) (c .before .before .before .before .loop .row)))
 room2 t c =
-    rw (kept t c, c .gather .ensures .len, c .before .before .before .before .loop .inv .2 .len)
+    rw (kept t c, c .gather .ensures .0 .len, c .before .before .before .before .loop .inv .2 .len)
     ((c .before .before .before .before .before .before .before) .pre .1 .1 .0)
 
 each-row-add-w : (t : ℕ) → each-row-lts.Need-add-w (each-row-claims t) (each-row-at t) each-row.Post each-row-Inv-loop each-row-μ-loop
@@ -180,7 +181,7 @@ each-row-loop-again t c =
       c4 .level .kept .1 .1 .1 .1 .1 .1 .1 .1 .1 .1 .1 .0
           ∙ kept t c11,
       rows-more (start .pre .1 .0) (start .args .work .now) (start .pre .1 .1 .0) (c14 .loop-test .taken)
-          (c15 .loop .inv .2) (c11 .gather .ensures) (c4 .level .ensures),
+          (c15 .loop .inv .2) (c11 .gather .ensures .0) (c4 .level .ensures .0),
     )
 
 each-row-same-length : (t : ℕ) → each-row-lts.Need-same-length (each-row-claims t) (each-row-at t) each-row.Post each-row-Inv-loop each-row-μ-loop
@@ -190,10 +191,12 @@ each-row-same-length-2 : (t : ℕ) → each-row-lts.Need-same-length-2 (each-row
 each-row-same-length-2 t c = c .before .loop .inv .1
 
 each-row-returns : (t : ℕ) → each-row-lts.Need-returns (each-row-claims t) (each-row-at t) each-row.Post each-row-Inv-loop each-row-μ-loop
-each-row-returns t c =
-    let start = c .before .before .before .before in
-    rows-all (start .pre .1 .0) (start .args .work .now) (start .pre .1 .1 .0)
-    (omega (arith, c .before .loop .inv .0, c .loop-test .left)) (c .before .loop .inv .2)
+each-row-returns t c = (
+  let start = c .before .before .before .before in
+      rows-all (start .pre .1 .0) (start .args .work .now) (start .pre .1 .1 .0)
+      (omega (arith, c .before .loop .inv .0, c .loop-test .left)) (c .before .loop .inv .2),
+  search needs,
+)
 
 level-mul-if1 : (t : ℕ) → level-lts.Need-mul-if1 (level-claims t) (level-at t) level.Post
 level-mul-if1 t c = let h = ((c .before .before) .pre .1 .1) .some in omega arith
@@ -210,7 +213,10 @@ level-same-length : (t : ℕ) → level-lts.Need-same-length (level-claims t) (l
 level-same-length t c = c .before .before .line .ensures .len
 
 level-returns : (t : ℕ) → level-lts.Need-returns (level-claims t) (level-at t) level.Post
-level-returns t c = c .before .before .line .ensures
+level-returns t c = (
+  c .before .before .line .ensures,
+  search needs,
+)
 
 level-each-row-requires : (t : ℕ) → level-lts.Need-each-row-requires (level-claims t) (level-at t) level.Post
 level-each-row-requires t c κs =
@@ -218,13 +224,16 @@ level-each-row-requires t c κs =
     (omega (arith, start .pre .0), (start .pre .1 .0, (start .pre .1 .1, level-several (start .pre .1 .0) (start .pre .1 .1) (c .before .before .if1 .left))))
 
 level-same-length-2 : (t : ℕ) → level-lts.Need-same-length-2 (level-claims t) (level-at t) level.Post
-level-same-length-2 t c = c .before .before .before .before .each-row .ensures .len
+level-same-length-2 t c = c .before .before .before .before .each-row .ensures .0 .len
 
 level-same-length-3 : (t : ℕ) → level-lts.Need-same-length-3 (level-claims t) (level-at t) level.Post
 level-same-length-3 t c = c .before .before .before .before .each-row .kept .1 .1 .1 .1 .1 .1 .1 .1 .1 .1 .1 .0
 
 level-returns-2 : (t : ℕ) → level-lts.Need-returns-2 (level-claims t) (level-at t) level.Post
-level-returns-2 t c = c .before .before .before .before .each-row .ensures
+level-returns-2 t c = (
+  c .before .before .before .before .each-row .ensures .0,
+  search needs,
+)
 
 pub +each-row+level-spec : {M : Type 1} → statement M
 +each-row+level-spec = close μ-each-row μ-level (λ t. each-row-lts.spec (each-row-claims t)

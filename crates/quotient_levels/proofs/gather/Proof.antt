@@ -1,5 +1,6 @@
 use native.Mathlib.Omega.{arith}
 use mathlib.Core.Path.{_∙_}
+use borrow.Author.Needs.{needs}
 use Rattle.quotient_levels.specs.Gather.{row-fits, gather-taking, gathered}
 use Rattle.quotient_levels.proofs.gather.Statement.{statement}
 use Rattle.quotient_levels.proofs.gather.Tie as tie
@@ -99,12 +100,14 @@ same-length-2 : tie.Need-same-length-2
 same-length-2 c = c .before .before .before .before .before .before .before .taken-row .kept .1 .1 .1 .1 .1 .1 .1 .1 .0
 
 returns : tie.Need-returns
-returns c =
-    let c12 = c .before .before .before .before .before .before .before .before .before .before .before .before in
-    let start = c12 .before .before in
-    gathered (start .pre .0) (start .args .work .now) (start .pre .1)
-    (c .before .before .before .before .before .before .before .taken-row .ensures)
-    (c .before .before .lessen .ensures)
+returns c = (
+  let c12 = c .before .before .before .before .before .before .before .before .before .before .before .before in
+      let start = c12 .before .before in
+      gathered (start .pre .0) (start .args .work .now) (start .pre .1)
+      (c .before .before .before .before .before .before .before .taken-row .ensures)
+      (c .before .before .lessen .ensures),
+  search needs,
+)
 
 pub gather-spec : {M : Type 1} → statement M
 gather-spec =

@@ -17,12 +17,12 @@ abbrev μ-loop : tie.MeasureT-loop
 loop-holds : tie.Need-loop-holds Inv-loop μ-loop
 loop-holds c = looking-none _
 
-cast-at : tie.Need-cast-at Inv-loop μ-loop
-cast-at c = record { fits = omega (arith, c .before .before .before .before .before .before .pre) }
+cast-bad-word : tie.Need-cast-bad-word Inv-loop μ-loop
+cast-bad-word c = record { fits = omega (arith, c .before .before .before .before .before .before .pre) }
 
 returns : tie.Need-returns Inv-loop μ-loop
 returns c =
-    c .at .ensures ∙ looking-stop (c .before .before .before .before .before .loop .inv)
+    c .bad-word .ensures ∙ looking-stop (c .before .before .before .before .before .loop .inv)
     (c .before .before .before .before .loop-test .taken) (c .before .before .is-good .ensures)
     (not-true _ (c .before .if1 .taken))
 
@@ -40,5 +40,5 @@ inputs-refusal-spec =
     (tie.spec
     Inv-loop
     μ-loop
-    loop-holds (λ c. search needs) (λ c. search needs) (λ c κs. search needs) cast-at (λ c κs. search needs) returns
+    loop-holds (λ c. search needs) (λ c. search needs) (λ c κs. search needs) cast-bad-word (λ c κs. search needs) returns
     (λ c. search needs) (λ c. search needs) loop-again (λ c κs. search needs) returns-2)

@@ -64,13 +64,15 @@ combine-requires c κs =
     (simp (length-take, length-drop) (omega (arith, e .1))) (start .pre .1 .1)
 
 returns : tie.Need-returns
-returns c =
-    let c8 = c .before .before .before .before .before .before .before .before in let c9 = c8 .before in
-    let c10 = c9 .before in let c11 = c10 .before in
-    let start = c11 .before .before .before .before .before .before .before in
-    sum-stands (start .pre .0) (c11 .cut-to .ensures) (c10 .cut-to2 .ensures) (c9 .count-of .ensures)
-    (c8 .count-of2 .ensures) (start .args .work .now) (start .args .zero)
-    (c .before .before .before .before .before .before .before .if1 .taken) (c .before .before .combine .ensures)
+returns c = (
+  let c8 = c .before .before .before .before .before .before .before .before in let c9 = c8 .before in
+      let c10 = c9 .before in let c11 = c10 .before in
+      let start = c11 .before .before .before .before .before .before .before in
+      sum-stands (start .pre .0) (c11 .cut-to .ensures) (c10 .cut-to2 .ensures) (c9 .count-of .ensures)
+      (c8 .count-of2 .ensures) (start .args .work .now) (start .args .zero)
+      (c .before .before .before .before .before .before .before .if1 .taken) (c .before .before .combine .ensures),
+  search needs,
+)
 
 divide-loaded-requires : tie.Need-divide-loaded-requires
 divide-loaded-requires c κs =
@@ -83,14 +85,16 @@ divide-loaded-requires c κs =
     (c .before .before .before .if1 .left) (c .before .before .if2 .taken) (start .pre .1 .0) (start .pre .1 .1)
 
 returns-2 : tie.Need-returns-2
-returns-2 c =
-    let c8 = c .before .before .before .before .before .before .before .before in let c9 = c8 .before in
-    let c10 = c9 .before in let c11 = c10 .before in let c12 = c11 .before in
-    let start = c12 .before .before .before .before .before .before .before in
-    quotient-stands (start .pre .0) (c12 .cut-to .ensures) (c11 .cut-to2 .ensures) (c10 .count-of .ensures)
-    (c9 .count-of2 .ensures) (start .args .work .now) (start .args .zero) (c8 .if1 .left)
-    (c .before .before .before .before .before .before .before .if2 .taken) (start .pre .1 .0) (start .pre .1 .1)
-    (c .before .before .before .before .divide-loaded .ensures)
+returns-2 c = (
+  let c8 = c .before .before .before .before .before .before .before .before in let c9 = c8 .before in
+      let c10 = c9 .before in let c11 = c10 .before in let c12 = c11 .before in
+      let start = c12 .before .before .before .before .before .before .before in
+      quotient-stands (start .pre .0) (c12 .cut-to .ensures) (c11 .cut-to2 .ensures) (c10 .count-of .ensures)
+      (c9 .count-of2 .ensures) (start .args .work .now) (start .args .zero) (c8 .if1 .left)
+      (c .before .before .before .before .before .before .before .if2 .taken) (start .pre .1 .0) (start .pre .1 .1)
+      (c .before .before .before .before .divide-loaded .ensures .0),
+  search needs,
+)
 
 zero-to-requires : tie.Need-zero-to-requires
 zero-to-requires c κs =
@@ -103,14 +107,16 @@ zero-to-requires c κs =
     (c .before .before .before .if1 .left) (c .before .before .if2 .left) (start .pre .1 .1)
 
 returns-3 : tie.Need-returns-3
-returns-3 c =
-    let c8 = c .before .before .before .before .before .before .before .before in let c9 = c8 .before in
-    let c10 = c9 .before in let start = c10 .before .before .before .before .before .before .before in
-    zero-stands (start .pre .0) (c10 .cut-to .ensures) (c9 .cut-to2 .ensures) (c8 .count-of .ensures)
-    (c .before .before .before .before .before .before .before .count-of2 .ensures) (start .args .work .now)
-    (start .args .zero) (c .before .before .before .before .before .before .if1 .left)
-    (c .before .before .before .before .before .if2 .left) (c .before .before .before .before .if3 .taken)
-    (c .before .before .zero-to .ensures)
+returns-3 c = (
+  let c8 = c .before .before .before .before .before .before .before .before in let c9 = c8 .before in
+      let c10 = c9 .before in let start = c10 .before .before .before .before .before .before .before in
+      zero-stands (start .pre .0) (c10 .cut-to .ensures) (c9 .cut-to2 .ensures) (c8 .count-of .ensures)
+      (c .before .before .before .before .before .before .before .count-of2 .ensures) (start .args .work .now)
+      (start .args .zero) (c .before .before .before .before .before .before .if1 .left)
+      (c .before .before .before .before .before .if2 .left) (c .before .before .before .before .if3 .taken)
+      (c .before .before .zero-to .ensures),
+  search needs,
+)
 
 product-requires : tie.Need-product-requires
 product-requires c κs =
@@ -124,14 +130,16 @@ product-requires c κs =
     (start .pre .1 .0) (start .pre .1 .1)
 
 returns-4 : tie.Need-returns-4
-returns-4 c =
-    let c8 = c .before .before .before .before .before .before .before .before in let c9 = c8 .before in
-    let c10 = c9 .before in let c11 = c10 .before in let c12 = c11 .before in let c13 = c12 .before in
-    let start = c13 .before .before .before .before .before .before .before in
-    product-stands (start .pre .0) (c13 .cut-to .ensures) (c12 .cut-to2 .ensures) (c11 .count-of .ensures)
-    (c10 .count-of2 .ensures) (start .args .work .now) (start .args .zero) (c9 .if1 .left) (c8 .if2 .left)
-    (c .before .before .before .before .before .before .before .if3 .left)
-    (c .before .before .before .before .product .ensures)
+returns-4 c = (
+  let c8 = c .before .before .before .before .before .before .before .before in let c9 = c8 .before in
+      let c10 = c9 .before in let c11 = c10 .before in let c12 = c11 .before in let c13 = c12 .before in
+      let start = c13 .before .before .before .before .before .before .before in
+      product-stands (start .pre .0) (c13 .cut-to .ensures) (c12 .cut-to2 .ensures) (c11 .count-of .ensures)
+      (c10 .count-of2 .ensures) (start .args .work .now) (start .args .zero) (c9 .if1 .left) (c8 .if2 .left)
+      (c .before .before .before .before .before .before .before .if3 .left)
+      (c .before .before .before .before .product .ensures),
+  search needs,
+)
 
 pub pair-front-spec : {M : Type 1} → statement M
 pair-front-spec =

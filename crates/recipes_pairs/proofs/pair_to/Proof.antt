@@ -37,7 +37,7 @@ stands c =
     let start = c5 .before .before .before .before .before .before .before in
     rw (take-at (c5 .load-pair .last .1 .1 .1 .1 .1 .1 .1 .1 .1 .1 .0)
     (drop (8 * start .args .n) (start .args .scratch .now)) (8 * start .args .n) (used c5)) at
-    (c .pair-front .ensures)
+    (c .pair-front .ensures .0)
 
 lasts : (c : tie.After-pair-front) →
     let start = c .before .before .before .before .before .before .before .before .before .before .before .before in
@@ -135,6 +135,9 @@ pad-requires c κs =
       omega (arith, g .room, l),
     )
 
+same-length-2 : tie.Need-same-length-2
+same-length-2 c = search needs
+
 returns : tie.Need-returns
 returns c =
     let c9 = c .before .before .before .before .before .before .before .before .before in
@@ -146,15 +149,18 @@ returns c =
           (lying (start .args .yi) (start .args .coefficients .now) (take (start .args .at) (start .args .pool .now))
           (start .args .yf) (start .args .y) .coeffs) (c14 .load-pair .ensures .1) (c14 .load-pair .ensures .0)
           (stands c9),
-      value-kept (start .pre .0) (lying (start .args .xi) (start .args .coefficients .now)
-          (take (start .args .at) (start .args .pool .now)) (start .args .xf) (start .args .x) .coeffs)
-          (lying (start .args .yi) (start .args .coefficients .now) (take (start .args .at) (start .args .pool .now))
-          (start .args .yf) (start .args .y) .coeffs) (c14 .load-pair .ensures .1) (c14 .load-pair .ensures .0)
-          (stands c9) (c .before .before .before .before .count-of .ensures) refl
-          (part-kept (start .args .at) (start .args .at + start .args .n) (start .args .pool .now)
-          (c9 .pair-front .last .1 .1 .1 .1 .1 .1 .1 .0)
-          (c9 .pair-front .kept .1 .1 .1 .1 .1 .1 .1 .0 ∙ simp (length-take, length-drop) (omega (arith, g .room)))
-          (omega arith) (g .room)) (c .before .before .pad .ensures),
+      (
+        value-kept (start .pre .0) (lying (start .args .xi) (start .args .coefficients .now)
+            (take (start .args .at) (start .args .pool .now)) (start .args .xf) (start .args .x) .coeffs)
+            (lying (start .args .yi) (start .args .coefficients .now) (take (start .args .at) (start .args .pool .now))
+            (start .args .yf) (start .args .y) .coeffs) (c14 .load-pair .ensures .1) (c14 .load-pair .ensures .0)
+            (stands c9) (c .before .before .before .before .count-of .ensures) refl
+            (part-kept (start .args .at) (start .args .at + start .args .n) (start .args .pool .now)
+            (c9 .pair-front .last .1 .1 .1 .1 .1 .1 .1 .0)
+            (c9 .pair-front .kept .1 .1 .1 .1 .1 .1 .1 .0 ∙ simp (length-take, length-drop) (omega (arith, g .room)))
+            (omega arith) (g .room)) (c .before .before .pad .ensures),
+        same-length-2 c,
+      ),
     )
 
 pub pair-to-spec : {M : Type 1} → statement M
@@ -164,4 +170,4 @@ pair-to-spec =
     (λ c. search needs) (λ c. search needs) slice-aggregate-load-pair (λ c. search needs) slice-aggregate-load-pair-2
     load-pair-requires add-end (λ c. search needs) slice-aggregate-pair-front mul-pair-front (λ c. search needs)
     (λ c. search needs) (λ c. search needs) pair-front-requires count-of-requires add-pad pad-requires
-    (λ c. search needs) (λ c. search needs) returns)
+    (λ c. search needs) same-length-2 returns)

@@ -26,18 +26,24 @@ change-from-requires c κs =
       lies-source (start .args .coefficients .now) (take (start .args .at) (start .args .pool .now)) (start .pre .1 .0) (length-take-le _ _ (ends start .0)),
     )
 
+same-length-2 : tie.Need-same-length-2
+same-length-2 c = search needs
+
 returns : tie.Need-returns
 returns c =
     let c7 = c .before .before .before .before .before .before .before in
     let start = c7 .before .before .before .before .before .before in (
       c7 .change-from .ensures .0,
-      front-kept (c7 .change-from .last .1 .1 .1 .1 .1 .1 .1 .1 .1 .0)
-          (drop (start .args .n) (start .args .scratch .now)) (c .before .before .keep .ensures)
-          (c7 .change-from .kept .1 .1 .1 .1 .1 .1 .1 .1 .1 .0 ∙ length-take-le _ _ (ends start .1))
-          (c7 .change-from .ensures .1 ∙ ap (λ (k : ℕ).
-          padded k (changedPoly (start .args .kind) (start .args .v) (start .args .d)
-          (lying (start .args .input) (start .args .coefficients .now) (take (start .args .at) (start .args .pool .now))
-          (start .args .from) (start .args .x)) .coeffs)) (sym (start .pre .0 .room))),
+      (
+        front-kept (c7 .change-from .last .1 .1 .1 .1 .1 .1 .1 .1 .1 .0)
+            (drop (start .args .n) (start .args .scratch .now)) (c .before .before .keep .ensures)
+            (c7 .change-from .kept .1 .1 .1 .1 .1 .1 .1 .1 .1 .0 ∙ length-take-le _ _ (ends start .1))
+            (c7 .change-from .ensures .1 ∙ ap (λ (k : ℕ).
+            padded k (changedPoly (start .args .kind) (start .args .v) (start .args .d)
+            (lying (start .args .input) (start .args .coefficients .now) (take (start .args .at) (start .args .pool .now))
+            (start .args .from) (start .args .x)) .coeffs)) (sym (start .pre .0 .room))),
+        same-length-2 c,
+      ),
     )
 
 pub change-to-spec : {M : Type 1} → statement M
@@ -45,4 +51,4 @@ change-to-spec =
     tie.close
     (tie.spec
     (λ c. search needs) slice-aggregate-change-from (λ c. search needs) slice-aggregate-change-from-2
-    change-from-requires (λ c κs. search needs) (λ c. search needs) (λ c. search needs) returns)
+    change-from-requires (λ c κs. search needs) (λ c. search needs) same-length-2 returns)

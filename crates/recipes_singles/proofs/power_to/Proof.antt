@@ -63,6 +63,9 @@ power-loaded-requires c κs =
     powering (start .pre .0) (length-take-le _ _ (rooms (c .before .before .before .before)))
     (simp (length-take, length-drop) (omega (arith, g .room)))
 
+same-length-2 : tie.Need-same-length-2
+same-length-2 c = search needs
+
 returns : tie.Need-returns
 returns c =
     let c4 = c .before .before .before .before in let c9 = c4 .before .before .before .before .before in
@@ -73,15 +76,18 @@ returns c =
           (length-operand (start .args .from) (stored (start .args .x))
           (source (start .args .input) (start .args .coefficients .now) (take (start .args .at) (start .args .pool .now)))
           (bounds start)) (c4 .power-loaded .ensures .0),
-      kept-as (power-places (start .pre .0) (lying (start .args .input) (start .args .coefficients .now)
-          (take (start .args .at) (start .args .pool .now)) (start .args .from) (start .args .x) .coeffs) (loaded c9)
-          (length-operand (start .args .from) (stored (start .args .x))
-          (source (start .args .input) (start .args .coefficients .now)
-          (take (start .args .at) (start .args .pool .now))) (bounds start)) (c4 .power-loaded .ensures .1))
-          (part-kept (start .args .at) (start .args .at + start .args .n) (start .args .pool .now)
-          (c4 .power-loaded .last .1 .1 .1 .1 .1 .0)
-          (c4 .power-loaded .kept .1 .1 .1 .1 .1 .0 ∙ simp (length-take, length-drop) (omega (arith, g .room)))
-          (omega arith) (g .room)),
+      (
+        kept-as (power-places (start .pre .0) (lying (start .args .input) (start .args .coefficients .now)
+            (take (start .args .at) (start .args .pool .now)) (start .args .from) (start .args .x) .coeffs) (loaded c9)
+            (length-operand (start .args .from) (stored (start .args .x))
+            (source (start .args .input) (start .args .coefficients .now)
+            (take (start .args .at) (start .args .pool .now))) (bounds start)) (c4 .power-loaded .ensures .1 .0))
+            (part-kept (start .args .at) (start .args .at + start .args .n) (start .args .pool .now)
+            (c4 .power-loaded .last .1 .1 .1 .1 .1 .0)
+            (c4 .power-loaded .kept .1 .1 .1 .1 .1 .0 ∙ simp (length-take, length-drop) (omega (arith, g .room)))
+            (omega arith) (g .room)),
+        same-length-2 c,
+      ),
     )
 
 pub power-to-spec : {M : Type 1} → statement M
@@ -91,4 +97,4 @@ power-to-spec =
     (λ c. search needs) (λ c. search needs) slice-aggregate-load-base (λ c. search needs) slice-aggregate-load-base-2
     load-base-requires (λ c. search needs) (λ c. search needs) slice-aggregate-power-loaded (λ c. search needs)
     (λ c. search needs) (λ c. search needs) (λ c. search needs) power-loaded-requires (λ c. search needs)
-    (λ c. search needs) returns)
+    same-length-2 returns)

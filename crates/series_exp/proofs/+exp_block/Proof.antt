@@ -39,10 +39,12 @@ exp-block-same-length : (t : ℕ) → exp-block-lts.Need-same-length (exp-block-
 exp-block-same-length t c = simp length-set
 
 exp-block-returns : (t : ℕ) → exp-block-lts.Need-returns (exp-block-claims t) (exp-block-at t) exp-block.Post
-exp-block-returns t c =
-    let start = c .before .before .before .before in
-    block-none (start .args .head) (start .args .lx) (start .args .r) (start .args .xs .now) (start .args .work .now)
-    (c .if1 .taken) (room t start (c .if1 .taken))
+exp-block-returns t c = (
+  let start = c .before .before .before .before in
+      block-none (start .args .head) (start .args .lx) (start .args .r) (start .args .xs .now) (start .args .work .now)
+      (c .if1 .taken) (room t start (c .if1 .taken)),
+  search needs,
+)
 
 exp-block-add-exp-block : (t : ℕ) → exp-block-lts.Need-add-exp-block (exp-block-claims t) (exp-block-at t) exp-block.Post
 exp-block-add-exp-block t c = omega (arith, (c .before .before .before .before) .pre .1 .1 .within)
@@ -71,13 +73,15 @@ exp-block-same-length-3 : (t : ℕ) → exp-block-lts.Need-same-length-3 (exp-bl
 exp-block-same-length-3 t c = search needs
 
 exp-block-returns-2 : (t : ℕ) → exp-block-lts.Need-returns-2 (exp-block-claims t) (exp-block-at t) exp-block.Post
-exp-block-returns-2 t c =
-    let c4 = c .before .before .before .before in
-    let c11 = c4 .before .before .before .before .before .before .before in let c14 = c11 .before .before .before in
-    let start = c14 .before .before .before .before in
-    block-more (start .args .head) (start .args .lx) (start .args .r) (start .args .xs .now)
-    (c11 .exp-block .last .1 .1 .1 .1 .1 .1 .1 .1 .0) (c4 .exp-rows .last .1 .1 .1 .1 .1 .1 .1 .0)
-    (some t start (c14 .if1 .left)) (start .pre .1 .1 .operand) (c11 .exp-block .ensures) (c4 .exp-rows .ensures)
+exp-block-returns-2 t c = (
+  let c4 = c .before .before .before .before in
+      let c11 = c4 .before .before .before .before .before .before .before in let c14 = c11 .before .before .before in
+      let start = c14 .before .before .before .before in
+      block-more (start .args .head) (start .args .lx) (start .args .r) (start .args .xs .now)
+      (c11 .exp-block .last .1 .1 .1 .1 .1 .1 .1 .1 .0) (c4 .exp-rows .last .1 .1 .1 .1 .1 .1 .1 .0)
+      (some t start (c14 .if1 .left)) (start .pre .1 .1 .operand) (c11 .exp-block .ensures .0) (c4 .exp-rows .ensures .0),
+  search needs,
+)
 
 pub +exp-block-spec : {M : Type 1} → statement M
 +exp-block-spec = close μ-exp-block λ t. exp-block-lts.spec (exp-block-claims t)

@@ -78,16 +78,18 @@ copy-requires c κs =
     )
 
 returns : tie.Need-returns
-returns c =
-    let c11 = c .before .before .before .before .before .before .before .before .before .before .before in
-    let start = c11 .before .before .before .before .before .before .before in
-    let s : ℕ = at (start .args .t7) (start .args .v) in
-    let d : start .args .k * s + s - start .args .k * s ≡ s = omega arith in
-    row-kept (start .pre .0) (start .args .work .now) (start .pre .1) (c11 .gather .ensures)
-    (c .before .before .before .before .before .before .before .divide-by .ensures)
-    (c .before .before .copy .ensures) (length-part (start .args .k * s) (start .args .k * s + s)
-    (start .args .work .now) (omega arith) (omega (arith, fits start, start .pre .1 .ends, start .pre .1 .room))
-    ∙ d) d
+returns c = (
+  let c11 = c .before .before .before .before .before .before .before .before .before .before .before in
+      let start = c11 .before .before .before .before .before .before .before in
+      let s : ℕ = at (start .args .t7) (start .args .v) in
+      let d : start .args .k * s + s - start .args .k * s ≡ s = omega arith in
+      row-kept (start .pre .0) (start .args .work .now) (start .pre .1) (c11 .gather .ensures)
+      (c .before .before .before .before .before .before .before .divide-by .ensures)
+      (c .before .before .copy .ensures) (length-part (start .args .k * s) (start .args .k * s + s)
+      (start .args .work .now) (omega arith) (omega (arith, fits start, start .pre .1 .ends, start .pre .1 .room))
+      ∙ d) d,
+  search needs,
+)
 
 pub exp-row-spec : {M : Type 1} → statement M
 exp-row-spec =

@@ -5,6 +5,7 @@ use Prim.Native.Nat.{_+_, _-_, _*_, _≤_}
 use lib.ListN.{length, take, drop}
 use lib.Seq.{length-take-le}
 use borrow.Rule.Slice.PartMut.{putMid}
+use borrow.Author.Needs.{needs}
 use Rattle.lists.specs.Four.{at}
 use Rattle.lists.specs.Part.{length-part, Kept, below-less}
 use Rattle.lists.specs.Stack.{stack}
@@ -170,7 +171,7 @@ loop-again c =
       omega (arith, c7 .loop-test .taken),
       (
         row-more (start .args .t2) (start .args .t4) (start .args .v) (start .args .xs .now) (c8 .loop .inv .1 .0)
-            (c4 .exp-row .ensures) (row-fits (room c7)),
+            (c4 .exp-row .ensures .0) (row-fits (room c7)),
         same-len (at (start .args .t5) (start .args .v)) (c8 .loop .row)
             (c4 .exp-row .last .1 .1 .1 .1 .1 .1 .1 .1 .1 .0)
             (c4 .exp-row .kept .1 .1 .1 .1 .1 .1 .1 .1 .1 .0) ∙ c8 .loop .inv .1 .1,
@@ -184,14 +185,16 @@ same-length-2 : tie.Need-same-length-2 Inv-loop μ-loop
 same-length-2 c = c .before .loop .inv .1 .1
 
 returns : tie.Need-returns Inv-loop μ-loop
-returns c =
-    let start = c .before .before .before .before .before .before .before .before .before in
-    stacked-all (start .args .t4) (start .pre .1 .1) (c .before .loop .inv .1 .0)
-    (omega (arith, c .before .loop .inv .0, c .loop-test .left))
-    ∙ ap (stack (at (start .args .t4) (start .args .v) - 1)
-    (nextRow (start .args .t2) (start .args .t4) (start .args .v) (start .args .xs .now)))
-    (below-less (first-under (start .pre .0) (start .pre .1 .0) (start .pre .1 .1))
-    (kept (c .before .before .before .before) .below) .head)
+returns c = (
+  let start = c .before .before .before .before .before .before .before .before .before in
+      stacked-all (start .args .t4) (start .pre .1 .1) (c .before .loop .inv .1 .0)
+      (omega (arith, c .before .loop .inv .0, c .loop-test .left))
+      ∙ ap (stack (at (start .args .t4) (start .args .v) - 1)
+      (nextRow (start .args .t2) (start .args .t4) (start .args .v) (start .args .xs .now)))
+      (below-less (first-under (start .pre .0) (start .pre .1 .0) (start .pre .1 .1))
+      (kept (c .before .before .before .before) .below) .head),
+  search needs,
+)
 
 pub exp-rows-spec : {M : Type 1} → statement M
 exp-rows-spec =

@@ -51,10 +51,12 @@ log-block-same-length : (t : ℕ) → log-block-lts.Need-same-length (log-block-
 log-block-same-length t c = simp length-set
 
 log-block-returns : (t : ℕ) → log-block-lts.Need-returns (log-block-claims t) (log-block-at t) log-block.Post
-log-block-returns t c =
-    let start = c .before .before .before .before in
-    log-none (start .args .head) (start .args .t3) (start .args .t5) (start .args .xs .now) (start .args .work .now)
-    (c .if1 .taken) (room t start (c .if1 .taken))
+log-block-returns t c = (
+  let start = c .before .before .before .before in
+      log-none (start .args .head) (start .args .t3) (start .args .t5) (start .args .xs .now) (start .args .work .now)
+      (c .if1 .taken) (room t start (c .if1 .taken)),
+  search needs,
+)
 
 log-block-mul-if2 : (t : ℕ) → log-block-lts.Need-mul-if2 (log-block-claims t) (log-block-at t) log-block.Post
 log-block-mul-if2 t c = omega (arith, some t (c .before .before .before .before) (c .if1 .left))
@@ -103,15 +105,17 @@ log-block-same-length-2 t c =
     (c .before .before .log-line .last .1 .1 .1 .0) (c .before .before .log-line .kept .1 .1 .1 .0)
 
 log-block-returns-2 : (t : ℕ) → log-block-lts.Need-returns-2 (log-block-claims t) (log-block-at t) log-block.Post
-log-block-returns-2 t c =
-    let c5 = c .before .before .before .before .before in let start = c5 .before .before .before .before in
-    log-alone (start .args .head) (start .args .t3) (start .args .t5) (start .args .xs .now) (start .args .work .now)
-    (some t start (c5 .if1 .left))
-    (sym (alone-by (start .args .t5) (start .pre .1 .0 .shaped .strided .by-r) (some t start (c5 .if1 .left)))
-    ∙ c .before .before .before .before .if2 .taken) (c .before .before .log-line .ensures)
-    (length-take-le (at (start .args .t5) (start .args .v)) (start .args .work .now) (line t c5))
-    (c .before .before .log-line .kept .1 .1 .1 .0
-    ∙ (length-take-le (at (start .args .t5) (start .args .v)) (start .args .work .now) (line t c5)))
+log-block-returns-2 t c = (
+  let c5 = c .before .before .before .before .before in let start = c5 .before .before .before .before in
+      log-alone (start .args .head) (start .args .t3) (start .args .t5) (start .args .xs .now) (start .args .work .now)
+      (some t start (c5 .if1 .left))
+      (sym (alone-by (start .args .t5) (start .pre .1 .0 .shaped .strided .by-r) (some t start (c5 .if1 .left)))
+      ∙ c .before .before .before .before .if2 .taken) (c .before .before .log-line .ensures)
+      (length-take-le (at (start .args .t5) (start .args .v)) (start .args .work .now) (line t c5))
+      (c .before .before .log-line .kept .1 .1 .1 .0
+      ∙ (length-take-le (at (start .args .t5) (start .args .v)) (start .args .work .now) (line t c5))),
+  search needs,
+)
 
 log-block-add-log-block : (t : ℕ) → log-block-lts.Need-add-log-block (log-block-claims t) (log-block-at t) log-block.Post
 log-block-add-log-block t c = omega (arith, ((c .before .before .before .before .before) .pre .1 .1) .within)
@@ -141,18 +145,20 @@ log-block-same-length-4 : (t : ℕ) → log-block-lts.Need-same-length-4 (log-bl
 log-block-same-length-4 t c = search needs
 
 log-block-returns-3 : (t : ℕ) → log-block-lts.Need-returns-3 (log-block-claims t) (log-block-at t) log-block.Post
-log-block-returns-3 t c =
-    let c4 = c .before .before .before .before in
-    let c11 = c4 .before .before .before .before .before .before .before in let c14 = c11 .before .before .before in
-    let c15 = c14 .before in let start = c15 .before .before .before .before in
-    log-others (start .args .head) (start .args .t3) (start .args .t5) (start .args .xs .now)
-    (c11 .log-block .last .1 .1 .1 .1 .1 .1 .1 .1 .0) (c4 .log-rows .last .1 .1 .1 .1 .1 .1 .1 .0)
-    (some t start (c15 .if1 .left))
-    (sym (alone-by (start .args .t5) (start .pre .1 .0 .shaped .strided .by-r) (some t start (c15 .if1 .left)))
-    ∙ c14 .if2 .left) (start .pre .1 .1 .operand)
-    (not-one (start .pre .1 .0) (some t start (c15 .if1 .left))
-    (sym (alone-by (start .args .t5) (start .pre .1 .0 .shaped .strided .by-r) (some t start (c15 .if1 .left)))
-    ∙ c14 .if2 .left)) (c11 .log-block .ensures) (c4 .log-rows .ensures)
+log-block-returns-3 t c = (
+  let c4 = c .before .before .before .before in
+      let c11 = c4 .before .before .before .before .before .before .before in let c14 = c11 .before .before .before in
+      let c15 = c14 .before in let start = c15 .before .before .before .before in
+      log-others (start .args .head) (start .args .t3) (start .args .t5) (start .args .xs .now)
+      (c11 .log-block .last .1 .1 .1 .1 .1 .1 .1 .1 .0) (c4 .log-rows .last .1 .1 .1 .1 .1 .1 .1 .0)
+      (some t start (c15 .if1 .left))
+      (sym (alone-by (start .args .t5) (start .pre .1 .0 .shaped .strided .by-r) (some t start (c15 .if1 .left)))
+      ∙ c14 .if2 .left) (start .pre .1 .1 .operand)
+      (not-one (start .pre .1 .0) (some t start (c15 .if1 .left))
+      (sym (alone-by (start .args .t5) (start .pre .1 .0 .shaped .strided .by-r) (some t start (c15 .if1 .left)))
+      ∙ c14 .if2 .left)) (c11 .log-block .ensures .0) (c4 .log-rows .ensures .0),
+  search needs,
+)
 
 pub +log-block-spec : {M : Type 1} → statement M
 +log-block-spec = close μ-log-block λ t. log-block-lts.spec (log-block-claims t)

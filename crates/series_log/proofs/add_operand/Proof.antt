@@ -25,12 +25,14 @@ same-length-2 : tie.Need-same-length-2
 same-length-2 c = search needs
 
 returns : tie.Need-returns
-returns c =
-    let start = c .before .before .before .before .before .before .before .before .before .before .before .before in
-    c .before .before .join-block .ensures ∙ ap
-    (λ (l : List Float). table (count (start .args .ar))
-    (λ i. joinAt false (getD (start .args .row .now) i nan) (block (start .args .ax) l)
-    (index (start .args .ar) i))) (c .before .before .before .before .before .before .before .multiply .ensures)
+returns c = (
+  let start = c .before .before .before .before .before .before .before .before .before .before .before .before in
+      c .before .before .join-block .ensures ∙ ap
+      (λ (l : List Float). table (count (start .args .ar))
+      (λ i. joinAt false (getD (start .args .row .now) i nan) (block (start .args .ax) l)
+      (index (start .args .ar) i))) (c .before .before .before .before .before .before .before .multiply .ensures),
+  search needs,
+)
 
 pub add-operand-spec : {M : Type 1} → statement M
 add-operand-spec = tie.close (tie.spec multiply-requires join-block-requires same-length same-length-2 returns)

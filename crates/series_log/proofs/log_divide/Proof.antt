@@ -26,27 +26,29 @@ copy-requires c κs =
     omega (arith, (length-take-le (length (start .args .row .now)) (start .args .work .now) (let e = start .pre .work in omega arith)))
 
 returns : tie.Need-returns
-returns c =
-    let c9 = c .before .before .before .before .before .before .before .before .before in
-    let c13 = c9 .before .before .before .before in let start = c13 .before .before .before .before .before .before in
-    let s : ℕ = length (start .args .row .now) in
-    let t : ℕ = length (start .args .xs .now) in
-    let w1 : List Float = c13 .copy .last .1 .0 ++ drop s (start .args .work .now) in
-    let w2 : List Float = putMid s (s + t - s) w1 (c9 .copy2 .last .1 .0) in
-    let g = start .pre .less in let h = start .pre .work in
-    let d : s + t - s ≡ t = omega arith in
-    let l : length w1 ≡ length (start .args .work .now) =
-    same-len s (start .args .work .now) (c13 .copy .last .1 .0) (c13 .copy .kept .1 .0) in
-    let e =
-    divisor-is (start .pre) (start .args .xs .now) (start .args .row .now) (start .args .work .now) refl refl refl
-    (c13 .copy .ensures) (length-take-le (length (start .args .row .now)) (start .args .work .now)
-    (let e = start .pre .work in omega arith)) (c9 .copy2 .ensures)
-    (length-part s (s + t) w1 (omega arith) (omega arith) ∙ d) d in
-    c .before .before .before .before .recur .ensures
-    ∙ (ap (λ (l : List Float). recurred (block (start .args .ar) l) (block (start .args .ax) (part s (s + t) w2))
-    (start .args .ar)) (e .0) ∙ ap (λ (l : List Float).
-    recurred (block (start .args .ar) (start .args .row .now)) (block (start .args .ax) l) (start .args .ar))
-    (e .1))
+returns c = (
+  let c9 = c .before .before .before .before .before .before .before .before .before in
+      let c13 = c9 .before .before .before .before in let start = c13 .before .before .before .before .before .before in
+      let s : ℕ = length (start .args .row .now) in
+      let t : ℕ = length (start .args .xs .now) in
+      let w1 : List Float = c13 .copy .last .1 .0 ++ drop s (start .args .work .now) in
+      let w2 : List Float = putMid s (s + t - s) w1 (c9 .copy2 .last .1 .0) in
+      let g = start .pre .less in let h = start .pre .work in
+      let d : s + t - s ≡ t = omega arith in
+      let l : length w1 ≡ length (start .args .work .now) =
+      same-len s (start .args .work .now) (c13 .copy .last .1 .0) (c13 .copy .kept .1 .0) in
+      let e =
+      divisor-is (start .pre) (start .args .xs .now) (start .args .row .now) (start .args .work .now) refl refl refl
+      (c13 .copy .ensures) (length-take-le (length (start .args .row .now)) (start .args .work .now)
+      (let e = start .pre .work in omega arith)) (c9 .copy2 .ensures)
+      (length-part s (s + t) w1 (omega arith) (omega arith) ∙ d) d in
+      c .before .before .before .before .recur .ensures .0
+      ∙ (ap (λ (l : List Float). recurred (block (start .args .ar) l) (block (start .args .ax) (part s (s + t) w2))
+      (start .args .ar)) (e .0) ∙ ap (λ (l : List Float).
+      recurred (block (start .args .ar) (start .args .row .now)) (block (start .args .ax) l) (start .args .ar))
+      (e .1)),
+  search needs,
+)
 
 pub log-divide-spec : {M : Type 1} → statement M
 log-divide-spec =

@@ -154,7 +154,7 @@ returns-2 c =
       left-long (start .pre .0) (start .pre .1) (start .args .xs .now) (start .args .work .now)
           (c21 .first-turn .ensures) (c17 .gather-rows .ensures) (c13 .turn .ensures) (c10 .if1 .left)
           (c9 .after-of .ensures) (c8 .after-of2 .ensures)
-          (operand-row (start .pre .0) (start .pre .1) (start .args .xs .now)) (c4 .add-operand .ensures),
+          (operand-row (start .pre .0) (start .pre .1) (start .args .xs .now)) (c4 .add-operand .ensures .0),
       kept-put (2 * start .args .n) (2 * start .args .n + (at (start .args .t3) (start .args .v)))
           (start .args .work .now) {xs = c4 .add-operand .last .1 .1 .1 .1 .0}
           (c4 .add-operand .kept .1 .1 .1 .1 .0

@@ -272,47 +272,49 @@ same-length-2 c =
     made c12 ∙ sym (start .pre .1 .full)
 
 returns : tie.Need-returns
-returns c =
-    let c12 = c .before .before .before .before .before .before .before .before .before .before .before .before in
-    let c18 = c12 .before .before .before .before .before .before in let c22 = c18 .before .before .before .before in
-    let c23 = c22 .before in let c28 = c23 .before .before .before .before .before in
-    let c31 = c28 .before .before .before in let start = c31 .before .before .before in
-    let d : 2 * start .args .n + 8 * (at (start .args .t5) (start .args .v)) - 2 * start .args .n
-    ≡ 8 * (at (start .args .t5) (start .args .v)) = omega arith in
-    let e : (start .args .k) * (at (start .args .t5) (start .args .v)) + (at (start .args .t5) (start .args .v))
-    - start .args .k * (at (start .args .t5) (start .args .v))
-    ≡ (at (start .args .t5) (start .args .v)) = omega arith in
-    let f : (start .args .n) + start .args .k * (at (start .args .t5) (start .args .v))
-    + (at (start .args .t5) (start .args .v))
-    - (start .args .n + start .args .k * (at (start .args .t5) (start .args .v)))
-    ≡ (at (start .args .t5) (start .args .v)) = omega arith in
-    log-rowed (start .pre .0) (start .pre .1) (start .args .work .now) (start .args .xs .now)
-    (c18 .log-divide .last .1 .1 .1 .0) refl (c28 .log-gather .ensures .0) (c28 .log-gather .ensures .1)
-    (c23 .after-of .ensures) (c22 .after-of2 .ensures) (c18 .log-divide .ensures)
-    (c18 .log-divide .kept .1 .1 .1 .0
-    ∙ (length-part (2 * start .args .n) (2 * start .args .n + 8 * (at (start .args .t5) (start .args .v)))
-    (c28 .log-gather .last .1 .1 .1 .1 .1 .1 .1 .1 .0) (omega arith)
-    (omega (
-      arith,
-      log-fits (start .pre .0) (start .pre .1),
-      log-half (start .pre .0) (start .pre .1),
-      (start .pre .1) .work,
-      rooms c31,
-      c28 .log-gather .ensures .1 .len,
-    )) ∙ d)) d (c12 .divide-by .ensures) (made c12)
-    (c .before .before .before .before .before .before .before .copy .ensures)
-    (length-part (start .args .k * (at (start .args .t5) (start .args .v)))
-    (start .args .k * (at (start .args .t5) (start .args .v)) + (at (start .args .t5) (start .args .v)))
-    (putMid (2 * start .args .n) (2 * start .args .n + 8 * (at (start .args .t5) (start .args .v))
-    - 2 * start .args .n) (c28 .log-gather .last .1 .1 .1 .1 .1 .1 .1 .1 .0) (c18 .log-divide .last .1 .1 .1 .0))
-    (omega arith) (omega (
-      arith,
-      log-fits (start .pre .0) (start .pre .1),
-      log-half (start .pre .0) (start .pre .1),
-      (start .pre .1) .work,
-      rooms c31,
-      len2 c18,
-    )) ∙ e) e (c .before .before .scale .ensures) f
+returns c = (
+  let c12 = c .before .before .before .before .before .before .before .before .before .before .before .before in
+      let c18 = c12 .before .before .before .before .before .before in let c22 = c18 .before .before .before .before in
+      let c23 = c22 .before in let c28 = c23 .before .before .before .before .before in
+      let c31 = c28 .before .before .before in let start = c31 .before .before .before in
+      let d : 2 * start .args .n + 8 * (at (start .args .t5) (start .args .v)) - 2 * start .args .n
+      ≡ 8 * (at (start .args .t5) (start .args .v)) = omega arith in
+      let e : (start .args .k) * (at (start .args .t5) (start .args .v)) + (at (start .args .t5) (start .args .v))
+      - start .args .k * (at (start .args .t5) (start .args .v))
+      ≡ (at (start .args .t5) (start .args .v)) = omega arith in
+      let f : (start .args .n) + start .args .k * (at (start .args .t5) (start .args .v))
+      + (at (start .args .t5) (start .args .v))
+      - (start .args .n + start .args .k * (at (start .args .t5) (start .args .v)))
+      ≡ (at (start .args .t5) (start .args .v)) = omega arith in
+      log-rowed (start .pre .0) (start .pre .1) (start .args .work .now) (start .args .xs .now)
+      (c18 .log-divide .last .1 .1 .1 .0) refl (c28 .log-gather .ensures .0) (c28 .log-gather .ensures .1)
+      (c23 .after-of .ensures) (c22 .after-of2 .ensures) (c18 .log-divide .ensures .0)
+      (c18 .log-divide .kept .1 .1 .1 .0
+      ∙ (length-part (2 * start .args .n) (2 * start .args .n + 8 * (at (start .args .t5) (start .args .v)))
+      (c28 .log-gather .last .1 .1 .1 .1 .1 .1 .1 .1 .0) (omega arith)
+      (omega (
+        arith,
+        log-fits (start .pre .0) (start .pre .1),
+        log-half (start .pre .0) (start .pre .1),
+        (start .pre .1) .work,
+        rooms c31,
+        c28 .log-gather .ensures .1 .len,
+      )) ∙ d)) d (c12 .divide-by .ensures) (made c12)
+      (c .before .before .before .before .before .before .before .copy .ensures)
+      (length-part (start .args .k * (at (start .args .t5) (start .args .v)))
+      (start .args .k * (at (start .args .t5) (start .args .v)) + (at (start .args .t5) (start .args .v)))
+      (putMid (2 * start .args .n) (2 * start .args .n + 8 * (at (start .args .t5) (start .args .v))
+      - 2 * start .args .n) (c28 .log-gather .last .1 .1 .1 .1 .1 .1 .1 .1 .0) (c18 .log-divide .last .1 .1 .1 .0))
+      (omega arith) (omega (
+        arith,
+        log-fits (start .pre .0) (start .pre .1),
+        log-half (start .pre .0) (start .pre .1),
+        (start .pre .1) .work,
+        rooms c31,
+        len2 c18,
+      )) ∙ e) e (c .before .before .scale .ensures) f,
+  same-length-2 c,
+)
 
 pub log-row-spec : {M : Type 1} → statement M
 log-row-spec =

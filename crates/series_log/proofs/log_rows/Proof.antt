@@ -4,6 +4,7 @@ use Prim.Native.Nat.{_-_, _≤_}
 use lib.ListN.{length, take}
 use lib.Seq.{length-take-le}
 use borrow.Table.Elements.{same-len}
+use borrow.Author.Needs.{needs}
 use Rattle.lists.specs.Four.{at}
 use Rattle.shape_words.specs.Lengths.{lengths-pos, row-small}
 use Rattle.shape_words.specs.InRow.{inRow}
@@ -79,7 +80,7 @@ loop-again c =
       omega (arith, c7 .loop-test .taken),
       (
         log-more (start .args .lx) (start .args .t4) (start .args .v) (start .args .xs .now) (c8 .loop .inv .1 .0)
-            (c4 .log-row .ensures) (log-under (start .pre .0) (room c7))
+            (c4 .log-row .ensures .0) (log-under (start .pre .0) (room c7))
             (let w = (start .pre .1 .0) .work in omega arith),
         same-len (at (start .args .t5) (start .args .v)) (c8 .loop .row)
             (c4 .log-row .last .1 .1 .1 .1 .1 .1 .1 .1 .1 .0)
@@ -94,9 +95,11 @@ same-length-2 : tie.Need-same-length-2 Inv-loop μ-loop
 same-length-2 c = c .before .loop .inv .1 .1
 
 returns : tie.Need-returns Inv-loop μ-loop
-returns c =
-    let start = c .before .before .before .before .before in
-    log-all (start .args .t4) (start .pre .1 .1) (c .before .loop .inv .1 .0) (omega (arith, c .before .loop .inv .0, c .loop-test .left))
+returns c = (
+  let start = c .before .before .before .before .before in
+      log-all (start .args .t4) (start .pre .1 .1) (c .before .loop .inv .1 .0) (omega (arith, c .before .loop .inv .0, c .loop-test .left)),
+  search needs,
+)
 
 pub log-rows-spec : {M : Type 1} → statement M
 log-rows-spec =

@@ -3,7 +3,7 @@ use mathlib.Core.Path.{sym, ap, _∙_}
 use lib.ListN.{length-take}
 use Rattle.model.specs.declared.Refusal.{Refusal}
 use Rattle.sheet_text.specs.Put.{put-front}
-use Rattle.sheet.specs.Ended.{output-refused, output-solved}
+use Rattle.sheet.specs.Output.{output-refused, output-solved}
 use borrow.Author.Needs.{needs}
 use Rattle.sheet.proofs.answer.Statement.{statement}
 use Rattle.sheet.proofs.answer.Tie as tie

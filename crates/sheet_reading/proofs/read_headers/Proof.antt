@@ -34,8 +34,8 @@ returns c =
 word-at-requires : tie.Need-word-at-requires Inv-loop μ-loop
 word-at-requires c κs = omega (arith, headers-len (c .before .before .before .loop .inv))
 
-cast-at : tie.Need-cast-at Inv-loop μ-loop
-cast-at c = record { fits = omega (arith, headers-len (c .before .before .before .before .before .before .loop .inv)) }
+cast-bad-word : tie.Need-cast-bad-word Inv-loop μ-loop
+cast-bad-word c = record { fits = omega (arith, headers-len (c .before .before .before .before .before .before .loop .inv)) }
 
 same-length-2 : tie.Need-same-length-2 Inv-loop μ-loop
 same-length-2 c = headers-len (c .before .before .before .before .before .before .before .loop .inv)
@@ -43,7 +43,7 @@ same-length-2 c = headers-len (c .before .before .before .before .before .before
 returns-2 : tie.Need-returns-2 Inv-loop μ-loop
 returns-2 c =
     let c7 = c .before .before .before .before .before .before .before in
-    rw (c .at .ensures) (headers-1 (c7 .loop .inv) (omega (arith, headers-len (c7 .loop .inv)))
+    rw (c .bad-word .ensures) (headers-1 (c7 .loop .inv) (omega (arith, headers-len (c7 .loop .inv)))
     (c .before .before .before .before .before .is-line .ensures)
     (not-false _ (c .before .before .before .before .if1 .left)) (c .before .before .before .word-at .ensures)
     (c .before .before .is-good .ensures) (not-true _ (c .before .if2 .taken)))
@@ -74,5 +74,5 @@ read-headers-spec =
     Inv-loop
     μ-loop
     loop-holds (λ c. omega arith) mul-at is-line-requires (λ c κs. search needs) same-length returns word-at-requires
-    (λ c κs. search needs) cast-at (λ c κs. search needs) same-length-2 returns-2 (λ c. search needs)
+    (λ c κs. search needs) cast-bad-word (λ c κs. search needs) same-length-2 returns-2 (λ c. search needs)
     (λ c. search needs) add-i loop-less loop-again (λ c κs. search needs) same-length-3 returns-3)

@@ -117,7 +117,7 @@ returns-2 c =
       done-answer e h (value start) z (c .pack .ensures ∙ ap wordOf (head c9)),
       (
         kept-front (c18 .open-pair .result .n)
-            (kept-as (ap (λ (x : Poly). padded (c18 .open-pair .result .n) (x .coeffs)) (value-is c9)) (c9 .substitute-to .ensures .1))
+            (kept-as (ap (λ (x : Poly). padded (c18 .open-pair .result .n) (x .coeffs)) (value-is c9)) (c9 .substitute-to .ensures .1 .0))
             ∙ done-out e h (value start) z (start .args .out .now) n refl,
         done-scratch e h (value start) z (start .args .scratch .now) (c9 .substitute-to .last .1 .1 .1 .1 .1 .1 .1 .1 .1 .0)
             (ap (λ (k : ℕ). 8 * k) n) (used c9) (c .before .before .before .clear .ensures) (length-take-le _ _ (rooms c9)),

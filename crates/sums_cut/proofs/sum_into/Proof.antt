@@ -79,14 +79,16 @@ combine-requires c κs =
     (simp (length-take, length-drop) (omega (arith, c4 .count-of2 .ensures))) refl
 
 returns : tie.Need-returns
-returns c =
-    let c7 = c .before .before .before .before .before .before .before in let c8 = c7 .before in
-    let c11 = c8 .before .before .before in let c13 = c11 .before .before in let c14 = c13 .before in
-    let start = c14 .before .before .before .before .before in let a = start .args in
-    summing-is (start .pre) (c14 .cut-to .ensures) (c13 .cut-to2 .ensures) (a .minus) (a .a .now) (a .b .now)
-    (c11 .load-two .last .1 .1 .1 .1 .1 .1 .1 .0) (c11 .load-two .ensures)
-    (rw (← c8 .count-of .ensures) (first-part c7)) (rw (← c7 .count-of2 .ensures) (second-part c7))
-    (c .before .before .combine .ensures)
+returns c = (
+  let c7 = c .before .before .before .before .before .before .before in let c8 = c7 .before in
+      let c11 = c8 .before .before .before in let c13 = c11 .before .before in let c14 = c13 .before in
+      let start = c14 .before .before .before .before .before in let a = start .args in
+      summing-is (start .pre) (c14 .cut-to .ensures) (c13 .cut-to2 .ensures) (a .minus) (a .a .now) (a .b .now)
+      (c11 .load-two .last .1 .1 .1 .1 .1 .1 .1 .0) (c11 .load-two .ensures)
+      (rw (← c8 .count-of .ensures) (first-part c7)) (rw (← c7 .count-of2 .ensures) (second-part c7))
+      (c .before .before .combine .ensures),
+  search needs,
+)
 
 pub sum-into-spec : {M : Type 1} → statement M
 sum-into-spec =

@@ -10,10 +10,12 @@ slice-write-out : tie.Need-slice-write-out
 slice-write-out c = let p = c .before .before .before .pre in omega (arith, powers-some p, p .out)
 
 returns : tie.Need-returns
-returns c =
-    let start = c .before .before .before in let p = start .pre in
-    front-none (start .args .e) (start .args .limits) (lain 0 (start .args .la) (start .args .work .now))
-    (start .args .out .now) (c .if1 .taken) (omega (arith, powers-some p, p .out))
+returns c = (
+  let start = c .before .before .before in let p = start .pre in
+      front-none (start .args .e) (start .args .limits) (lain 0 (start .args .la) (start .args .work .now))
+      (start .args .out .now) (c .if1 .taken) (omega (arith, powers-some p, p .out)),
+  search needs,
+)
 
 keep-requires : tie.Need-keep-requires
 keep-requires c κs = let p = c .before .before .before .before .before .before .before .pre in
@@ -23,20 +25,24 @@ keep-requires c κs = let p = c .before .before .before .before .before .before 
     )
 
 returns-2 : tie.Need-returns-2
-returns-2 c =
-    let c5 = c .before .before .before .before .before in let c6 = c5 .before in
-    let start = c6 .before .before .before .before in let p = start .pre in
-    let h = powers-base p (omega (arith, c6 .if2 .taken)) in
-    front-same (start .args .e) (start .args .limits) (start .args .la) (start .args .work .now) (c6 .if2 .taken)
-    (c5 .count-of .ensures) (omega (arith, c5 .count-of .ensures, p .work)) (c .before .before .keep .ensures)
+returns-2 c = (
+  let c5 = c .before .before .before .before .before in let c6 = c5 .before in
+      let start = c6 .before .before .before .before in let p = start .pre in
+      let h = powers-base p (omega (arith, c6 .if2 .taken)) in
+      front-same (start .args .e) (start .args .limits) (start .args .la) (start .args .work .now) (c6 .if2 .taken)
+      (c5 .count-of .ensures) (omega (arith, c5 .count-of .ensures, p .work)) (c .before .before .keep .ensures),
+  search needs,
+)
 
 returns-3 : tie.Need-returns-3
-returns-3 c =
-    let c8 = c .before .before .before .before .before .before .before .before in
-    let start = c8 .before .before .before in
-    front-more (start .args .e) (start .args .limits) (lain 0 (start .args .la) (start .args .work .now))
-    (c8 .if1 .left) (c .before .before .before .before .before .before .before .if2 .left)
-    (c .before .before .before .before .squarings .ensures)
+returns-3 c = (
+  let c8 = c .before .before .before .before .before .before .before .before in
+      let start = c8 .before .before .before in
+      front-more (start .args .e) (start .args .limits) (lain 0 (start .args .la) (start .args .work .now))
+      (c8 .if1 .left) (c .before .before .before .before .before .before .before .if2 .left)
+      (c .before .before .before .before .squarings .ensures .0),
+  search needs,
+)
 
 pub power-front-spec : {M : Type 1} → statement M
 power-front-spec =

@@ -25,7 +25,7 @@ returns c =
     let start = c9 .before .before .before .before .before in
     let e =
     loaded-same (start .args .e) (start .args .limits) (start .args .la) (c9 .load-base .ensures) (start .pre .1) in
-    (rw e at (c4 .power-loaded .ensures .0), rw e at (c4 .power-loaded .ensures .1))
+    (rw e at (c4 .power-loaded .ensures .0), (rw e at (c4 .power-loaded .ensures .1 .0), search needs))
 
 pub power-into-spec : {M : Type 1} → statement M
 power-into-spec = tie.close (tie.spec load-base-requires power-loaded-requires same-length same-length-2 returns)

@@ -48,7 +48,7 @@ loop-again c =
     let c15 = c14 .before in
     let start = c15 .before .before .before in (
       turn-next (start .pre .0) (start .pre .1) (c15 .loop .inv .0) (simp length-set) (c14 .loop-test .taken)
-          (c11 .take-bit .ensures) (c4 .times-to .ensures) (c4 .times-to .kept .0 ∙ c11 .take-bit .kept .0),
+          (c11 .take-bit .ensures .0) (c4 .times-to .ensures .0) (c4 .times-to .kept .0 ∙ c11 .take-bit .kept .0),
       c4 .times-to .kept .1 .1 .1 .1 .1 .1 .1 .1 .0 ∙ (c11 .take-bit .kept .1 .1 .1 .1 .1 .1 .0 ∙ c15 .loop .inv .1),
     )
 
@@ -68,13 +68,15 @@ same-length-2 c =
     c .before .before .before .before .times-front .kept .1 .1 .1 .1 .1 .1 .1 .0 ∙ c8 .loop .inv .1
 
 returns : tie.Need-returns Inv-loop μ-loop
-returns c =
-    let c8 = c .before .before .before .before .before .before .before .before in
-    let start = c8 .before .before .before in
-    rw (begun-base (start .pre .0) (start .pre .1) (start .args .work .now) refl) at
-    (turn-last (start .pre .0) (start .pre .1) (c8 .loop .inv .0) (simp length-set)
-    (omega (arith, c .before .before .before .before .before .before .before .loop-test .left))
-    (c .before .before .before .before .times-front .ensures))
+returns c = (
+  let c8 = c .before .before .before .before .before .before .before .before in
+      let start = c8 .before .before .before in
+      rw (begun-base (start .pre .0) (start .pre .1) (start .args .work .now) refl) at
+      (turn-last (start .pre .0) (start .pre .1) (c8 .loop .inv .0) (simp length-set)
+      (omega (arith, c .before .before .before .before .before .before .before .loop-test .left))
+      (c .before .before .before .before .times-front .ensures)),
+  same-length c,
+)
 
 pub squarings-spec : {M : Type 1} → statement M
 squarings-spec =

@@ -15,18 +15,22 @@ same-length-2 : tie.Need-same-length-2
 same-length-2 c = search needs
 
 returns : tie.Need-returns
-returns c =
-    let start = c .before .before .before .before .before .before .before .before .before .before in
-    bit-set (start .args .limits) (start .args .left) (lain (start .args .n) (start .args .lr) (start .args .work .now))
-    (lain 0 (start .args .lb) (start .args .work .now))
-    (c .before .before .before .before .before .before .before .if1 .taken)
-    (c .before .before .before .before .times-to .ensures)
+returns c = (
+  let start = c .before .before .before .before .before .before .before .before .before .before in
+      bit-set (start .args .limits) (start .args .left) (lain (start .args .n) (start .args .lr) (start .args .work .now))
+      (lain 0 (start .args .lb) (start .args .work .now))
+      (c .before .before .before .before .before .before .before .if1 .taken)
+      (c .before .before .before .before .times-to .ensures .0),
+  search needs,
+)
 
 returns-2 : tie.Need-returns-2
-returns-2 c =
-    let start = c .before .before .before in
-    bit-none (start .args .limits) (start .args .left) (lain 0 (start .args .lb) (start .args .work .now))
-    (start .args .n) (start .args .work .now) (start .args .lr) (c .if1 .left)
+returns-2 c = (
+  let start = c .before .before .before in
+      bit-none (start .args .limits) (start .args .left) (lain 0 (start .args .lb) (start .args .work .now))
+      (start .args .n) (start .args .work .now) (start .args .lr) (c .if1 .left),
+  search needs,
+)
 
 pub take-bit-spec : {M : Type 1} → statement M
 take-bit-spec = tie.close (tie.spec times-to-requires same-length same-length-2 returns returns-2)

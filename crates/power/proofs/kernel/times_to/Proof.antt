@@ -21,11 +21,13 @@ keep-requires c κs =
     (omega (arith, s .out), omega (arith, s .work))
 
 returns : tie.Need-returns
-returns c =
-    let c10 = c .before .before .before .before .before .before .before .before .before .before in
-    let start = c10 .before .before .before .before .before in
-    made-placed (start .pre .0) (start .args .work .now) refl (c10 .times-front .ensures) (start .pre .1)
-    (c .before .before .before .before .before .count-of .ensures) (c .before .before .keep .ensures)
+returns c = (
+  let c10 = c .before .before .before .before .before .before .before .before .before .before in
+      let start = c10 .before .before .before .before .before in
+      made-placed (start .pre .0) (start .args .work .now) refl (c10 .times-front .ensures) (start .pre .1)
+      (c .before .before .before .before .before .count-of .ensures) (c .before .before .keep .ensures),
+  search needs,
+)
 
 pub times-to-spec : {M : Type 1} → statement M
 times-to-spec =

@@ -36,10 +36,12 @@ raise-to-requires : tie.Need-raise-to-requires
 raise-to-requires c κs = (c .before .before .before .before .before) .pre .raises
 
 returns : tie.Need-returns
-returns c =
-    let start = c .before .before .before .before .before .before .before .before in
-    line-raised (start .args .limits) (start .args .line) (block (start .args .n) (start .args .a .now))
-    (c .before .before .before .before .if1 .taken) (c .before .before .raise-to .ensures)
+returns c = (
+  let start = c .before .before .before .before .before .before .before .before in
+      line-raised (start .args .limits) (start .args .line) (block (start .args .n) (start .args .a .now))
+      (c .before .before .before .before .if1 .taken) (c .before .before .raise-to .ensures),
+  search needs,
+)
 
 linear-product-requires : tie.Need-linear-product-requires
 linear-product-requires c κs =
@@ -47,22 +49,26 @@ linear-product-requires c κs =
     whole-room (start .args .a .now) (start .pre) refl (c .before .before .before .before .keep .ensures)
 
 returns-2 : tie.Need-returns-2
-returns-2 c =
-    let c9 = c .before .before .before .before .before .before .before .before .before in
-    let start = c9 .before .before .before .before .before .before .before in
-    whole-line (start .args .a .now) (start .pre) refl (c9 .keep .ensures)
-    (λ y. linearProduct (λ x. productOf 0 (start .args .limits) x (constantBlock (start .args .line .c)))
-    (start .args .limits) (start .args .line) y) (c .before .before .before .before .linear-product .ensures)
+returns-2 c = (
+  let c9 = c .before .before .before .before .before .before .before .before .before in
+      let start = c9 .before .before .before .before .before .before .before in
+      whole-line (start .args .a .now) (start .pre) refl (c9 .keep .ensures)
+      (λ y. linearProduct (λ x. productOf 0 (start .args .limits) x (constantBlock (start .args .line .c)))
+      (start .args .limits) (start .args .line) y) (c .before .before .before .before .linear-product .ensures),
+  search needs,
+)
 
 line-to-requires : tie.Need-line-to-requires
 line-to-requires c κs = ((c .before .before .before .before .before .before) .pre .raises, big (c .before))
 
 returns-3 : tie.Need-returns-3
-returns-3 c =
-    let c4 = c .before .before .before .before in let start = c4 .before .before .before .before .before in
-    line-scaled (start .args .limits) (start .args .line) (block (start .args .n) (start .args .a .now))
-    (c .before .before .before .before .before .if1 .left) (tests c4 .1) (big c4)
-    (c .before .before .line-to .ensures)
+returns-3 c = (
+  let c4 = c .before .before .before .before in let start = c4 .before .before .before .before .before in
+      line-scaled (start .args .limits) (start .args .line) (block (start .args .n) (start .args .a .now))
+      (c .before .before .before .before .before .if1 .left) (tests c4 .1) (big c4)
+      (c .before .before .line-to .ensures),
+  search needs,
+)
 
 pub line-whole-spec : {M : Type 1} → statement M
 line-whole-spec =

@@ -43,12 +43,14 @@ zero-to-requires c κs =
     let p = start .pre in omega (arith, times-some p, p .out)
 
 returns : tie.Need-returns
-returns c =
-    let c12 = c .before .before .before .before .before .before .before .before .before .before .before .before in
-    let start = c12 .before in let a = start .args in
-    put-stands (zero-put (a .limits) (block (a .la) (a .a .now)) (block (a .lb) (a .b .now))
-    (sym (zeros (c .before .before .before .before .before)) ∙ c .before .before .before .before .if1 .taken)
-    (c .before .before .zero-to .ensures))
+returns c = (
+  let c12 = c .before .before .before .before .before .before .before .before .before .before .before .before in
+      let start = c12 .before in let a = start .args in
+      put-stands (zero-put (a .limits) (block (a .la) (a .a .now)) (block (a .lb) (a .b .now))
+      (sym (zeros (c .before .before .before .before .before)) ∙ c .before .before .before .before .if1 .taken)
+      (c .before .before .zero-to .ensures)),
+  search needs,
+)
 
 product-whole-requires : tie.Need-product-whole-requires
 product-whole-requires c κs =
@@ -57,13 +59,15 @@ product-whole-requires c κs =
     times-whole (start .pre) (c9 .cut-to .ensures) (c8 .cut-to2 .ensures) (same-a (c .before .before)) (same-b (c .before .before))
 
 returns-2 : tie.Need-returns-2
-returns-2 c =
-    let c7 = c .before .before .before .before .before .before .before in let c10 = c7 .before .before .before in
-    let c11 = c10 .before in let c13 = c11 .before .before in let c14 = c13 .before in
-    let start = c14 .before .before .before .before .before in let a = start .args in
-    whole-stands (start .pre) (c14 .cut-to .ensures) (c13 .cut-to2 .ensures) (same-a c7) (same-b c7) (a .a .now)
-    (a .b .now) refl refl (sym (zeros c11) ∙ c10 .if1 .left)
-    (c .before .before .before .before .product-whole .ensures)
+returns-2 c = (
+  let c7 = c .before .before .before .before .before .before .before in let c10 = c7 .before .before .before in
+      let c11 = c10 .before in let c13 = c11 .before .before in let c14 = c13 .before in
+      let start = c14 .before .before .before .before .before in let a = start .args in
+      whole-stands (start .pre) (c14 .cut-to .ensures) (c13 .cut-to2 .ensures) (same-a c7) (same-b c7) (a .a .now)
+      (a .b .now) refl refl (sym (zeros c11) ∙ c10 .if1 .left)
+      (c .before .before .before .before .product-whole .ensures .0),
+  search needs,
+)
 
 load-two-requires : tie.Need-load-two-requires
 load-two-requires c κs =
@@ -104,16 +108,18 @@ product-requires c κs =
     (c .before .before .before .count-of .ensures) (c .before .before .count-of2 .ensures)
 
 returns-3 : tie.Need-returns-3
-returns-3 c =
-    let c8 = c .before .before .before .before .before .before .before .before in
-    let c11 = c8 .before .before .before in let c16 = c11 .before .before .before .before .before in
-    let c17 = c16 .before in let c19 = c17 .before .before in let c20 = c19 .before in
-    let start = c20 .before .before .before .before .before in let a = start .args in
-    times-stands (start .pre) (c20 .cut-to .ensures) (c19 .cut-to2 .ensures)
-    (c11 .load-two .kept .1 .1 .1 .1 .1 .1 .1 .0) (c8 .count-of .ensures)
-    (c .before .before .before .before .before .before .before .count-of2 .ensures) (a .a .now) (a .b .now)
-    (sym (zeros c17) ∙ c16 .if1 .left) (c11 .load-two .ensures)
-    (c .before .before .before .before .product .ensures)
+returns-3 c = (
+  let c8 = c .before .before .before .before .before .before .before .before in
+      let c11 = c8 .before .before .before in let c16 = c11 .before .before .before .before .before in
+      let c17 = c16 .before in let c19 = c17 .before .before in let c20 = c19 .before in
+      let start = c20 .before .before .before .before .before in let a = start .args in
+      times-stands (start .pre) (c20 .cut-to .ensures) (c19 .cut-to2 .ensures)
+      (c11 .load-two .kept .1 .1 .1 .1 .1 .1 .1 .0) (c8 .count-of .ensures)
+      (c .before .before .before .before .before .before .before .count-of2 .ensures) (a .a .now) (a .b .now)
+      (sym (zeros c17) ∙ c16 .if1 .left) (c11 .load-two .ensures)
+      (c .before .before .before .before .product .ensures),
+  search needs,
+)
 
 pub multiply-front-spec : {M : Type 1} → statement M
 multiply-front-spec =

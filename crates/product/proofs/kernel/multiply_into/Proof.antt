@@ -9,7 +9,7 @@ use Rattle.product.proofs.kernel.multiply_into.Tie as tie
 count-of-requires : tie.Need-count-of-requires
 count-of-requires c κs =
     let start = c .before .before .before .before .before .before .before .before .before .before .before in
-    into-lens (start .pre) (start .args .a .now) (start .args .b .now) (c .before .before .before .before .multiply-front .ensures)
+    into-lens (start .pre) (start .args .a .now) (start .args .b .now) (c .before .before .before .before .multiply-front .ensures .0)
 
 mul-clear : tie.Need-mul-clear
 mul-clear c =
@@ -17,7 +17,7 @@ mul-clear c =
     omega (
       arith,
       into-small (start .pre) (start .args .a .now) (start .args .b .now)
-          (c .before .before .before .before .before .multiply-front .ensures) (c .count-of .ensures),
+          (c .before .before .before .before .before .multiply-front .ensures .0) (c .count-of .ensures),
       times-small (start .pre),
     )
 
@@ -27,7 +27,7 @@ sub-clear c =
     omega (
       arith,
       into-small (start .pre) (start .args .a .now) (start .args .b .now)
-          (c .before .before .before .before .before .multiply-front .ensures) (c .count-of .ensures),
+          (c .before .before .before .before .before .multiply-front .ensures .0) (c .count-of .ensures),
     )
 
 part-clear-start : tie.Need-part-clear-start
@@ -36,7 +36,7 @@ part-clear-start c =
     omega (
       arith,
       into-small (start .pre) (start .args .a .now) (start .args .b .now)
-          (c .before .before .before .before .before .multiply-front .ensures) (c .count-of .ensures),
+          (c .before .before .before .before .before .multiply-front .ensures .0) (c .count-of .ensures),
     )
 
 part-clear-end : tie.Need-part-clear-end
@@ -50,13 +50,22 @@ returns c =
     let start = c9 .before .before .before .before .before .before .before in
     let k = c9 .multiply-front .kept .1 .1 .1 .1 .1 .1 .0 in
     let o = start .pre .out in (
-      c9 .multiply-front .ensures .lengths,
-      into-padded (start .pre) (start .args .a .now) (start .args .b .now) (c9 .multiply-front .ensures) (k ∙ o)
-          (c4 .count-of .ensures) (c .before .before .clear .ensures)
-          (simp (
-            length-take,
-            length-drop,
-          ) (omega (arith, k, o, into-small (start .pre) (start .args .a .now) (start .args .b .now) (c9 .multiply-front .ensures) (c4 .count-of .ensures)))),
+      c9 .multiply-front .ensures .0 .lengths,
+      (
+        into-padded (start .pre) (start .args .a .now) (start .args .b .now) (c9 .multiply-front .ensures .0) (k ∙ o)
+            (c4 .count-of .ensures) (c .before .before .clear .ensures)
+            (simp (
+              length-take,
+              length-drop,
+            ) (omega (
+              arith,
+              k,
+              o,
+              into-small (start .pre) (start .args .a .now) (start .args .b .now) (c9 .multiply-front .ensures .0)
+                  (c4 .count-of .ensures),
+            ))),
+        search needs,
+      ),
     )
 
 pub multiply-into-spec : {M : Type 1} → statement M

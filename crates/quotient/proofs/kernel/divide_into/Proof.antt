@@ -30,14 +30,16 @@ divide-loaded-requires c κs =
     )
 
 returns : tie.Need-returns
-returns c =
-    let c8 = c .before .before .before .before .before .before .before .before in
-    let c11 = c8 .before .before .before in let c13 = c11 .before .before in let c14 = c13 .before in
-    let start = c14 .before .before .before .before .before in
-    into-loaded (start .pre) (c14 .cut-to .ensures) (c13 .cut-to2 .ensures) (c8 .count-of .ensures)
-    (c .before .before .before .before .before .before .before .count-of2 .ensures) (start .args .a .now)
-    (start .args .b .now) (c11 .load-two .last .1 .1 .1 .1 .1 .1 .1 .0) (c11 .load-two .ensures)
-    (c11 .load-two .kept .1 .1 .1 .1 .1 .1 .1 .0) (c .before .before .before .before .divide-loaded .ensures)
+returns c = (
+  let c8 = c .before .before .before .before .before .before .before .before in
+      let c11 = c8 .before .before .before in let c13 = c11 .before .before in let c14 = c13 .before in
+      let start = c14 .before .before .before .before .before in
+      into-loaded (start .pre) (c14 .cut-to .ensures) (c13 .cut-to2 .ensures) (c8 .count-of .ensures)
+      (c .before .before .before .before .before .before .before .count-of2 .ensures) (start .args .a .now)
+      (start .args .b .now) (c11 .load-two .last .1 .1 .1 .1 .1 .1 .1 .0) (c11 .load-two .ensures)
+      (c11 .load-two .kept .1 .1 .1 .1 .1 .1 .1 .0) (c .before .before .before .before .divide-loaded .ensures .0),
+  search needs,
+)
 
 pub divide-into-spec : {M : Type 1} → statement M
 divide-into-spec =

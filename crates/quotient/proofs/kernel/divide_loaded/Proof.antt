@@ -24,11 +24,17 @@ divide-constant-requires c κs =
 
 returns : tie.Need-returns
 unfolding loadedQuotient
-returns c = c .before .before .divide-constant .ensures ∙ simp (eq-eqb _ _ (c .before .before .before .before .before .before .if1 .taken))
+returns c = (
+  c .before .before .divide-constant .ensures ∙ simp (eq-eqb _ _ (c .before .before .before .before .before .before .if1 .taken)),
+  search needs,
+)
 
 returns-2 : tie.Need-returns-2
 unfolding loadedQuotient
-returns-2 c = c .before .before .before .before .recur .ensures ∙ simp (ne-eqb _ _ (c .before .before .before .before .before .before .before .if1 .left))
+returns-2 c = (
+  c .before .before .before .before .recur .ensures .0 ∙ simp (ne-eqb _ _ (c .before .before .before .before .before .before .before .if1 .left)),
+  search needs,
+)
 
 pub divide-loaded-spec : {M : Type 1} → statement M
 divide-loaded-spec =

@@ -4,6 +4,7 @@ use mathlib.Core.List.{_++_}
 use Prim.Native.Nat.{_+_, _-_, _*_, _≤_}
 use lib.ListN.{length, drop, length-append, length-drop}
 use lib.Seq.{length-take-le}
+use borrow.Author.Needs.{needs}
 use Rattle.lists.specs.Four.{at}
 use Rattle.model.specs.Header.{count}
 use Rattle.shape_words.specs.Lengths.{row-small}
@@ -61,7 +62,7 @@ room2 : (c : tie.After-gather-first Inv-loop μ-loop) →
     (length (c .gather-first .last .1 .1 .1 .1 .1 .1 .1 .1 .1 .1 .1 .1 .0
     ++ drop (at (start .args .t11) 0) (c .before .before .before .before .loop .row)))
 room2 c =
-    rw (kept c, c .gather-first .ensures .len, c .before .before .before .before .loop .inv .2 .len)
+    rw (kept c, c .gather-first .ensures .0 .len, c .before .before .before .before .loop .inv .2 .len)
     ((c .before .before .before .before .before .before .before) .pre .1 .1)
 
 add-end : tie.Need-add-end Inv-loop μ-loop
@@ -124,7 +125,7 @@ loop-again c =
       c4 .level .kept .1 .1 .1 .1 .1 .1 .1 .1 .1 .1 .1 .0
           ∙ kept c11,
       firsts-more (start .pre .0) (start .pre .1 .0) (start .args .work .now) (start .pre .1 .1) (c14 .loop-test .taken)
-          (c15 .loop .inv .2) (c11 .gather-first .ensures) (c4 .level .ensures),
+          (c15 .loop .inv .2) (c11 .gather-first .ensures .0) (c4 .level .ensures .0),
     )
 
 same-length : tie.Need-same-length Inv-loop μ-loop
@@ -134,10 +135,12 @@ same-length-2 : tie.Need-same-length-2 Inv-loop μ-loop
 same-length-2 c = c .before .loop .inv .1
 
 returns : tie.Need-returns Inv-loop μ-loop
-returns c =
-    let start = c .before .before .before .before in
-    firsts-all (start .pre .0) (start .pre .1 .0) (start .args .work .now) (start .pre .1 .1)
-    (omega (arith, c .before .loop .inv .0, c .loop-test .left)) (c .before .loop .inv .2)
+returns c = (
+  let start = c .before .before .before .before in
+      firsts-all (start .pre .0) (start .pre .1 .0) (start .args .work .now) (start .pre .1 .1)
+      (omega (arith, c .before .loop .inv .0, c .loop-test .left)) (c .before .loop .inv .2),
+  search needs,
+)
 
 pub each-first-spec : {M : Type 1} → statement M
 each-first-spec =

@@ -142,15 +142,17 @@ same-length-2 c =
     ∙ (c12 .turn .kept .0 ∙ c16 .taken-row .kept .1 .1 .1 .1 .1 .1 .1 .1 .0)
 
 returns : tie.Need-returns
-returns c =
-    let c12 = c .before .before .before .before .before .before .before .before .before .before .before .before in
-    let c16 = c12 .before .before .before .before in
-    let start = c16 .before .before .before .before .before .before .before in let m = start .pre .1 .1 .room in
-    let e = first-stride (start .pre .0) (start .pre .1 .0) (start .args .work .now) (start .pre .1 .1) in
-    first-gathered (start .pre .0) (start .pre .1 .0) (start .args .work .now) (start .pre .1 .1)
-    (c16 .taken-row .ensures) (c12 .turn .ensures)
-    (c .before .before .before .before .before .before .before .add-dividend .ensures)
-    (c .before .before .copy .ensures)
+returns c = (
+  let c12 = c .before .before .before .before .before .before .before .before .before .before .before .before in
+      let c16 = c12 .before .before .before .before in
+      let start = c16 .before .before .before .before .before .before .before in let m = start .pre .1 .1 .room in
+      let e = first-stride (start .pre .0) (start .pre .1 .0) (start .args .work .now) (start .pre .1 .1) in
+      first-gathered (start .pre .0) (start .pre .1 .0) (start .args .work .now) (start .pre .1 .1)
+      (c16 .taken-row .ensures) (c12 .turn .ensures)
+      (c .before .before .before .before .before .before .before .add-dividend .ensures)
+      (c .before .before .copy .ensures),
+  search needs,
+)
 
 pub gather-first-spec : {M : Type 1} → statement M
 gather-first-spec =

@@ -1,6 +1,7 @@
 use native.Mathlib.Omega.{arith}
 use mathlib.Core.Path.{refl, _∙_}
 use lib.ListN.{length-take, length-drop}
+use borrow.Author.Needs.{needs}
 use Rattle.quotient.specs.Into.{recur-dividing, recur-first, recur-room, recur-is}
 use Rattle.quotient.proofs.kernel.recur.Statement.{statement}
 use Rattle.quotient.proofs.kernel.recur.Tie as tie
@@ -38,24 +39,24 @@ mul-copy c =
 part-copy-start : tie.Need-part-copy-start
 part-copy-start c =
     let start = c .before .before .before .before .before .before .before .before .before .before .before .before in
-    let n = c .before .before .before .before .before .each-first .ensures .len in omega (arith, (start .pre) .work, (start .pre) .out)
+    let n = c .before .before .before .before .before .each-first .ensures .0 .len in omega (arith, (start .pre) .work, (start .pre) .out)
 
 part-copy-end : tie.Need-part-copy-end
 part-copy-end c =
     let start = c .before .before .before .before .before .before .before .before .before .before .before .before in
-    let n = c .before .before .before .before .before .each-first .ensures .len in omega (arith, (start .pre) .work, (start .pre) .out)
+    let n = c .before .before .before .before .before .each-first .ensures .0 .len in omega (arith, (start .pre) .work, (start .pre) .out)
 
 copy-requires : tie.Need-copy-requires
 copy-requires c κs =
     let c7 = c .before .before .before .before .before .before .before in
-    let start = c7 .before .before .before .before .before .before .before in let n = c7 .each-first .ensures .len in
+    let start = c7 .before .before .before .before .before .before .before in let n = c7 .each-first .ensures .0 .len in
     let m = c7 .each-first .kept .1 .1 .1 .1 .1 .1 .1 .1 .1 .1 .1 .0 in
     simp (length-take, length-drop) (omega (arith, (start .pre) .work, (start .pre) .out))
 
 same-length : tie.Need-same-length
 same-length c =
     let c10 = c .before .before .before .before .before .before .before .before .before .before in
-    c10 .each-first .ensures .len
+    c10 .each-first .ensures .0 .len
 
 same-length-2 : tie.Need-same-length-2
 same-length-2 c =
@@ -63,10 +64,13 @@ same-length-2 c =
     c .before .before .copy .kept .1 .0 ∙ c10 .each-first .kept .1 .1 .1 .1 .1 .1 .1 .1 .1 .1 .1 .0
 
 returns : tie.Need-returns
-returns c =
-    let c10 = c .before .before .before .before .before .before .before .before .before .before in
-    let start = c10 .before .before .before .before .before .before .before in
-    recur-is (start .pre) _ _ refl (c10 .each-first .ensures) (c10 .each-first .kept .1 .1 .1 .1 .1 .1 .1 .1 .1 .1 .1 .0) (c .before .before .copy .ensures)
+returns c = (
+  let c10 = c .before .before .before .before .before .before .before .before .before .before in
+      let start = c10 .before .before .before .before .before .before .before in
+      recur-is (start .pre) _ _ refl (c10 .each-first .ensures .0) (c10 .each-first .kept .1 .1 .1 .1 .1 .1 .1 .1 .1 .1 .1 .0)
+      (c .before .before .copy .ensures),
+  search needs,
+)
 
 pub recur-spec : {M : Type 1} → statement M
 recur-spec =

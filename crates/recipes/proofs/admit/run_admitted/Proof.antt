@@ -155,6 +155,9 @@ array-read-result c =
     let start = c34 .before .before in
     omega (arith, run-some (start .pre .0), run-passed (start .pre .0) .fit, c22 .place .kept .1 .1 .0)
 
+same-length : tie.Need-same-length
+same-length c = search needs
+
 returns : tie.Need-returns
 returns c =
     let c6 = c .before .before .before .before .before .before in
@@ -162,7 +165,7 @@ returns c =
     let c22 = c16 .before .before .before .before .before .before in
     let c26 = c22 .before .before .before .before in
     let start = c26 .before .before .before .before .before .before .before .before .before .before in (
-      c16 .run-steps .ensures .1,
+      c16 .run-steps .ensures .1 .0,
       (
         words-end (length (start .args .headers .now)) (length (start .args .steps .now))
             (c16 .run-steps .last .1 .1 .1 .0) _ (start .args .words .now) (c16 .run-steps .ensures .0) (omega (
@@ -176,7 +179,7 @@ returns c =
           scratch-end (largest (announcedSteps (start .args .headers .now)
               (start .args .steps .now))) (start .args .scratch .now) (c16 .run-steps .last .1 .1 .1 .1 .1 .1 .0) (ap (λ (k :
               ℕ). 8 * k) (most-is c26)) (used c16) (c .before .before .clear .ensures) (length-take-le _ _ (again c16)),
-          last-start (start .pre .0) (placed c22),
+          (last-start (start .pre .0) (placed c22), same-length c),
         ),
       ),
     )
@@ -190,4 +193,4 @@ run-admitted-spec =
     search needs) place-requires (λ c. search needs) slice-relend-prefix-run-steps slice-aggregate-run-steps-2
     run-steps-requires (λ c. search needs) (λ c. search needs) (λ c. search needs) part-note-inputs-end (λ c κs.
     search needs) slice-relend-prefix-clear slice-aggregate-clear (λ c κs. search needs) sub-result mul-result
-    array-read-result (λ c. search needs) (λ c. search needs) (λ c. search needs) (λ c. search needs) returns)
+    array-read-result same-length (λ c. search needs) (λ c. search needs) (λ c. search needs) returns)

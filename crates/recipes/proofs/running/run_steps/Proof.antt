@@ -122,7 +122,7 @@ loop-again c =
       running-at (start .pre .0) (running-more (start .pre .0) (running-from (start .pre .0) (c15 .loop .inv .0)
           (c14 .loop-test .taken)) (c14 .loop-test .taken) (counted c8) (c15 .loop .inv .0 .len-pool) (rw
           (c12 .step-of .ensures) at (c4 .step-word .ensures .0)) (rw (c12 .step-of .ensures) at
-          (c4 .step-word .ensures .1))),
+          (c4 .step-word .ensures .1 .0))),
       c4 .step-word .kept .1 .1 .1 .1 .1 .1 .1 .1 .0 ∙ c15 .loop .inv .1,
     )
 
@@ -139,8 +139,11 @@ returns : tie.Need-returns Inv-loop μ-loop
 returns c =
     let start = c .before .before .before .before .before .before .before .before .before in (
       end-words (start .pre .0) (c .before .loop .inv .0) (c .loop-test .left),
-      end-pool (start .pre .0)
-          (c .before .loop .inv .0) (c .loop-test .left),
+      (
+        end-pool (start .pre .0)
+            (c .before .loop .inv .0) (c .loop-test .left),
+        same-length-3 c,
+      ),
     )
 
 pub run-steps-spec : {M : Type 1} → statement M

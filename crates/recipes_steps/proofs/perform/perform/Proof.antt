@@ -106,6 +106,9 @@ pack-requires c κs =
     ((lying (start .args .yi) (start .args .coefficients .now) (take (start .args .at) (start .args .pool .now))
     (start .args .yf) (headerOf (start .args .yw))) .coeffs) (given start))
 
+same-length-2 : tie.Need-same-length-2
+same-length-2 c = search needs
+
 returns : tie.Need-returns
 returns c =
     let c9 = c .before .before .before .before .before .before .before .before .before in
@@ -113,13 +116,16 @@ returns c =
     let c16 = c15 .before in
     let start = c16 .before .before .before .before in (
       c .pack .ensures ∙ ap wordOf (head-is c9),
-      value-padded (making (start .pre .0) (start .pre .1 .1) (is-announced c13) (c12 .stored-of .ensures))
-          ((lying (start .args .xi) (start .args .coefficients .now) (take (start .args .at) (start .args .pool .now))
-          (start .args .xf) (headerOf (start .args .xw))) .coeffs)
-          ((lying (start .args .yi) (start .args .coefficients .now) (take (start .args .at) (start .args .pool .now))
-          (start .args .yf) (headerOf (start .args .yw))) .coeffs) (given start) (fewer c12)
-          (rw (c16 .header-of .ensures, c15 .header-of2 .ensures) at (c9 .value-to .ensures .1))
-          (c .before .before .before .pad .ensures),
+      (
+        value-padded (making (start .pre .0) (start .pre .1 .1) (is-announced c13) (c12 .stored-of .ensures))
+            ((lying (start .args .xi) (start .args .coefficients .now) (take (start .args .at) (start .args .pool .now))
+            (start .args .xf) (headerOf (start .args .xw))) .coeffs)
+            ((lying (start .args .yi) (start .args .coefficients .now) (take (start .args .at) (start .args .pool .now))
+            (start .args .yf) (headerOf (start .args .yw))) .coeffs) (given start) (fewer c12)
+            (rw (c16 .header-of .ensures, c15 .header-of2 .ensures) at (c9 .value-to .ensures .1 .0))
+            (c .before .before .before .pad .ensures),
+        same-length-2 c,
+      ),
     )
 
 pub perform-spec : {M : Type 1} → statement M
@@ -127,4 +133,4 @@ perform-spec =
     tie.close
     (tie.spec
     (λ c κs. search needs) (λ c κs. search needs) (λ c κs. search needs) announced-of-requires stored-of-requires
-    value-to-requires add-pad add-pad-2 pad-requires pack-requires (λ c. search needs) (λ c. search needs) returns)
+    value-to-requires add-pad add-pad-2 pad-requires pack-requires (λ c. search needs) same-length-2 returns)

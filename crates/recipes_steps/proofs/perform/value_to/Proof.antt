@@ -23,12 +23,15 @@ returns c =
           (lying (start .args .xi) (start .args .coefficients .now) (take (start .args .at) (start .args .pool .now))
           (start .args .xf) (start .args .x)) (lying (start .args .yi) (start .args .coefficients .now)
           (take (start .args .at) (start .args .pool .now)) (start .args .yf) (start .args .y))),
-      kept-as (ap (λ (p : Poly). padded (start .args .n) (p .coeffs))
-          (power-value (start .pre .0) (c7 .if1 .taken)
-          (lying (start .args .xi) (start .args .coefficients .now) (take (start .args .at) (start .args .pool .now))
-          (start .args .xf) (start .args .x)) (lying (start .args .yi) (start .args .coefficients .now)
-          (take (start .args .at) (start .args .pool .now)) (start .args .yf) (start .args .y))))
-          (c4 .power-to .ensures .1),
+      (
+        kept-as (ap (λ (p : Poly). padded (start .args .n) (p .coeffs))
+            (power-value (start .pre .0) (c7 .if1 .taken)
+            (lying (start .args .xi) (start .args .coefficients .now) (take (start .args .at) (start .args .pool .now))
+            (start .args .xf) (start .args .x)) (lying (start .args .yi) (start .args .coefficients .now)
+            (take (start .args .at) (start .args .pool .now)) (start .args .yf) (start .args .y))))
+            (c4 .power-to .ensures .1 .0),
+        search needs,
+      ),
     )
 
 pair-to-requires : tie.Need-pair-to-requires
@@ -45,12 +48,15 @@ returns-2 c =
           (lying (start .args .xi) (start .args .coefficients .now) (take (start .args .at) (start .args .pool .now))
           (start .args .xf) (start .args .x)) (lying (start .args .yi) (start .args .coefficients .now)
           (take (start .args .at) (start .args .pool .now)) (start .args .yf) (start .args .y))),
-      kept-as (ap (λ (p : Poly). padded (start .args .n) (p .coeffs))
-          (pair-value (start .pre .0) (c7 .if2 .taken)
-          (lying (start .args .xi) (start .args .coefficients .now) (take (start .args .at) (start .args .pool .now))
-          (start .args .xf) (start .args .x)) (lying (start .args .yi) (start .args .coefficients .now)
-          (take (start .args .at) (start .args .pool .now)) (start .args .yf) (start .args .y))))
-          (c4 .pair-to .ensures .1),
+      (
+        kept-as (ap (λ (p : Poly). padded (start .args .n) (p .coeffs))
+            (pair-value (start .pre .0) (c7 .if2 .taken)
+            (lying (start .args .xi) (start .args .coefficients .now) (take (start .args .at) (start .args .pool .now))
+            (start .args .xf) (start .args .x)) (lying (start .args .yi) (start .args .coefficients .now)
+            (take (start .args .at) (start .args .pool .now)) (start .args .yf) (start .args .y))))
+            (c4 .pair-to .ensures .1 .0),
+        search needs,
+      ),
     )
 
 stored-of-requires : tie.Need-stored-of-requires
@@ -78,12 +84,15 @@ returns-3 c =
           (lying (start .args .xi) (start .args .coefficients .now) (take (start .args .at) (start .args .pool .now))
           (start .args .xf) (start .args .x)) (lying (start .args .yi) (start .args .coefficients .now)
           (take (start .args .at) (start .args .pool .now)) (start .args .yf) (start .args .y))),
-      kept-as (ap (λ (p : Poly). padded (start .args .n) (p .coeffs))
-          (substitute-value (start .pre .0) (c9 .if3 .taken)
-          (lying (start .args .xi) (start .args .coefficients .now) (take (start .args .at) (start .args .pool .now))
-          (start .args .xf) (start .args .x)) (lying (start .args .yi) (start .args .coefficients .now)
-          (take (start .args .at) (start .args .pool .now)) (start .args .yf) (start .args .y))))
-          (c4 .substitute-to .ensures .1),
+      (
+        kept-as (ap (λ (p : Poly). padded (start .args .n) (p .coeffs))
+            (substitute-value (start .pre .0) (c9 .if3 .taken)
+            (lying (start .args .xi) (start .args .coefficients .now) (take (start .args .at) (start .args .pool .now))
+            (start .args .xf) (start .args .x)) (lying (start .args .yi) (start .args .coefficients .now)
+            (take (start .args .at) (start .args .pool .now)) (start .args .yf) (start .args .y))))
+            (c4 .substitute-to .ensures .1 .0),
+        search needs,
+      ),
     )
 
 change-to-requires : tie.Need-change-to-requires
@@ -104,12 +113,15 @@ returns-4 c =
           (lying (start .args .xi) (start .args .coefficients .now) (take (start .args .at) (start .args .pool .now))
           (start .args .xf) (start .args .x)) (lying (start .args .yi) (start .args .coefficients .now)
           (take (start .args .at) (start .args .pool .now)) (start .args .yf) (start .args .y))),
-      kept-as (ap (λ (p : Poly). padded (start .args .n) (p .coeffs))
-          (change-value (start .pre .0) (c10 .if1 .left) (c9 .if2 .left) (c8 .if3 .left)
-          (lying (start .args .xi) (start .args .coefficients .now) (take (start .args .at) (start .args .pool .now))
-          (start .args .xf) (start .args .x)) (lying (start .args .yi) (start .args .coefficients .now)
-          (take (start .args .at) (start .args .pool .now)) (start .args .yf) (start .args .y))))
-          (c4 .change-to .ensures .1),
+      (
+        kept-as (ap (λ (p : Poly). padded (start .args .n) (p .coeffs))
+            (change-value (start .pre .0) (c10 .if1 .left) (c9 .if2 .left) (c8 .if3 .left)
+            (lying (start .args .xi) (start .args .coefficients .now) (take (start .args .at) (start .args .pool .now))
+            (start .args .xf) (start .args .x)) (lying (start .args .yi) (start .args .coefficients .now)
+            (take (start .args .at) (start .args .pool .now)) (start .args .yf) (start .args .y))))
+            (c4 .change-to .ensures .1 .0),
+        search needs,
+      ),
     )
 
 pub value-to-spec : {M : Type 1} → statement M

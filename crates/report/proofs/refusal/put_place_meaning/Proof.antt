@@ -26,20 +26,13 @@ unfolding placeMeanings bytes
 returns-4 c = rw (c .before .before .before .before .before .match .keys4) (c .before .before .put4 .ensures)
 
 returns-5 : tie.Need-returns-5
-unfolding placeMeanings bytes
-returns-5 c = rw (c .before .before .before .before .before .match .keys5) (c .before .before .put5 .ensures)
-
-returns-6 : tie.Need-returns-6
-returns-6 c =
-    rw (← no-place-meaning _ (c .match .rest .0 .0 .0 .0 .1) (c .match .rest .0 .0 .0 .1) (c .match .rest .0 .0 .1)
-    (c .match .rest .0 .1) (c .match .rest .1)) (puts-none _ _)
+returns-5 c =
+    rw (← no-place-meaning _ (c .match .rest .0 .0 .0 .1) (c .match .rest .0 .0 .1) (c .match .rest .0 .1) (c .match .rest .1)) (puts-none _ _)
 
 pub put-place-meaning-spec : {M : Type 1} → statement M
 put-place-meaning-spec =
     tie.close
     (tie.spec
-    (λ c. search needs)
-    (λ c κs. search needs)
     (λ c. search needs)
     (λ c κs. search needs)
     (λ c. search needs)
@@ -56,6 +49,4 @@ put-place-meaning-spec =
     returns-3
     (λ c. search needs)
     returns-4
-    (λ c. search needs)
-    returns-5
-    returns-6)
+    returns-5)

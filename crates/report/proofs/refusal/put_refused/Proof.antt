@@ -9,7 +9,7 @@ use Rattle.report.proofs.refusal.put_refused.Tie as tie
 use Rattle.report.proofs.refusal.put_refused.Reads as reads
 use Rattle.report.proofs.refusal.put_refused.Lts as lts
 use Rattle.report_lines.proofs.put.put.Reads as put-reads
-use Rattle.sheet.proofs.print.put_refusal.Reads as put-refusal-reads
+use Rattle.sheet_text.proofs.refused.put_refusal.Reads as put-refusal-reads
 
 slice-aggregate-put : tie.Need-slice-aggregate-put
 slice-aggregate-put c =

@@ -1,7 +1,7 @@
 use mathlib.Core.Path.{sym, ap, _∙_}
 use Rattle.model.specs.Header.{stored}
 use Rattle.model_texts.specs.Report.{joined}
-use Rattle.model_texts.specs.Figures.{figureText, figuresText}
+use Rattle.model_figures.specs.Figures.{figureText, figuresText}
 use Rattle.model.specs.declared.Header.{Header}
 use Rattle.report_lines.specs.Puts.{puts-then}
 use Rattle.report_figures.specs.Fill.{puts-is}
@@ -29,9 +29,9 @@ unfolding figuresText
 returns c =
     let c8 = c .before .before .before .before .before .before .before .before in
     let start = c8 .before .before .before in
-    puts-is (ap (λ (h : Header). figuresText h (start .args .xs .now)) (sym (c8 .header-of .ensures)))
+    puts-is (ap (λ (h : Header). figuresText h (start .args .xs .now) (start .args .total) (start .args .parts)) (sym (c8 .header-of .ensures)))
     (puts-then (c .before .before .before .before .before .before .put-heading .ensures)
-    (puts-is (ap (joined (figureText (c8 .header-of .result) (start .args .xs .now)))
+    (puts-is (ap (joined (figureText (c8 .header-of .result) (start .args .xs .now) (start .args .total) (start .args .parts)))
     (ap (λ (h : Header). stored h) (c8 .header-of .ensures) ∙ sym (start .pre)))
     (c .before .before .put-lines .ensures)))
 

@@ -4,7 +4,7 @@ use mathlib.Core.Path.{sym, ap}
 use Rattle.model_texts.specs.Report.{joined}
 use Rattle.report_lines.specs.Puts.{puts-then}
 use Rattle.lists.specs.Bytes.{bytes}
-use Rattle.model_texts.specs.Figures.{partText, indexText}
+use Rattle.model_figures.specs.Figures.{partText, indexText}
 use Rattle.report_figures.specs.Fill.{puts-is}
 use borrow.Author.Needs.{needs}
 use Rattle.report_figures.proofs.line.put_index.Statement.{statement}

@@ -5,16 +5,16 @@ use borrow.Author.Needs.{needs}
 use lib.ListN.{length}
 use Rattle.model_texts.specs.Report.{joined}
 use Rattle.report_lines.specs.Puts.{puts-none, puts-joined}
-use Rattle.model_texts.specs.Figures.{figureText}
+use Rattle.model_figures.specs.Figures.{figureText}
 use Rattle.report_figures.specs.Lines.{Putting, putting-end}
 use Rattle.report_figures.proofs.line.put_lines.Statement.{statement}
 use Rattle.report_figures.proofs.line.put_lines.Tie as tie
 
 abbrev Inv-loop : tie.InvT-loop
-Inv-loop h xs at to₀ next₀ p₀ to next p = Putting (joined (figureText h xs) p) (length xs) p at to₀ to next
+Inv-loop h xs total parts at to₀ next₀ p₀ to next p = Putting (joined (figureText h xs total parts) p) (length xs) p at to₀ to next
 
 abbrev μ-loop : tie.MeasureT-loop
-μ-loop h xs at to₀ next₀ p₀ to next p = (length xs) - p
+μ-loop h xs total parts at to₀ next₀ p₀ to next p = (length xs) - p
 
 loop-holds : tie.Need-loop-holds Inv-loop μ-loop
 unfolding joined
@@ -25,7 +25,7 @@ loop-again c =
     let c5 = c .before .before .before .before .before in
     record {
       most = omega arith;
-      len = c .before .before .put-figure .kept .1 .1 .1 .1 .0
+      len = c .before .before .put-figure .kept .1 .1 .1 .1 .1 .1 .0
           ∙ c5 .loop .inv .len;
       put = puts-joined _ _ (c5 .loop .inv .put) (c .before .before .put-figure .ensures);
     }
@@ -36,7 +36,8 @@ same-length c = c .before .loop .inv .len
 returns : tie.Need-returns Inv-loop μ-loop
 returns c =
     let start = c .before .before .before .before in
-    putting-end (joined (figureText (start .args .h) (start .args .xs .now))) (c .before .loop .inv) (c .loop-test .left)
+    putting-end (joined (figureText (start .args .h) (start .args .xs .now) (start .args .total) (start .args .parts)))
+    (c .before .loop .inv) (c .loop-test .left)
 
 pub put-lines-spec : {M : Type 1} → statement M
 put-lines-spec =

@@ -1,7 +1,7 @@
 use borrow.Author.Tests.{lt-ltb, le-ltb}
 use Rattle.report_lines.specs.Puts.{puts-none, puts-then}
 use Rattle.lists.specs.Bytes.{bytes}
-use Rattle.model_texts.specs.Figures.{partText}
+use Rattle.model_figures.specs.Figures.{partText}
 use borrow.Author.Needs.{needs}
 use Rattle.report_figures.proofs.line.put_part.Statement.{statement}
 use Rattle.report_figures.proofs.line.put_part.Tie as tie

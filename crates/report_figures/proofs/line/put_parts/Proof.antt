@@ -4,7 +4,7 @@ use native.Mathlib.Omega.{arith}
 use borrow.Author.Needs.{needs}
 use Rattle.model_texts.specs.Report.{joined}
 use Rattle.report_lines.specs.Puts.{puts-none, puts-joined}
-use Rattle.model_texts.specs.Figures.{partText}
+use Rattle.model_figures.specs.Figures.{partText}
 use Rattle.report_figures.specs.Lines.{Putting, putting-end}
 use Rattle.report_figures.proofs.line.put_parts.Statement.{statement}
 use Rattle.report_figures.proofs.line.put_parts.Tie as tie

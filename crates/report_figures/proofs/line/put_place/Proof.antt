@@ -1,4 +1,4 @@
-use Rattle.report_figures.specs.Fill.{puts-filled}
+use Rattle.report_figures.specs.Fill.{puts-cell}
 use borrow.Author.Needs.{needs}
 use Rattle.report_figures.proofs.line.put_place.Statement.{statement}
 use Rattle.report_figures.proofs.line.put_place.Tie as tie
@@ -6,8 +6,8 @@ use Rattle.report_figures.proofs.line.put_place.Tie as tie
 put-index-requires : tie.Need-put-index-requires
 put-index-requires c κs = search needs
 
-fill-requires : tie.Need-fill-requires
-fill-requires c κs = search needs
+put-gap-requires : tie.Need-put-gap-requires
+put-gap-requires c κs = search needs
 
 same-length : tie.Need-same-length
 same-length c = search needs
@@ -15,7 +15,7 @@ same-length c = search needs
 returns : tie.Need-returns
 returns c =
     let start = c .before .before .before .before .before .before .before .before .before in
-    puts-filled (start .args .n) (c .before .before .before .before .before .before .put-index .ensures) (c .before .before .fill .ensures)
+    puts-cell 0 (start .args .n) (c .before .before .before .before .before .before .put-index .ensures) (c .before .before .put-gap .ensures)
 
 pub put-place-spec : {M : Type 1} → statement M
-put-place-spec = tie.close (tie.spec put-index-requires fill-requires same-length returns)
+put-place-spec = tie.close (tie.spec put-index-requires put-gap-requires same-length returns)

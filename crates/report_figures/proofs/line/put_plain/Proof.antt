@@ -1,6 +1,6 @@
 use Rattle.report_lines.specs.Puts.{puts-then}
 use Rattle.lists.specs.Bytes.{bytes}
-use Rattle.model_texts.specs.Figures.{plainLine}
+use Rattle.model_figures.specs.Figures.{plainLine}
 use borrow.Author.Needs.{needs}
 use Rattle.report_figures.proofs.line.put_plain.Statement.{statement}
 use Rattle.report_figures.proofs.line.put_plain.Tie as tie

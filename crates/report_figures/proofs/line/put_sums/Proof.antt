@@ -2,47 +2,43 @@ use mathlib.Core.Path.{sym, ap}
 use native.Mathlib.Omega.{arith}
 use lib.Ieee.{Float}
 use Rattle.report_lines.specs.Puts.{puts-then}
-use Rattle.lists.specs.Bytes.{bytes}
-use Rattle.model_texts.specs.Number.{numberText}
-use Rattle.model_texts.specs.Figures.{filled, sumLine}
+use Rattle.model_decimals.specs.Text.{floatText}
+use Rattle.model_figures.specs.Cells.{cell}
+use Rattle.model_figures.specs.Figures.{sumsText}
 use Rattle.report_figures.specs.Fill.{puts-is}
 use borrow.Author.Needs.{needs}
 use Rattle.report_figures.proofs.line.put_sums.Statement.{statement}
 use Rattle.report_figures.proofs.line.put_sums.Tie as tie
 
-tail-at-requires : tie.Need-tail-at-requires
-tail-at-requires c κs = omega arith
-
 returns : tie.Need-returns
-unfolding sumLine bytes
+unfolding sumsText
 returns c =
-    let c7 = c .before .before .before .before .before .before .before in
-    let c9 = c7 .before .before in
-    let c12 = c9 .before .before .before in
-    let c14 = c12 .before .before in
-    let c17 = c14 .before .before .before in
-    let c22 = c17 .before .before .before .before .before in
-    puts-then (c22 .put-place .ensures) (puts-then (c17 .put-column .ensures)
-    (puts-then (puts-is (ap (λ (x : Float). filled 20 (numberText x)) (sym (c14 .sum-to .ensures)))
-    (c12 .put-column2 .ensures))
-    (puts-then (puts-is (ap numberText (sym (c9 .tail-at .ensures))) (c7 .put-float .ensures))
-    (c .before .before .put .ensures))))
+    let c4 = c .before .before .before .before in
+    let c7 = c4 .before .before .before in
+    let c10 = c7 .before .before .before in
+    let c11 = c10 .before in
+    rw (c10 .if1 .taken) (puts-then (puts-is (ap (λ (x : Float). cell 29 20 (floatText x)) (sym (c11 .sum-to .ensures))) (c7 .put-cell
+    .ensures)) (puts-is (ap floatText (sym (c4 .tail-at .ensures))) (c .before .before .put-float .ensures)))
+
+returns-2 : tie.Need-returns-2
+unfolding sumsText
+returns-2 c =
+    let c4 = c .before .before .before .before in
+    let c5 = c4 .before in
+    rw (c4 .if1 .left) (puts-is (ap floatText (sym (c5 .sum-to .ensures))) (c .before .before .put-float2 .ensures))
 
 pub put-sums-spec : {M : Type 1} → statement M
 put-sums-spec =
     tie.close
     (tie.spec
-    (λ c κs. search needs)
-    (λ c. search needs)
-    (λ c. search needs)
-    (λ c κs. search needs)
     (λ c. search needs)
     (λ c κs. search needs)
     (λ c κs. search needs)
     (λ c. search needs)
-    tail-at-requires
+    (λ c κs. omega arith)
     (λ c κs. search needs)
     (λ c. search needs)
+    returns
     (λ c κs. search needs)
     (λ c. search needs)
-    returns)
+    returns-2)

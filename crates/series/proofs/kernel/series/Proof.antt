@@ -106,7 +106,7 @@ returns-2 c =
       (
         done-full e h (value start) z (start .args .out .now) n
             (entry-coeffs (start .args .logs) (start .args .head) (start .args .word) (start .args .a .now) (t .left)
-            (t .told) (t .count-a) (c9 .series-into .ensures))
+            (t .told) (t .count-a) (c9 .series-into .ensures .0))
             (c9 .series-into .kept .1 .1 .1 .1 .1 .1 .0 ∙ length-take-le _ _ (fits c17 .1)),
         done-scratch e h (value start) z (start .args .scratch .now) (c9 .series-into .last .1 .1 .1 .1 .1 .1 .1 .0)
             (ap (λ (k : ℕ). 8 * k) n) (used c9) (c .before .before .before .clear .ensures) (length-take-le _ _ (rooms c9)),

@@ -9,7 +9,7 @@ use Rattle.settings_text.proofs.line.put_content.Reads as reads
 use Rattle.settings_text.proofs.line.put_content.Lts as lts
 use Rattle.report_lines.proofs.put.put.Reads as put-reads
 use Rattle.report_lines.proofs.put.tell.Reads as tell-reads
-use Rattle.settings_text.proofs.line.put_hex.Reads as put-hex-reads
+use Rattle.settings_text.proofs.line.put_chance.Reads as put-chance-reads
 
 slice-aggregate-put : tie.Need-slice-aggregate-put
 slice-aggregate-put c = search needs
@@ -17,8 +17,8 @@ slice-aggregate-put c = search needs
 put-requires : tie.Need-put-requires
 put-requires c κs = search needs
 
-put-hex-requires : tie.Need-put-hex-requires
-put-hex-requires c κs = search needs
+put-chance-requires : tie.Need-put-chance-requires
+put-chance-requires c κs = search needs
 
 slice-aggregate-tell : tie.Need-slice-aggregate-tell
 slice-aggregate-tell c = search needs
@@ -49,7 +49,7 @@ returns c =
     let c17 = c12 .before .before .before .before .before in
     let c21 = c17 .before .before .before .before in
     puts-then (c21 .put .ensures)
-    (puts-then (c17 .put-hex .ensures)
+    (puts-then (c17 .put-chance .ensures)
     (puts-then (c12 .tell .ensures) (puts-then (c7 .tell2 .ensures) (c .before .before .put2 .ensures))))
 
 pub put-content-spec : {M : Type 1} → statement M
@@ -58,7 +58,7 @@ put-content-spec =
     (tie.spec
     slice-aggregate-put
     put-requires
-    put-hex-requires
+    put-chance-requires
     slice-aggregate-tell
     tell-requires
     slice-aggregate-tell-2

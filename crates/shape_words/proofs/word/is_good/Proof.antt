@@ -1,5 +1,5 @@
 use lib.Bits.{and-mask}
-use Rattle.model.specs.Word.{goodWord}
+use Rattle.shape_words.specs.Sound.{good-word-is}
 use borrow.Author.Needs.{needs}
 use Rattle.shape_words.proofs.word.is_good.Statement.{statement}
 use Rattle.shape_words.proofs.word.is_good.Tie as tie
@@ -11,8 +11,7 @@ good-header-requires : tie.Need-good-header-requires
 good-header-requires c κs = search needs
 
 returns : tie.Need-returns
-unfolding goodWord
-returns c = simp (c .good-header .ensures, c .before .header-of .ensures, and-mask ((c .before .before) .args .word) 13)
+returns c = simp (c .good-header .ensures, c .before .header-of .ensures, and-mask ((c .before .before) .args .word) 13, good-word-is)
 
 pub is-good-spec : {M : Type 1} → statement M
 is-good-spec = tie.close (tie.spec header-of-requires good-header-requires returns)

@@ -33,12 +33,14 @@ horner-to-requires c κs =
     )
 
 returns : tie.Need-returns
-returns c =
-    let c9 = c .before .before .before .before .before .before .before .before .before in
-    let start = c9 .before .before .before .before .before .before .before .before in
-    wrote-same (horner-is (start .pre .0) (taken (start .args .p) (start .args .a .now) (take (start .args .at) (start .args .out .now)) .coeffs)
-    (taken (start .args .q) (start .args .b .now) (take (start .args .at) (start .args .out .now)) .coeffs) (c9 .way-from .ensures)
-    (c .before .before .before .before .before .before .before .if1 .taken)) (c .before .before .before .before .horner-to .ensures)
+returns c = (
+  let c9 = c .before .before .before .before .before .before .before .before .before in
+      let start = c9 .before .before .before .before .before .before .before .before in
+      wrote-same (horner-is (start .pre .0) (taken (start .args .p) (start .args .a .now) (take (start .args .at) (start .args .out .now)) .coeffs)
+      (taken (start .args .q) (start .args .b .now) (take (start .args .at) (start .args .out .now)) .coeffs) (c9 .way-from .ensures)
+      (c .before .before .before .before .before .before .before .if1 .taken)) (c .before .before .before .before .horner-to .ensures .0),
+  search needs,
+)
 
 plain-given-requires : tie.Need-plain-given-requires
 plain-given-requires c κs =
@@ -51,12 +53,14 @@ plain-given-requires c κs =
     )
 
 returns-2 : tie.Need-returns-2
-returns-2 c =
-    let c7 = c .before .before .before .before .before .before .before in
-    let start = c7 .before .before .before .before .before .before .before .before in
-    wrote-same (plain-is (start .pre .0) (taken (start .args .p) (start .args .a .now) (take (start .args .at) (start .args .out .now)) .coeffs)
-    (taken (start .args .q) (start .args .b .now) (take (start .args .at) (start .args .out .now)) .coeffs) (c7 .way-from .ensures)
-    (c .before .before .before .before .before .if1 .left)) (c .before .before .plain-given .ensures)
+returns-2 c = (
+  let c7 = c .before .before .before .before .before .before .before in
+      let start = c7 .before .before .before .before .before .before .before .before in
+      wrote-same (plain-is (start .pre .0) (taken (start .args .p) (start .args .a .now) (take (start .args .at) (start .args .out .now)) .coeffs)
+      (taken (start .args .q) (start .args .b .now) (take (start .args .at) (start .args .out .now)) .coeffs) (c7 .way-from .ensures)
+      (c .before .before .before .before .before .if1 .left)) (c .before .before .plain-given .ensures),
+  search needs,
+)
 
 plain-earlier-requires : tie.Need-plain-earlier-requires
 plain-earlier-requires c κs =
@@ -69,12 +73,14 @@ plain-earlier-requires c κs =
     )
 
 returns-3 : tie.Need-returns-3
-returns-3 c =
-    let c10 = c .before .before .before .before .before .before .before .before .before .before in
-    let start = c10 .before .before .before .before .before .before .before .before in
-    wrote-same (plain-is (start .pre .0) (taken (start .args .p) (start .args .a .now) (take (start .args .at) (start .args .out .now)) .coeffs)
-    (taken (start .args .q) (start .args .b .now) (take (start .args .at) (start .args .out .now)) .coeffs) (c10 .way-from .ensures)
-    (c .before .before .before .before .before .before .before .before .if1 .left)) (c .before .before .before .before .plain-earlier .ensures)
+returns-3 c = (
+  let c10 = c .before .before .before .before .before .before .before .before .before .before in
+      let start = c10 .before .before .before .before .before .before .before .before in
+      wrote-same (plain-is (start .pre .0) (taken (start .args .p) (start .args .a .now) (take (start .args .at) (start .args .out .now)) .coeffs)
+      (taken (start .args .q) (start .args .b .now) (take (start .args .at) (start .args .out .now)) .coeffs) (c10 .way-from .ensures)
+      (c .before .before .before .before .before .before .before .before .if1 .left)) (c .before .before .before .before .plain-earlier .ensures .0),
+  search needs,
+)
 
 pub front-to-spec : {M : Type 1} → statement M
 front-to-spec =

@@ -86,14 +86,16 @@ first-turn-requires c κs =
     (start .pre .1 .1 .1)) ∙ omega arith) (c .before .before .before .before .row-from .ensures .below .len)
 
 returns : tie.Need-returns
-returns c =
-    let c5 = c .before .before .before .before .before in let c10 = c5 .before .before .before .before .before in
-    let c13 = c10 .before .before .before in let c14 = c13 .before in
-    let start = c14 .before .before .before .before .before .before .before .before in
-    wrote-of (wrote c5) (start-one (start .pre .0)
-    (taken (start .args .p) (start .args .a .now) (take (start .args .at) (start .args .out .now)) .coeffs)
-    (taken (start .args .q) (start .args .b .now) (take (start .args .at) (start .args .out .now)) .coeffs) (start .pre .1 .0) (c13 .highest .ensures)
-    (c14 .row-lengths .ensures) (c10 .row-from .ensures) (c5 .first-turn .ensures) (c .if1 .taken))
+returns c = (
+  let c5 = c .before .before .before .before .before in let c10 = c5 .before .before .before .before .before in
+      let c13 = c10 .before .before .before in let c14 = c13 .before in
+      let start = c14 .before .before .before .before .before .before .before .before in
+      wrote-of (wrote c5) (start-one (start .pre .0)
+      (taken (start .args .p) (start .args .a .now) (take (start .args .at) (start .args .out .now)) .coeffs)
+      (taken (start .args .q) (start .args .b .now) (take (start .args .at) (start .args .out .now)) .coeffs) (start .pre .1 .0) (c13 .highest .ensures)
+      (c14 .row-lengths .ensures) (c10 .row-from .ensures) (c5 .first-turn .ensures) (c .if1 .taken)),
+  search needs,
+)
 
 slice-reshare-prefix-put-from : tie.Need-slice-reshare-prefix-put-from
 slice-reshare-prefix-put-from c =
@@ -151,22 +153,24 @@ rows-to-requires c κs =
     )
 
 returns-2 : tie.Need-returns-2
-returns-2 c =
-    let c9 = c .before .before .before .before .before .before .before .before .before in
-    let c12 = c9 .before .before .before in let c14 = c12 .before .before in
-    let c19 = c14 .before .before .before .before .before in let c24 = c19 .before .before .before .before .before in
-    let c27 = c24 .before .before .before in let c28 = c27 .before in
-    let start = c28 .before .before .before .before .before .before .before .before in
-    turns-wrote (ap (λ (z : List Float). turns (start .args .limits) (start .args .v)
-    (block (start .args .p .head .lengths) z) (c27 .highest .result)
-    (putIn (c12 .cut-to .result) (c9 .put-from .last .1 .1 .1 .1 .0))
-    (valueIn (start .args .n) (c19 .first-turn .result) (c9 .put-from .last .1 .1 .1 .1 .0)))
-    (same-operand (start .args .p) (start .args .a .now)
-    (wrote c19 .below .head))) (wrote c19) (c .before .before .before .before .rows-to .ensures)
-    (start-stands (start .pre .0) (taken (start .args .p) (start .args .a .now) (take (start .args .at) (start .args .out .now)) .coeffs)
-    (taken (start .args .q) (start .args .b .now) (take (start .args .at) (start .args .out .now)) .coeffs) (start .pre .1 .0) (c27 .highest .ensures)
-    (c28 .row-lengths .ensures) (c24 .row-from .ensures) (c19 .first-turn .ensures) (omega (arith, c14 .if1 .left))
-    (c12 .cut-to .ensures) (loaded c9))
+returns-2 c = (
+  let c9 = c .before .before .before .before .before .before .before .before .before in
+      let c12 = c9 .before .before .before in let c14 = c12 .before .before in
+      let c19 = c14 .before .before .before .before .before in let c24 = c19 .before .before .before .before .before in
+      let c27 = c24 .before .before .before in let c28 = c27 .before in
+      let start = c28 .before .before .before .before .before .before .before .before in
+      turns-wrote (ap (λ (z : List Float). turns (start .args .limits) (start .args .v)
+      (block (start .args .p .head .lengths) z) (c27 .highest .result)
+      (putIn (c12 .cut-to .result) (c9 .put-from .last .1 .1 .1 .1 .0))
+      (valueIn (start .args .n) (c19 .first-turn .result) (c9 .put-from .last .1 .1 .1 .1 .0)))
+      (same-operand (start .args .p) (start .args .a .now)
+      (wrote c19 .below .head))) (wrote c19) (c .before .before .before .before .rows-to .ensures .0)
+      (start-stands (start .pre .0) (taken (start .args .p) (start .args .a .now) (take (start .args .at) (start .args .out .now)) .coeffs)
+      (taken (start .args .q) (start .args .b .now) (take (start .args .at) (start .args .out .now)) .coeffs) (start .pre .1 .0) (c27 .highest .ensures)
+      (c28 .row-lengths .ensures) (c24 .row-from .ensures) (c19 .first-turn .ensures) (omega (arith, c14 .if1 .left))
+      (c12 .cut-to .ensures) (loaded c9)),
+  search needs,
+)
 
 pub horner-to-spec : {M : Type 1} → statement M
 horner-to-spec =

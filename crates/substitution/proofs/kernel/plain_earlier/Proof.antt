@@ -26,13 +26,15 @@ plain-from-requires c κs =
     )
 
 returns : tie.Need-returns
-returns c =
-    let c7 = c .before .before .before .before .before .before .before in let start = c7 .before .before .before .before .before .before in
-    wrote-of (front-kept (c7 .plain-from .last .1 .1 .1 .1 .1 .1 .0)
-    (drop (start .args .n) (start .args .work .now)) (c .before .before .keep .ensures)
-    (c7 .plain-from .kept .1 .1 .1 .1 .1 .1 .0
-    ∙ (length-take-le (start .args .n) (start .args .work .now) (omega (arith, start .pre .1 .1 .1)))) refl)
-    (c7 .plain-from .ensures)
+returns c = (
+  let c7 = c .before .before .before .before .before .before .before in let start = c7 .before .before .before .before .before .before in
+      wrote-of (front-kept (c7 .plain-from .last .1 .1 .1 .1 .1 .1 .0)
+      (drop (start .args .n) (start .args .work .now)) (c .before .before .keep .ensures)
+      (c7 .plain-from .kept .1 .1 .1 .1 .1 .1 .0
+      ∙ (length-take-le (start .args .n) (start .args .work .now) (omega (arith, start .pre .1 .1 .1)))) refl)
+      (c7 .plain-from .ensures),
+  search needs,
+)
 
 pub plain-earlier-spec : {M : Type 1} → statement M
 plain-earlier-spec =

@@ -3,6 +3,7 @@ use mathlib.Core.Path.{refl, sym, _∙_}
 use Prim.Native.Nat.{_+_, _-_}
 use lib.ListN.{take}
 use lib.Seq.{length-take-le}
+use borrow.Author.Needs.{needs}
 use Rattle.lists.specs.Part.{length-part}
 use Rattle.model.specs.Header.{stored}
 use Rattle.model.specs.Poly.{blockOf}
@@ -96,7 +97,10 @@ same-length-2 : tie.Need-same-length-2 Inv-loop μ-loop
 same-length-2 c = c .before .loop .inv .runs .room .work ∙ sym (c .before .before .before .before .before .pre .0 .work)
 
 returns : tie.Need-returns Inv-loop μ-loop
-returns c = to-end (c .before .loop .inv) (c .loop-test .left)
+returns c = (
+  to-end (c .before .loop .inv) (c .loop-test .left),
+  search needs,
+)
 
 pub rows-to-spec : {M : Type 1} → statement M
 rows-to-spec =

@@ -28,7 +28,7 @@ count-of-requires c κs =
     let start = c .before .before .before .before .before .before .before .before .before .before .before .before in
     value-lengths (start .pre .0) (taken (start .args .p) (start .args .a .now) (take (start .args .at) (start .args .out .now)) .coeffs)
     (taken (start .args .q) (start .args .b .now) (take (start .args .at) (start .args .out .now)) .coeffs)
-    (full start) (c .before .before .before .before .front-to .ensures)
+    (full start) (c .before .before .before .before .front-to .ensures .0)
 
 add-pad : tie.Need-add-pad
 add-pad c =
@@ -40,7 +40,7 @@ add-pad c =
       start .good,
       value-count (start .pre .0) (taken (start .args .p) (start .args .a .now) (take (start .args .at) (start .args .out .now)) .coeffs)
           (taken (start .args .q) (start .args .b .now) (take (start .args .at) (start .args .out .now)) .coeffs) (full start)
-          (c .before .before .before .before .before .before .front-to .ensures) (c .before .count-of .ensures),
+          (c .before .before .before .before .before .before .front-to .ensures .0) (c .before .count-of .ensures),
     )
 
 add-pad-2 : tie.Need-add-pad-2
@@ -56,21 +56,27 @@ pad-requires c κs =
       omega (
         arith,
         value-count (start .pre .0) (taken (start .args .p) (start .args .a .now) (take (start .args .at) (start .args .out .now)) .coeffs)
-            (taken (start .args .q) (start .args .b .now) (take (start .args .at) (start .args .out .now)) .coeffs) (full start) (c6 .front-to .ensures)
+            (taken (start .args .q) (start .args .b .now) (take (start .args .at) (start .args .out .now)) .coeffs) (full start) (c6 .front-to .ensures .0)
             (c .before .count-of .ensures),
       ),
-      omega (arith, start .pre .1 .1 .1 .room, c6 .front-to .ensures .stays .below .len),
+      omega (arith, start .pre .1 .1 .1 .room, c6 .front-to .ensures .0 .stays .below .len),
     )
+
+same-length-2 : tie.Need-same-length-2
+same-length-2 c = search needs
 
 returns : tie.Need-returns
 returns c =
     let c9 = c .before .before .before .before .before .before .before .before .before in
     let start = c9 .before .before .before .before .before .before .before .before in (
       value-head (start .pre .0) (taken (start .args .p) (start .args .a .now) (take (start .args .at) (start .args .out .now)) .coeffs)
-          (taken (start .args .q) (start .args .b .now) (take (start .args .at) (start .args .out .now)) .coeffs) (full start) (c9 .front-to .ensures),
-      value-kept (start .pre .0) (taken (start .args .p) (start .args .a .now) (take (start .args .at) (start .args .out .now)) .coeffs)
-          (taken (start .args .q) (start .args .b .now) (take (start .args .at) (start .args .out .now)) .coeffs) (full start) (c9 .front-to .ensures)
-          (c .before .before .before .before .count-of .ensures) (c .before .before .pad .ensures),
+          (taken (start .args .q) (start .args .b .now) (take (start .args .at) (start .args .out .now)) .coeffs) (full start) (c9 .front-to .ensures .0),
+      (
+        value-kept (start .pre .0) (taken (start .args .p) (start .args .a .now) (take (start .args .at) (start .args .out .now)) .coeffs)
+            (taken (start .args .q) (start .args .b .now) (take (start .args .at) (start .args .out .now)) .coeffs) (full start) (c9 .front-to .ensures .0)
+            (c .before .before .before .before .count-of .ensures) (c .before .before .pad .ensures),
+        same-length-2 c,
+      ),
     )
 
 pub substitute-to-spec : {M : Type 1} → statement M
@@ -78,4 +84,4 @@ substitute-to-spec =
     tie.close
     (tie.spec
     (λ c. search needs) (λ c. search needs) slice-aggregate-front-to front-to-requires count-of-requires add-pad
-    add-pad-2 pad-requires (λ c. search needs) (λ c. search needs) returns)
+    add-pad-2 pad-requires (λ c. search needs) same-length-2 returns)

@@ -128,7 +128,7 @@ returns-2 c =
       (
         done-full e (announcedPair Sum (start .args .ah) (start .args .bh)) (value start) z (start .args .out .now) n
             (sum-coeffs (start .args .minus) (start .args .ah) (start .args .a .now) (start .args .bh)
-            (start .args .b .now) (t .left) (t .right) (told-by Sum t) (t .count-a) (t .count-b) (c9 .sum-into .ensures))
+            (start .args .b .now) (t .left) (t .right) (told-by Sum t) (t .count-a) (t .count-b) (c9 .sum-into .ensures .0))
             (c9 .sum-into .kept .1 .1 .1 .1 .1 .1 .1 .1 .0
             ∙ length-take-le _ _ (opened-fits (c24 .open-pair .ensures) (c21 .if1 .left) .2)),
         done-scratch e (announcedPair Sum (start .args .ah) (start .args .bh)) (value start) z

@@ -3,20 +3,12 @@ use borrow.Author.Needs.{needs}
 use Rattle.taylor.proofs.answers.refusal_word.Statement.{statement}
 use Rattle.taylor.proofs.answers.refusal_word.Tie as tie
 
-cast-result : tie.Need-cast-result
-cast-result c = search needs
-
-cast-result-2 : tie.Need-cast-result-2
-cast-result-2 c = search needs
-
-mul-result : tie.Need-mul-result
-mul-result c = search needs
-
-add-result : tie.Need-add-result
-add-result c = search needs
-
 returns : tie.Need-returns
 returns c = refl
 
 pub refusal-word-spec : {M : Type 1} → statement M
-refusal-word-spec = tie.close (tie.spec cast-result cast-result-2 mul-result add-result returns)
+refusal-word-spec =
+    tie.close
+    (tie.spec
+    (λ c. search needs) (λ c. search needs) (λ c. search needs) (λ c. search needs) (λ c. search needs)
+    (λ c. search needs) (λ c. search needs) (λ c. search needs) (λ c. search needs) (λ c. search needs) returns)

@@ -3,8 +3,8 @@ use borrow.Author.Needs.{needs}
 use Rattle.taylor.proofs.settings.settings_save.Statement.{statement}
 use Rattle.taylor.proofs.settings.settings_save.Tie as tie
 
-word-of-requires : tie.Need-word-of-requires
-word-of-requires c κs = search needs
+content-of-requires : tie.Need-content-of-requires
+content-of-requires c κs = search needs
 
 save-requires : tie.Need-save-requires
 save-requires c κs = search needs
@@ -12,8 +12,8 @@ save-requires c κs = search needs
 put-version-requires : tie.Need-put-version-requires
 put-version-requires c κs = search needs
 
-word-of-requires-2 : tie.Need-word-of-requires-2
-word-of-requires-2 c κs = search needs
+word-of-requires : tie.Need-word-of-requires
+word-of-requires c κs = search needs
 
 same-length : tie.Need-same-length
 same-length c = search needs
@@ -21,16 +21,16 @@ same-length c = search needs
 returns : tie.Need-returns
 returns c =
     let c5 = c .before .before .before .before .before in
-    rw (← c .before .before .before .before .before .before .before .word-of .ensures, ← c5 .save .ensures .0)
-    (c .word-of2 .ensures, (c .before .put-version .ensures, c5 .save .ensures .1 ∙ rw (← c5 .save .ensures .0)))
+    rw (← c5 .before .content-of .ensures, ← c5 .save .ensures .0)
+    (c .word-of .ensures, (c .before .put-version .ensures, c5 .save .ensures .1 ∙ rw (← c5 .save .ensures .0)))
 
 pub settings-save-spec : {M : Type 1} → statement M
 settings-save-spec =
     tie.close
     (tie.spec
-    word-of-requires
+    content-of-requires
     save-requires
     put-version-requires
-    word-of-requires-2
+    word-of-requires
     same-length
     returns)

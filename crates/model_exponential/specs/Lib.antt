@@ -1,0 +1,4 @@
+pub mod Exact
+pub mod Head
+pub mod Constant
+pub mod Promises

@@ -1,0 +1,3 @@
+pub mod Announced
+pub mod Counts
+pub mod Formed

@@ -1,0 +1,145 @@
+-- By what a sheet is refused, where it is read, judged or run.
+use Prim.Native.Nat.{ℕ, _+_, _*_, _≤_}
+use mathlib.Core.List.{List, _++_, map}
+use mathlib.Core.Path.{_≡_, refl, sym, ap, _∙_}
+use native.Mathlib.Omega.{arith}
+use lib.Dec.{eqb}
+use lib.Ieee.{Float}
+use lib.ListN.{length, take, drop, length-append, length-drop}
+use lib.Seq.{length-take-le, take-at, take-all}
+use borrow.Author.Tests.{eqb-true, eqb-false}
+use Rattle.lists.specs.Table.{table, length-table}
+use Rattle.lists.specs.Test.{decide}
+use Rattle.model.specs.declared.Refusal.{Refusal}
+use Rattle.model.specs.Word.{headerOf}
+use Rattle.model.specs.Refusals.{zeros}
+use Rattle.model_recipes.specs.Recipe.{announcedSteps, total, largest}
+use Rattle.model_recipes.specs.Check.{orElse, checkRefusal}
+use Rattle.model_recipes.specs.Run.{runRefusal}
+use Rattle.model_texts.specs.Sheet.{wordOn, inputCount, stepCount, sheetHeaders, coefficientCount, sheetCoefficients}
+use Rattle.model_texts.specs.Sheet.{sheetSteps, ownRefusal, recipeRefusal, readRefusal, sheetRefusal}
+use Rattle.recipes_kinds.specs.Known.{Known}
+use Rattle.recipes_check.specs.Asks.{or-first, or-next}
+use Rattle.sheet_reading.specs.Headers.{good-known}
+use Rattle.sheet_solving.specs.Opened.{Opened, opened, opened-good, opened-few, headers-many, steps-many}
+use Rattle.sheet_limits.specs.Limits.{OwnJudged}
+use Rattle.sheet_solving.specs.declared.Solved.{Solved}
+use Rattle.sheet_solving.specs.Running.{Opening, Running, running-passed, running-known}
+use Rattle.sheet_solving.specs.Solves.{Ends, Ended}
+
+-- refused as it is read
+pub read-refused : (t : List ℕ) {r : Refusal} → r ≡ readRefusal t → (r .number ≡ 0 → ⊥) → r ≡ sheetRefusal t
+unfolding sheetRefusal
+read-refused t {r} e z = sym (ap (λ (x : Refusal). orElse x (recipeRefusal (sheetHeaders t) (sheetCoefficients t) (sheetSteps t))) (sym e) ∙ or-first _ z)
+
+or-assoc : (a b c : Refusal) → orElse a (orElse b c) ≡ orElse (orElse a b) c
+or-assoc a b c =
+    decide (eqb (a .number) 0)
+    (λ e. let z = eqb-true (a .number) 0 e in or-next a (orElse b c) z ∙ sym (ap (λ (x : Refusal). orElse x c) (or-next a b z)))
+    (λ e. let z = eqb-false (a .number) 0 e in or-first (orElse b c) z ∙ sym (ap (λ (x : Refusal). orElse x c) (or-first b z) ∙ or-first c z))
+
+-- the run of a sheet's recipe
+abbrev pub ranRefusal : List ℕ → List Float → List ℕ → Refusal
+ranRefusal hs cs ss =
+    runRefusal hs cs ss (zeros (total (announcedSteps hs ss))) (table (length ss) (λ k. 0)) (zeros (8 * largest (announcedSteps hs ss)))
+
+-- ---- a text that is read, with its input headers
+
+module _ {t hs : List ℕ} (o : Opening t hs) where
+  open-t : Opened t
+  open-t = opened t (o .read)
+
+  pub opening-few : length hs ≤ 16
+  opening-few = omega (arith, ap length (o .headers) ∙ headers-many t, open-t .sizes .few)
+
+  pub opening-fit : length hs + stepCount t ≤ 64
+  opening-fit = omega (arith, ap length (o .headers) ∙ headers-many t, open-t .sizes .fit)
+
+  pub opening-known : Known (map headerOf hs)
+  opening-known = rw (o .headers) (good-known (opened-good open-t))
+
+  pub opening-count : total (map headerOf hs) ≡ coefficientCount t
+  unfolding coefficientCount
+  opening-count = ap (λ (l : List ℕ). total (map headerOf l)) (o .headers)
+
+  pub opening-small : total (map headerOf hs) ≤ 65536
+  opening-small = omega (arith, opening-count, opened-few open-t, open-t .sizes .few)
+
+  -- the steps were read into the first n places of old, which hold `part` now
+  module _ {n x : ℕ} (old : List ℕ) {part : List ℕ} (en : n ≡ stepCount t) (ex : x ≡ total (map headerOf hs)) (m : 64 ≤ length old)
+      (ep : part ≡ table (length (take n old)) (λ j. wordOn t (1 + length hs + x + j))) where
+    pub steps-places : n ≤ length old
+    steps-places = omega (arith, opening-fit)
+
+    steps-taken : length (take n old) ≡ n
+    steps-taken = length-take-le n old steps-places
+
+    part-len : length part ≡ n
+    part-len = ap length ep ∙ (length-table (λ j. wordOn t (1 + length hs + x + j)) (length (take n old)) ∙ steps-taken)
+
+    pub steps-room : length (part ++ drop n old) ≡ length old
+    steps-room = omega (arith, length-append part (drop n old), length-drop n old, part-len, steps-places)
+
+    pub steps-read : take n (part ++ drop n old) ≡ sheetSteps t
+    unfolding sheetSteps
+    steps-read =
+        let eh : length hs ≡ inputCount t = ap length (o .headers) ∙ headers-many t in
+        take-at part (drop n old) n part-len ∙ (ep ∙ rw (steps-taken, en, ex, opening-count, eh) refl)
+
+  -- the run's own refusal comes last
+  pub opening-refusal : {ss : List ℕ} → ss ≡ sheetSteps t
+      → sheetRefusal t ≡ orElse (orElse (checkRefusal hs ss) (ownRefusal hs ss))
+      (ranRefusal hs (sheetCoefficients t) ss)
+  unfolding sheetRefusal recipeRefusal
+  opening-refusal {ss} es =
+      or-next (readRefusal t) (recipeRefusal (sheetHeaders t) (sheetCoefficients t) (sheetSteps t)) (o .read)
+      ∙ (rw (← o .headers, ← es)
+      (or-assoc (checkRefusal hs ss) (ownRefusal hs ss) (ranRefusal hs (sheetCoefficients t) ss)))
+
+  -- judged, and refused
+  pub judged-refused : {ss old new : List ℕ} {r : Refusal} → ss ≡ sheetSteps t → OwnJudged hs ss old new r → (r .number ≡ 0 → ⊥) → r ≡ sheetRefusal t
+  judged-refused {ss} {old} {new} {r} es j z =
+      sym (opening-refusal es ∙ (ap (λ (x : Refusal). orElse x (ranRefusal hs (sheetCoefficients t) ss)) (sym (j .answer)) ∙ or-first _ z))
+
+  pub running : {ss old new : List ℕ} {r : Refusal} {end c : ℕ} → ss ≡ sheetSteps t → OwnJudged hs ss old new r
+      → r .number ≡ 0 → end ≡ length hs + length ss → c ≡ total (map headerOf hs) → Running t hs ss (take end new) c
+  running es j z ee ec =
+      record {
+        opened = o;
+        steps = es;
+        judged = ap (λ (x : Refusal). x .number) (sym (j .answer)) ∙ z;
+        places = rw ee (j .noted z);
+        given = ec;
+      }
+
+-- the run has ended: its n steps stand at the front of `steps`, the words of its k places at the front of `known`
+module _ {t hs : List ℕ} (steps known : List ℕ) (old : List Float) {pool : List Float} {n k c : ℕ} {s : Solved}
+    (r : Running t hs (take n steps) (take k known) c)
+    (en : n ≡ stepCount t) (ek : k ≡ length hs + n) (e : Ends t hs (take n steps) pool s) where
+  ended-steps : length (take n steps) ≡ n
+  ended-steps = ap length (r .steps) ∙ (steps-many t ∙ sym en)
+
+  pub ended-done : Ended t hs steps known old pool s
+  ended-done =
+      record {
+        refusal = e .refusal;
+        refused = λ z. absurd (z (e .none));
+        done = λ z.
+            let d = e .done z in
+            let i : s .inputs ≡ length hs = d .inputs in
+            let m : s .steps ≡ n = d .steps ∙ ended-steps in
+            let both : s .inputs + s .steps ≡ k = omega (arith, i, m, ek) in
+            let some = running-passed r .accepts .sizes .some in
+            record {
+              inputs = i ∙ (ap length (r .opened .headers) ∙ headers-many t);
+              few = omega (arith, i, opening-few (r .opened));
+              steps = m ∙ en;
+              some = omega (arith, d .steps, some);
+              fit = omega (arith, i, m, en, opening-fit (r .opened));
+              header-words = take-all (s .inputs) hs (omega (arith, i)) ∙ r .opened .headers;
+              step-words = ap (λ (x : ℕ). take x steps) m ∙ r .steps;
+              places = rw (both, r .places, r .opened .headers, r .steps) refl;
+              known = rw both (running-known r);
+              last = d .last;
+            };
+      }

@@ -1,0 +1,5 @@
+pub mod Opened
+pub mod Running
+pub mod Solves
+pub mod Ended
+pub mod Ran
