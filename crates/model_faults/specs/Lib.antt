@@ -6,4 +6,3 @@ pub mod StepCount
 pub mod Own
 pub mod Fault
 pub mod Help
-pub mod Told

@@ -1,5 +1,5 @@
--- REFERENCE 9.1. The figures of a report: a line for each stored place, with its index and its coefficient; for one
--- variable the running sum and the tail too, of the total 1.0.
+-- The figures of a report before they stood in columns for people. No program prints them and no contract cites them:
+-- what `limits` prints is in model_figures/specs/Figures.antt.
 use Prim.Native.Nat.{ℕ, _+_, _-_}
 use mathlib.Core.Bool.{cond}
 use mathlib.Core.List.{List, _++_}

@@ -1,5 +1,5 @@
--- REFERENCE 9. What the program `limits` prints for a sheet: where it is refused what `recipe` prints and a sentence;
--- else all that is said of limits, and then the figures of the last value.
+-- What a report was before inputs were shown back and numbers stood in decimal. No program prints it and no contract
+-- cites it: what `limits` prints is `toldText` of model_forecast/specs/Told.antt.
 use Prim.Native.Nat.{ℕ, _+_}
 use mathlib.Core.Bool.{cond}
 use mathlib.Core.List.{List, _++_}
