@@ -91,9 +91,9 @@ powerRow =
       gate = λ s a b n m. workGate (Power (s .n)) (wordOf (a .head)) (length (a .coeffs)) n m;
     }
 
--- 0 to 10; there is no other kind
-abbrev pub kinds : List Kind
-kinds =
+-- 0 to 10 in the edition e; there is no other kind
+abbrev pub kinds : ℕ → List Kind
+kinds e =
     constantRow
     ∷ negateRow
     ∷ pair "add" false (λ s. Sum) (λ s. combined false)

@@ -153,9 +153,9 @@ pub fn is_formed(word: u64, at: usize) -> bool
         & (word & 16383 == 0)
 }
 
-// The family by which a step announces.
-pub fn family_of(s: Step) -> Family
-    ensures { λ r. ⌜ r ≡ familyOf s ⌝ }
+// The family by which a step announces in an edition.
+pub fn family_of(edition: u64, s: Step) -> Family
+    ensures { λ r. ⌜ r ≡ familyOf edition s ⌝ }
 {
     let kind = s.kind;
     match kind {

@@ -24,8 +24,8 @@ use Rattle.model_recipes.specs.Run.{operations, noValue, valueAt, stepValue}
 use Rattle.recipes_laws.specs.Formed.{formed-right}
 use Rattle.recipes_laws.specs.Demand.{Computed}
 
--- before: the values of the p places before the step w; all: of these and others
-module _ (w p : ℕ) (before all : List Poly) (f : formed w p ≡ true) (same : (q : ℕ) → q < p → valueAt before q ≡ valueAt all q) where
+-- before: the values of the p places before the step w in the edition ed; all: of these and others
+module _ (ed w p : ℕ) (before all : List Poly) (f : formed w p ≡ true) (same : (q : ℕ) → q < p → valueAt before q ≡ valueAt all q) where
   abbrev s : Step
   s = stepOf w
 
@@ -36,7 +36,7 @@ module _ (w p : ℕ) (before all : List Poly) (f : formed w p ≡ true) (same : 
   early-b u = decide (ltb (s .b) p) (ltb-true _ _) (λ t. absurd (formed-right w p f (late-b u (ltb-false _ _ t))))
 
   -- the row k of the table of operations
-  row : (k : ℕ) → s .kind ≡ k → stepValue w before ≡ getD (operations s (valueAt before (s .a)) (valueAt before (s .b))) k noValue
+  row : (k : ℕ) → s .kind ≡ k → stepValue ed w before ≡ getD (operations ed s (valueAt before (s .a)) (valueAt before (s .b))) k noValue
   unfolding stepValue
   row k e = rw e
 
@@ -47,7 +47,7 @@ module _ (w p : ℕ) (before all : List Poly) (f : formed w p ≡ true) (same : 
       → g (valueAt before (s .a)) (valueAt before (s .b)) ≡ g (valueAt all (s .a)) (valueAt all (s .b))
   two k g e u v = one k (λ x. g x (valueAt before (s .b))) e u ∙ ap (g (valueAt all (s .a))) (same (s .b) (early-b (rw e v)))
 
-  pub computed : Computed s p (valueAt all) (stepValue w before)
+  pub computed : Computed s p (valueAt all) (stepValue ed w before)
   unfolding operations rows
   computed =
       record {

@@ -26,7 +26,7 @@ use Rattle.model.specs.Power.{powerPoly}
 use Rattle.model.specs.Shifts.{derivativePoly, expansionPoly, shiftDownPoly}
 use Rattle.model.specs.Substitute.{substitutePoly}
 use Rattle.model_recipes.specs.Steps.{stepOf, usesOf}
-use Rattle.model_recipes.specs.Recipe.{headAt, announcedPlaces, announcedSteps, total}
+use Rattle.model_recipes.specs.Recipe.{Recipe, headAt, announcedPlaces, announcedSteps, total}
 use Rattle.model_recipes.specs.Check.{checkAnswer}
 use Rattle.model_recipes.specs.Run.{inputValues, valueAt, values, runAnswer, runPool, runWords}
 
@@ -59,36 +59,35 @@ pub record Computed (s : Step) (p : ℕ) (value : ℕ → Poly) (v : Poly) : Typ
   pub shifts : s .kind ≡ 9 → v ≡ shiftDownPoly (s .variable) (s .n) (value (s .a))
   pub substitutes : s .kind ≡ 10 → v ≡ substitutePoly (s .variable) (value (s .a)) (value (s .b))
 
--- hs the inputs' header words, cs their coefficients, ss the step words, pool, words and scratch the buffers as they
--- came
-module _ (hs : List ℕ) (cs : List Float) (ss : List ℕ) (pool : List Float) (words : List ℕ) (scratch : List Float) where
+-- cs the inputs' coefficients, pool, words and scratch the buffers as they came
+module _ (it : Recipe) (cs : List Float) (pool : List Float) (words : List ℕ) (scratch : List Float) where
   -- the value of a place, inputs first, and what it announces
   abbrev pub value : ℕ → Poly
-  value p = valueAt (values hs cs ss) p
+  value p = valueAt (values it cs) p
 
   abbrev pub head : ℕ → Header
-  head p = headAt (announcedPlaces hs ss) p
+  head p = headAt (announcedPlaces it) p
 
   -- the place of the step number i
   abbrev pub stepPlace : ℕ → ℕ
-  stepPlace i = length hs + i
+  stepPlace i = length (it .headers) + i
 
   pub record StepDone (i : ℕ) : Type 0 where
     pub announced : AsAnnounced (head (stepPlace i)) (value (stepPlace i))
-    pub computed : Computed (stepOf (getD ss i 0)) (stepPlace i) value (value (stepPlace i))
+    pub computed : Computed (stepOf (getD (it .steps) i 0)) (stepPlace i) value (value (stepPlace i))
     -- the buffers hold it: its true header, and its coefficients, then +0.0, at the announced places
-    pub word : getD (runWords hs cs ss pool words scratch) i 0 ≡ wordOf (value (stepPlace i) .head)
-    pub coeffs : take (stored (head (stepPlace i))) (drop (total (take i (announcedSteps hs ss))) (runPool hs cs ss pool words scratch))
+    pub word : getD (runWords it cs pool words scratch) i 0 ≡ wordOf (value (stepPlace i) .head)
+    pub coeffs : take (stored (head (stepPlace i))) (drop (total (take i (announcedSteps it))) (runPool it cs pool words scratch))
         ≡ padded (stored (head (stepPlace i))) (value (stepPlace i) .coeffs)
 
   pub record Finished : Type 0 where
-    pub done : runAnswer hs cs ss pool words scratch ≡ Done
+    pub done : runAnswer it cs pool words scratch ≡ Done
     -- the first places hold the inputs
-    pub inputs : take (length hs) (values hs cs ss) ≡ inputValues hs cs
-    pub steps : (i : ℕ) → i < length ss → StepDone i
+    pub inputs : take (length (it .headers)) (values it cs) ≡ inputValues (it .headers) cs
+    pub steps : (i : ℕ) → i < length (it .steps) → StepDone i
 
   pub record Demand3 : Type 0 where
     -- the check accepts, and the buffers are as long as it says
-    pub finishes : (places most inputs : ℕ) → checkAnswer hs ss ≡ Accepted places most inputs → inputs ≤ length cs
-        → places ≤ length pool → length ss ≤ length words
+    pub finishes : (places most inputs : ℕ) → checkAnswer it ≡ Accepted places most inputs → inputs ≤ length cs
+        → places ≤ length pool → length (it .steps) ≤ length words
         → 8 * most ≤ length scratch → Finished

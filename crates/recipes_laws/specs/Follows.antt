@@ -38,8 +38,8 @@ use Rattle.recipes_laws.specs.EachKind.{by-kind}
 
 -- ---- one operation
 
-module _ (s : Step) (a b : Poly) (g : Regular (a .head)) (h : Regular (b .head)) (full : length (a .coeffs) ≡ stored (a .head)) where
-  row-keeps : (k : ℕ) → Keeps (announced (getD (families s) k Constant) (a .head) (b .head)) (getD (operations s a b) k noValue)
+module _ (ed : ℕ) (s : Step) (a b : Poly) (g : Regular (a .head)) (h : Regular (b .head)) (full : length (a .coeffs) ≡ stored (a .head)) where
+  row-keeps : (k : ℕ) → Keeps (announced (getD (families ed s) k Constant) (a .head) (b .head)) (getD (operations ed s a b) k noValue)
   unfolding families operations announced
   row-keeps =
       by-kind (record {
@@ -81,22 +81,22 @@ pub record Follows (known : List Header) (vs : List Poly) : Type 0 where
 pub follows-known : {known : List Header} {vs : List Poly} → Follows known vs → Known known
 follows-known f = record { at = λ p. f .good .at p .regular }
 
-module _ (w : ℕ) {known : List Header} {vs : List Poly} (f : Follows known vs) where
-  pub step-keeps : Keeps (announcedStep w known) (stepValue w vs)
+module _ (ed w : ℕ) {known : List Header} {vs : List Poly} (f : Follows known vs) where
+  pub step-keeps : Keeps (announcedStep ed w known) (stepValue ed w vs)
   unfolding announcedStep stepValue
   step-keeps =
       let s = stepOf w in
       let a = f .keeps (s .a) in
       let b = f .keeps (s .b) in
-      keeps-under (row-keeps s (valueAt vs (s .a)) (valueAt vs (s .b)) (a .regular) (b .regular) (a .full) (s .kind))
-      (announced-under (familyOf s) (a .regular .rules) (b .regular .rules) (a .under) (b .under))
+      keeps-under (row-keeps ed s (valueAt vs (s .a)) (valueAt vs (s .b)) (a .regular) (b .regular) (a .full) (s .kind))
+      (announced-under (familyOf ed s) (a .regular .rules) (b .regular .rules) (a .under) (b .under))
 
   -- a step more, whose announced count is 4,096 at most
-  pub follows-more : stored (announcedStep w known) ≤ 4096 → Follows (known ++ (announcedStep w known ∷ [])) (vs ++ (stepValue w vs ∷ []))
+  pub follows-more : stored (announcedStep ed w known) ≤ 4096 → Follows (known ++ (announcedStep ed w known ∷ [])) (vs ++ (stepValue ed w vs ∷ []))
   follows-more m =
       record {
-        same = omega (arith, f .same, length-snoc known (announcedStep w known), length-snoc vs (stepValue w vs));
-        good = all-snoc Good noHeader none-good (f .good) (record { regular = step-regular w (follows-known f); most = m });
+        same = omega (arith, f .same, length-snoc known (announcedStep ed w known), length-snoc vs (stepValue ed w vs));
+        good = all-snoc Good noHeader none-good (f .good) (record { regular = step-regular ed w (follows-known f); most = m });
         keeps = related-more Keeps known vs (f .same) (none-keeps _) step-keeps (f .keeps);
       }
 

@@ -22,10 +22,10 @@ use Rattle.model.specs.Shifts.{shiftGate}
 use Rattle.model.specs.Substitute.{substituteGate}
 use Rattle.model_recipes.specs.Run.{gates}
 
--- the step s of the operands a and b, lent out and scratch
-module _ (s : Step) (a b : Poly) (out scratch : List Float) where
+-- the step s of the operands a and b in the edition ed, lent out and scratch
+module _ (ed : ℕ) (s : Step) (a b : Poly) (out scratch : List Float) where
   abbrev row : ℕ → Refusal
-  row k = getD (gates s a b (length out) (length scratch)) k noRefusal
+  row k = getD (gates ed s a b (length out) (length scratch)) k noRefusal
 
   abbrev w : ℕ
   w = wordOf (a .head)

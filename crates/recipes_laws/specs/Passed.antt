@@ -83,9 +83,9 @@ with-passes r = simp (le-leb _ _ (r .fits))
 abbrev pub inLimit : ℕ → Bool → Bool
 inLimit k t = cond (leb 7 k && leb k 9) t true
 
-module _ (s : Step) (a b : Poly) (n m : ℕ) (o : Operand a) (u : Operand b) where
-  gate-passes : (k : ℕ) → Room (announced (getD (families s) k Constant) (a .head) (b .head)) n m → inLimit k (ltb (s .variable) (a .head .vars)) ≡ true
-      → inLimit k (ltb (s .n) (limit (a .head) (s .variable))) ≡ true → getD (gates s a b n m) k noRefusal .number ≡ 0
+module _ (ed : ℕ) (s : Step) (a b : Poly) (n m : ℕ) (o : Operand a) (u : Operand b) where
+  gate-passes : (k : ℕ) → Room (announced (getD (families ed s) k Constant) (a .head) (b .head)) n m → inLimit k (ltb (s .variable) (a .head .vars)) ≡ true
+      → inLimit k (ltb (s .n) (limit (a .head) (s .variable))) ≡ true → getD (gates ed s a b n m) k noRefusal .number ≡ 0
   unfolding families gates announced
   gate-passes =
       by-kind (record {
@@ -104,14 +104,14 @@ module _ (s : Step) (a b : Poly) (n m : ℕ) (o : Operand a) (u : Operand b) whe
       })
 
 -- what the step w works with, its operands' values among vs: n places for the result, m of scratch
-pub record StepReady (w : ℕ) (vs : List Poly) (n m : ℕ) : Type 0 where
+pub record StepReady (ed w : ℕ) (vs : List Poly) (n m : ℕ) : Type 0 where
   pub a : Operand (valueAt vs (stepOf w .a))
   pub b : Operand (valueAt vs (stepOf w .b))
-  pub room : Room (announced (familyOf (stepOf w)) (valueAt vs (stepOf w .a) .head) (valueAt vs (stepOf w .b) .head)) n m
+  pub room : Room (announced (familyOf ed (stepOf w)) (valueAt vs (stepOf w .a) .head) (valueAt vs (stepOf w .b) .head)) n m
   pub variable : inLimit (stepOf w .kind) (ltb (stepOf w .variable) (valueAt vs (stepOf w .a) .head .vars)) ≡ true
   pub number : inLimit (stepOf w .kind) (ltb (stepOf w .n) (limit (valueAt vs (stepOf w .a) .head) (stepOf w .variable))) ≡ true
 
-pub step-passes : (w : ℕ) (vs : List Poly) (n m : ℕ) → StepReady w vs n m → stepGate w vs n m .number ≡ 0
+pub step-passes : (ed w : ℕ) (vs : List Poly) (n m : ℕ) → StepReady ed w vs n m → stepGate ed w vs n m .number ≡ 0
 unfolding stepGate
-step-passes w vs n m r =
-    gate-passes (stepOf w) (valueAt vs (stepOf w .a)) (valueAt vs (stepOf w .b)) n m (r .a) (r .b) (stepOf w .kind) (r .room) (r .variable) (r .number)
+step-passes ed w vs n m r =
+    gate-passes ed (stepOf w) (valueAt vs (stepOf w .a)) (valueAt vs (stepOf w .b)) n m (r .a) (r .b) (stepOf w .kind) (r .room) (r .variable) (r .number)

@@ -12,13 +12,13 @@ use Rattle.recipes_kinds.proofs.step.family_of.Statement.{statement}
 use Rattle.recipes_kinds.proofs.step.family_of.Tie as tie
 
 -- the arm of no number: none of 1 to 10
-rest-constant : (c : tie.At-match-rest) → Constant ≡ familyOf (c .before .args .s)
+rest-constant : (c : tie.At-match-rest) → Constant ≡ familyOf (c .before .args .edition) (c .before .args .s)
 unfolding families
 rest-constant c =
     let s = c .before .args .s in
     decide (eqb (s .kind) 0)
     (λ e. simp (eqb-true (s .kind) 0 e))
-    (λ e. let ne = eqb-false (s .kind) 0 e in sym (List·getD-eq-default (families s) Constant (past-kinds (omega arith) (c .match .rest))))
+    (λ e. let ne = eqb-false (s .kind) 0 e in sym (List·getD-eq-default (families (c .before .args .edition) s) Constant (past-kinds (omega arith) (c .match .rest))))
 
 returns : tie.Need-returns
 unfolding families
