@@ -20,13 +20,26 @@ use Rattle.model.specs.Word.{headerOf}
 use Rattle.model.specs.Refusals.{zeros, padded}
 use Rattle.model.specs.Constructed.{constant, wholeF}
 use Rattle.model.specs.Poly.{Poly, poly}
-use Rattle.model_recipes.specs.Recipe.{inputHeads, headAt, total}
-use Rattle.model_recipes.specs.Run.{inputValues, operations, valueAt}
+use Rattle.model_recipes.specs.Recipe.{families, familyOf, inputHeads, headAt, total}
+use Rattle.model_recipes.specs.Run.{inputValues, operations, noValue, valueAt}
 use Rattle.shape_words.specs.Lengths.{lengths-of, count-most}
 use Rattle.recipes_kinds.specs.Known.{Known, head-at}
 use Rattle.recipes_check.specs.Counts.{word-ruled}
 use Rattle.shape_operands.specs.Lent.{source, lying, Lies, length-source}
 use Rattle.recipes_steps.specs.Ready.{valueOf, Placed, Ready}
+
+-- the kind's operation in the edition e
+unfoldable pub valueIn : ℕ → Step → Poly → Poly → Poly
+valueIn e s a b = getD (operations e s a b) (s .kind) noValue
+
+-- it is edition 0's, and so is what the step announces by
+pub same-family : (e : ℕ) (s : Step) → familyOf 0 s ≡ familyOf e s
+unfolding families
+same-family e s = refl
+
+pub same-value : (e : ℕ) (s : Step) (a b : Poly) → valueOf s a b ≡ valueIn e s a b
+unfolding valueOf valueIn operations
+same-value e s a b = refl
 
 -- the value of the place q, by its word and its start; k inputs
 abbrev pub lyingAt : ℕ → List ℕ → List ℕ → List Float → List Float → ℕ → Poly
@@ -47,9 +60,9 @@ pub record StepIn (s : Step) (k : ℕ) (known starts : List ℕ) (mc at room : �
   pub named : (s .kind ≡ 0 → ⊥) → Named s k known starts mc at room
 
 -- a constant asks for no operand
-pub constant-value : (s : Step) (a b : Poly) → s .kind ≡ 0 → constant noHeader (wholeF (s .n)) ≡ valueOf s a b
-unfolding valueOf operations
-constant-value s a b e = rw e
+pub constant-value : (e : ℕ) (s : Step) (a b : Poly) → s .kind ≡ 0 → constant noHeader (wholeF (s .n)) ≡ valueIn e s a b
+unfolding valueIn operations
+constant-value e s a b z = rw z
 
 -- ---- the starts of the inputs
 

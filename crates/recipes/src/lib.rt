@@ -9,14 +9,15 @@ use model_recipes::RunAnswer;
 use recipes_check::judge;
 use recipes_check::largest_of;
 use recipes_check::total_of;
+ghost use Rattle.model_recipes.specs.Recipe.{recipeOf};
 ghost use Rattle.model_recipes.specs.Promises.{CheckPromise, RunPromise};
 
 // What a run of the recipe takes, or why there is none: refusals 7, 1, 3, 4, 5.
 pub fn check(headers: &[u64], steps: &[u64]) -> CheckAnswer
-    ensures { λ r. ⌜ CheckPromise (now (headers .entry)) (now (steps .entry)) r ⌝ }
+    ensures { λ r. ⌜ CheckPromise (recipeOf 0 (now (headers .entry)) (now (steps .entry))) r ⌝ }
 {
     let mut known = [0u64; 64];
-    let refusal = judge(headers, steps, &mut known);
+    let refusal = judge(headers, steps, 0, &mut known);
     if refusal.number != 0 {
         return CheckAnswer::Refused(refusal);
     }
@@ -42,7 +43,7 @@ pub fn run(
     words: &mut [u64],
     scratch: &mut [f64],
 ) -> RunAnswer
-    ensures { λ r. ⌜ RunPromise (now (headers .entry)) (now (coefficients .entry)) (now (steps .entry))
+    ensures { λ r. ⌜ RunPromise (recipeOf 0 (now (headers .entry)) (now (steps .entry))) (now (coefficients .entry))
         (now (pool .entry)) (now (words .entry)) (now (scratch .entry)) r (now (pool .exit)) (now (words .exit))
         (now (scratch .exit)) ⌝ }
 {
@@ -50,6 +51,7 @@ pub fn run(
     let refused = admit(
         headers,
         steps,
+        0,
         coefficients.len(),
         pool.len(),
         words.len(),
@@ -63,6 +65,7 @@ pub fn run(
         headers,
         coefficients,
         steps,
+        0,
         &mut known,
         pool,
         words,

@@ -16,12 +16,11 @@ ghost use lib.ListN.{length, take, drop};
 ghost use Rattle.lists.specs.Part.{Kept};
 ghost use Rattle.model.specs.Word.{headerOf, wordOf};
 ghost use Rattle.model.specs.Refusals.{padded};
-ghost use Rattle.model_recipes.specs.Recipe.{inputHeads, announcedSteps, total};
+ghost use Rattle.model_recipes.specs.Recipe.{recipeOf, inputHeads, announcedSteps, total};
 ghost use Rattle.model_recipes.specs.Run.{stepValues, laid};
 ghost use Rattle.recipes_kinds.specs.Known.{Known};
 ghost use Rattle.shape_operands.specs.Lent.{Lent};
-ghost use Rattle.recipes_steps.specs.Ready.{valueOf};
-ghost use Rattle.recipes.specs.Standing.{lyingAt, StepIn, Begun, Placing};
+ghost use Rattle.recipes.specs.Standing.{valueIn, lyingAt, StepIn, Begun, Placing};
 ghost use Rattle.recipes.specs.Running.{Admitted};
 
 // Where each of these values begins, end to end.
@@ -50,8 +49,9 @@ pub fn place(headers: &[u64], announced: &[u64], starts: &mut [usize])
     note_starts(announced, &mut starts[inputs..]);
 }
 
-// The value of a step to the pool from `at` on, with +0.0 up to `room` places; answers its header word.
+// The value of a step in an edition to the pool from `at` on, with +0.0 up to `room` places; answers its header word.
 fn step_word(
+    edition: u64,
     s: Step,
     inputs: usize,
     known: &[u64],
@@ -64,11 +64,11 @@ fn step_word(
 ) -> u64
     requires { ⌜ StepIn s inputs (now known) (now starts) (length (now coefficients)) at room ⌝ ∗ ⌜ Lent room at (length (now pool)) (length (now scratch)) ⌝ }
     ensures word { λ r.
-        ⌜ r ≡ wordOf (valueOf s (lyingAt inputs (now (known .entry)) (now (starts .entry)) (now (coefficients .entry))
+        ⌜ r ≡ wordOf (valueIn edition s (lyingAt inputs (now (known .entry)) (now (starts .entry)) (now (coefficients .entry))
         (take at (now (pool .entry))) (s .a)) (lyingAt inputs (now (known .entry)) (now (starts .entry))
         (now (coefficients .entry)) (take at (now (pool .entry))) (s .b)) .head) ⌝ }
     ensures kept { λ r. ⌜ Kept at (at + room)
-        (padded room (valueOf s (lyingAt inputs (now (known .entry)) (now (starts .entry)) (now (coefficients .entry))
+        (padded room (valueIn edition s (lyingAt inputs (now (known .entry)) (now (starts .entry)) (now (coefficients .entry))
         (take at (now (pool .entry))) (s .a)) (lyingAt inputs (now (known .entry)) (now (starts .entry))
         (now (coefficients .entry)) (take at (now (pool .entry))) (s .b)) .coeffs))
         (now (pool .entry)) (now (pool .exit)) ⌝ }
@@ -101,21 +101,22 @@ pub fn run_steps(
     headers: &[u64],
     coefficients: &[f64],
     steps: &[u64],
+    edition: u64,
     known: &mut [u64],
     starts: &[usize],
     pool: &mut [f64],
     scratch: &mut [f64],
 )
-    requires { ⌜ Admitted (now headers) (now coefficients) (now steps) (now known) (length (now pool))
+    requires { ⌜ Admitted (recipeOf edition (now headers) (now steps)) (now coefficients) (now known) (length (now pool))
         (length (now scratch)) ⌝
-        ∗ ⌜ Placing (inputHeads (now headers)) (announcedSteps (now headers) (now steps)) (now starts) ⌝
+        ∗ ⌜ Placing (inputHeads (now headers)) (announcedSteps (recipeOf edition (now headers) (now steps))) (now starts) ⌝
         ∗ ⌜ 64 ≤ length (now starts) ⌝ }
     ensures words { λ _. ⌜ take (length (now (steps .entry))) (drop (length (now (headers .entry))) (now (known .exit)))
-        ≡ map (λ v. wordOf (v .head)) (stepValues (now (headers .entry)) (now (coefficients .entry))
-        (now (steps .entry))) ⌝ }
-    ensures values { λ _. ⌜ now (pool .exit) ≡ laid (announcedSteps (now (headers .entry)) (now (steps .entry)))
-        (stepValues (now (headers .entry)) (now (coefficients .entry)) (now (steps .entry)))
-        ++ drop (total (announcedSteps (now (headers .entry)) (now (steps .entry)))) (now (pool .entry)) ⌝ }
+        ≡ map (λ v. wordOf (v .head)) (stepValues (recipeOf edition (now (headers .entry)) (now (steps .entry)))
+        (now (coefficients .entry))) ⌝ }
+    ensures values { λ _. ⌜ now (pool .exit) ≡ laid (announcedSteps (recipeOf edition (now (headers .entry)) (now (steps .entry))))
+        (stepValues (recipeOf edition (now (headers .entry)) (now (steps .entry))) (now (coefficients .entry)))
+        ++ drop (total (announcedSteps (recipeOf edition (now (headers .entry)) (now (steps .entry))))) (now (pool .entry)) ⌝ }
     ensures spent { λ _. ⌜ length (now (scratch .exit)) ≡ length (now (scratch .entry)) ⌝ }
 {
     let inputs = headers.len();
@@ -126,6 +127,7 @@ pub fn run_steps(
         let at = starts[p];
         let room = stored_of(header_of(known[p]));
         let word = step_word(
+            edition,
             s,
             inputs,
             known,

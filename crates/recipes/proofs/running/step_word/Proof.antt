@@ -6,7 +6,7 @@ use Rattle.model.specs.Refusals.{padded}
 use Rattle.model.specs.Poly.{Poly}
 use Rattle.shape_words.specs.Rules.{none-regular}
 use Rattle.shape_operands.specs.Lent.{kept-as}
-use Rattle.recipes.specs.Standing.{lyingAt, Named, constant-value}
+use Rattle.recipes.specs.Standing.{same-value, lyingAt, Named, constant-value}
 use borrow.Author.Needs.{needs}
 use Rattle.recipes.proofs.running.step_word.Statement.{statement}
 use Rattle.recipes.proofs.running.step_word.Tie as tie
@@ -25,7 +25,7 @@ returns c =
     let c6 = c .before .before .before .before .before .before in
     let start = c6 .before .before .before .before .before .before .before in (
       c .pack .ensures ∙ (ap wordOf (c .before .none .ensures)
-          ∙ ap (λ (p : Poly). wordOf (p .head)) (constant-value (start .args .s)
+          ∙ ap (λ (p : Poly). wordOf (p .head)) (constant-value (start .args .edition) (start .args .s)
           (lyingAt (start .args .inputs) (start .args .known .now) (start .args .starts .now)
           (start .args .coefficients .now) (take (start .args .at) (start .args .pool .now)) (start .args .s .a))
           (lyingAt (start .args .inputs) (start .args .known .now) (start .args .starts .now)
@@ -33,7 +33,7 @@ returns c =
           (c6 .if1 .taken))),
       (
         kept-as (ap (λ (p : Poly). padded (start .args .room) (p .coeffs))
-            (constant-value (start .args .s) (lyingAt (start .args .inputs) (start .args .known .now)
+            (constant-value (start .args .edition) (start .args .s) (lyingAt (start .args .inputs) (start .args .known .now)
             (start .args .starts .now) (start .args .coefficients .now) (take (start .args .at) (start .args .pool .now))
             (start .args .s .a)) (lyingAt (start .args .inputs) (start .args .known .now) (start .args .starts .now)
             (start .args .coefficients .now) (take (start .args .at) (start .args .pool .now)) (start .args .s .b))
@@ -78,6 +78,21 @@ perform-requires c κs =
     let start = c6 .before .before .before .before .before .before .before in
     (named c6 .ready, (named c6 .placed, start .pre .1))
 
+-- perform's value is the step's in the edition
+returns-2 : tie.Need-returns-2
+returns-2 c =
+    let c4 = c .before .before .before .before in
+    let c11 = c4 .before .before .before .before .before .before .before in
+    let start = c11 .before .before .before .before .before .before .before in
+    let same = same-value (start .args .edition) (start .args .s)
+    (lyingAt (start .args .inputs) (start .args .known .now) (start .args .starts .now)
+    (start .args .coefficients .now) (take (start .args .at) (start .args .pool .now)) (start .args .s .a))
+    (lyingAt (start .args .inputs) (start .args .known .now) (start .args .starts .now)
+    (start .args .coefficients .now) (take (start .args .at) (start .args .pool .now)) (start .args .s .b)) in (
+      c4 .perform .ensures .0 ∙ ap (λ (p : Poly). wordOf (p .head)) same,
+      (kept-as (ap (λ (p : Poly). padded (start .args .room) (p .coeffs)) same) (c4 .perform .ensures .1 .0), search needs),
+    )
+
 pub step-word-spec : {M : Type 1} → statement M
 step-word-spec =
     tie.close
@@ -85,4 +100,4 @@ step-word-spec =
     (λ c κs. search needs) (λ c κs. search needs) pack-requires (λ c. search needs) returns mul-perform
     shared-slice-read-perform mul-perform-2 shared-slice-read-perform-2 mul-perform-3 shared-slice-read-perform-3
     mul-perform-4 shared-slice-read-perform-4 perform-requires (λ c. search needs) (λ c. search needs)
-    (λ c. search needs))
+    returns-2)
