@@ -51,7 +51,7 @@ module _ (t : List ℕ) where
   -- at a step, or by the program's own limits
   unfoldable pub recipeFault : Refusal → List ℕ
   recipeFault r =
-      cond (ltb (r .place) 64) (placeFault (r .place) (r .number)) (ownFault (announcedPlaces (sheetHeaders t) (sheetSteps t)) (inputCount t))
+      cond (ltb (r .place) 64) (placeFault (r .place) (r .number)) (ownFault (announcedPlaces (sheetRecipe t)) (inputCount t))
 
   -- the sentence; none where the sheet is not refused
   unfoldable pub faultText : List ℕ

@@ -46,7 +46,7 @@ module _ (known : List Header) (hs : List ℕ) (cs : List Float) (ss : List ℕ)
 -- t: the bytes of the sheet
 module _ (t : List ℕ) where
   abbrev pub sheetKnown : List Header
-  sheetKnown = announcedPlaces (sheetHeaders t) (sheetSteps t)
+  sheetKnown = announcedPlaces (sheetRecipe t)
 
   unfoldable pub toldText : List ℕ
   toldText =

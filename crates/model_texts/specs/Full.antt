@@ -74,11 +74,11 @@ fullAfter (Order v n) k p a b = a
 abbrev pub fullAt : List ℕ → ℕ → ℕ → ℕ
 fullAt fs x v = counted (getD fs (4 * x + v) 1)
 
--- the step w, in the variable v
+-- the step w, in the variable v; a power of zero is one in every edition, so edition 0's families serve for all
 unfoldable pub stepFull : List ℕ → ℕ → ℕ → ℕ
 stepFull fs w v =
     let s = stepOf w in
-    fullAfter (familyOf s) v (fullAt fs (s .a) (s .variable)) (fullAt fs (s .a) v) (fullAt fs (s .b) v)
+    fullAfter (familyOf 0 s) v (fullAt fs (s .a) (s .variable)) (fullAt fs (s .a) v) (fullAt fs (s .b) v)
 
 module _ (known : List Header) (ss : List ℕ) (inputs : ℕ) where
   -- the next one

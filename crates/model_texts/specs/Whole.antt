@@ -60,7 +60,7 @@ module _ (known : List Header) (ss : List ℕ) (inputs : ℕ) (fs : List ℕ) wh
   firstNext ls =
       let p = length ls in
       let s = stepOf (stepWord ss inputs p) in
-      let f = familyOf s in
+      let f = familyOf 0 s in
       cond (ltb p inputs) 64
       (min (cond (leavesOut known fs p) p 64)
       (min (cond (needsFirst f) (getD ls (s .a) 64) 64)

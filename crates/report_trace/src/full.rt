@@ -130,7 +130,7 @@ fn step_full(full: &[usize], word: u64, v: usize) -> usize
     let p = full_at(full, s.a, s.variable);
     let a = full_at(full, s.a, v);
     let b = full_at(full, s.b, v);
-    full_after(family_of(s), v, p, a, b)
+    full_after(family_of(0, s), v, p, a, b)
 }
 
 // The next full length, four to a place; `full`: those before it.

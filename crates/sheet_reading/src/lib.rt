@@ -11,7 +11,7 @@ ghost use lib.ListN.{length};
 ghost use lib.Ieee.{ofBits, binary64};
 ghost use Rattle.lists.specs.Every.{every};
 ghost use Rattle.lists.specs.Table.{table};
-ghost use Rattle.model_texts.specs.Sheet.{lined, wordOn, inputCount, stepCount};
+ghost use Rattle.model_texts.specs.Sheet.{lined, wordOn, inputCount, stepCount, sheetEdition};
 ghost use Rattle.sheet_reading.specs.Headers.{HeadersRead};
 ghost use Rattle.sheet_reading.specs.Reading.{Read, sizesTest, restRefusal};
 
@@ -27,6 +27,13 @@ pub fn step_count(text: &[u8]) -> usize
     ensures { λ r. ⌜ r ≡ stepCount (now (text .entry)) ⌝ }
 {
     ((word_at(text, 0) >> 48) & 255) as usize
+}
+
+// The recipe's edition.
+pub fn edition_of(text: &[u8]) -> u64
+    ensures { λ r. ⌜ r ≡ sheetEdition (now (text .entry)) ⌝ }
+{
+    0
 }
 
 // Whether word one's sizes and zeros are right.
