@@ -27,6 +27,10 @@ askAt false k p next = refusedAt k p
 unfoldable pub orElse : Refusal → Refusal → Refusal
 orElse r next = cond (isNone r) next r
 
+-- editions 0 and 1 (document 02, W7)
+abbrev pub knownEdition : ℕ → Bool
+knownEdition e = leb e 1
+
 -- k inputs and n steps
 unfoldable pub rightSizes : ℕ → ℕ → Bool
 rightSizes k n = (leb k 16 && leb 1 n) && leb (k + n) 64
@@ -75,7 +79,7 @@ stepsRefusal e known (w ∷ ws) = orElse (stepRefusal e w known) (stepsRefusal e
 
 unfoldable pub checkRefusal : Recipe → Refusal
 checkRefusal it =
-    askAt (rightSizes (length (it .headers)) (length (it .steps))) 7 64
+    askAt (knownEdition (it .edition) && rightSizes (length (it .headers)) (length (it .steps))) 7 64
     (orElse (inputsRefusal 0 (it .headers))
     (stepsRefusal (it .edition) (inputHeads (it .headers)) (it .steps)))
 

@@ -19,6 +19,8 @@ use Rattle.model_recipes.specs.Recipe.{Recipe, upTo, headAt, announcedSt
 
 -- 7: 0 to 16 inputs, 1 or more steps, together at most 64 places
 pub data WrongSizes (it : Recipe) : Type 0 where
+  -- document 02, W7
+  no-edition : 1 < it .edition → WrongSizes it
   many-inputs : 16 < length (it .headers) → WrongSizes it
   no-step : length (it .steps) ≡ 0 → WrongSizes it
   many-places : 64 < length (it .headers) + length (it .steps) → WrongSizes it

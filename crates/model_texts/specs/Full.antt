@@ -10,7 +10,7 @@ use lib.ListN.{length, getD}
 use Rattle.lists.specs.Grow.{grow}
 use Rattle.model.specs.declared.Header.{Header}
 use Rattle.model.specs.declared.Family.{Family}
-use Rattle.model.specs.declared.Family.the-variants.{Constant, Same, Sum, Product, Quotient, Series, Power, Shift, Substitution, Term, Order}
+use Rattle.model.specs.declared.Family.the-variants.{Constant, Same, Sum, Product, Quotient, Series, Power, Shift, Substitution, Term, Order, One}
 use Rattle.model.specs.Header.{len}
 use Rattle.model_recipes.specs.Steps.{stepOf}
 use Rattle.model_recipes.specs.Recipe.{familyOf, headAt}
@@ -67,6 +67,7 @@ fullAfter (Substitution v) k p a b = substitutionFull p (cond (eqb k v) 1 a) b
 -- no step is of these
 fullAfter (Term v) k p a b = a
 fullAfter (Order v n) k p a b = a
+fullAfter One k p a b = 1
 
 -- ---- of all places, four numbers a place
 

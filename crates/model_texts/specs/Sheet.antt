@@ -19,7 +19,7 @@ use Rattle.model.specs.Refusals.{askFor, noRefusal, isNone, zeros}
 use Rattle.model.specs.Gates.{badWord}
 use Rattle.model.specs.Poly.{Poly}
 use Rattle.model_recipes.specs.Recipe.{Recipe, recipeOf, inputHeads, announcedPlaces, announcedSteps, total, largest}
-use Rattle.model_recipes.specs.Check.{askAt, orElse, rightSizes, checkRefusal}
+use Rattle.model_recipes.specs.Check.{askAt, orElse, knownEdition, rightSizes, checkRefusal}
 use Rattle.model_recipes.specs.Run.{stepValues, noValue, runRefusal}
 use Rattle.model_texts.specs.Hex.{isLine, wordAt}
 use Rattle.model_texts.specs.Printed.{doneText, refusedText}
@@ -53,12 +53,11 @@ module _ (t : List ℕ) where
   unfoldable pub stepCount : ℕ
   stepCount = wordOn 0 / 2 ^ 48 % 2 ^ 8
 
-  -- every sheet is of edition 0
   unfoldable pub sheetEdition : ℕ
-  sheetEdition = 0
+  sheetEdition = wordOn 0 / 2 ^ 44 % 2 ^ 4
 
   unfoldable pub spare : ℕ
-  spare = wordOn 0 % 2 ^ 48
+  spare = wordOn 0 % 2 ^ 44
 
   unfoldable pub sheetHeaders : List ℕ
   sheetHeaders = table inputCount (λ i. wordOn (1 + i))
@@ -87,7 +86,7 @@ module _ (t : List ℕ) where
   unfoldable pub readRefusal : Refusal
   readRefusal =
       askAt (lined 0) 8 64
-      (askAt (rightSizes inputCount stepCount && eqb spare 0) 7 64
+      (askAt (knownEdition sheetEdition && (rightSizes inputCount stepCount && eqb spare 0)) 7 64
       (orElse (headersRefusal inputCount 0)
       (askAt (every lined restCount (1 + inputCount)) 8 64
       (askAt (leb (length t) (17 * (1 + inputCount + restCount))) 8 64

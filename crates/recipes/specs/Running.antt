@@ -40,7 +40,7 @@ use Rattle.recipes_laws.specs.EachKind.{by-kind}
 use Rattle.recipes_laws.specs.Follows.{length-inputs, follows-known}
 use Rattle.recipes_laws.specs.Ahead.{Clear, ahead-at, clear-at, ready-at, keeps-at, announced-at, length-announced, step-largest}
 use Rattle.recipes_laws.specs.Passed.{StepReady}
-use Rattle.recipes.specs.Standing.{valueIn, same-family, lyingAt, Named, StepIn, constant-value, Placing, total-more, At, at-lying, at-lies, at-later, at-new, input-at}
+use Rattle.recipes.specs.Standing.{valueIn, plain-fits, lyingAt, Named, StepIn, constant-value, Placing, total-more, At, at-lying, at-lies, at-later, at-new, input-at}
 
 -- ---- operands of a step that is right
 
@@ -289,7 +289,7 @@ module _ {it : Recipe} {cs : List Float} {old-known : List ℕ} {mp ms : ℕ} (g
               left = ready-now .a .good;
               right = ready-now .b .good;
               known = record { some = omega arith; most = few-kinds w (k + i) formed-at; var = λ h t. small-variable w; below = number-below };
-              fits = rw (er, same-family ed step) (ready-now .room .fits);
+              fits = plain-fits ed step _ _ (rw er (count-pos (lengths-of (announced-rules .rules)))) (rw er (ready-now .room .fits));
             });
             placed =
                 rw (

@@ -12,12 +12,12 @@ use recipes_check::total_of;
 ghost use Rattle.model_recipes.specs.Recipe.{recipeOf};
 ghost use Rattle.model_recipes.specs.Promises.{CheckPromise, RunPromise};
 
-// What a run of the recipe takes, or why there is none: refusals 7, 1, 3, 4, 5.
-pub fn check(headers: &[u64], steps: &[u64]) -> CheckAnswer
-    ensures { λ r. ⌜ CheckPromise (recipeOf 0 (now (headers .entry)) (now (steps .entry))) r ⌝ }
+// What a run of the recipe in an edition takes, or why there is none: refusals 7, 1, 3, 4, 5.
+pub fn check(headers: &[u64], steps: &[u64], edition: u64) -> CheckAnswer
+    ensures { λ r. ⌜ CheckPromise (recipeOf edition (now (headers .entry)) (now (steps .entry))) r ⌝ }
 {
     let mut known = [0u64; 64];
-    let refusal = judge(headers, steps, 0, &mut known);
+    let refusal = judge(headers, steps, edition, &mut known);
     if refusal.number != 0 {
         return CheckAnswer::Refused(refusal);
     }
@@ -39,11 +39,12 @@ pub fn run(
     headers: &[u64],
     coefficients: &[f64],
     steps: &[u64],
+    edition: u64,
     pool: &mut [f64],
     words: &mut [u64],
     scratch: &mut [f64],
 ) -> RunAnswer
-    ensures { λ r. ⌜ RunPromise (recipeOf 0 (now (headers .entry)) (now (steps .entry))) (now (coefficients .entry))
+    ensures { λ r. ⌜ RunPromise (recipeOf edition (now (headers .entry)) (now (steps .entry))) (now (coefficients .entry))
         (now (pool .entry)) (now (words .entry)) (now (scratch .entry)) r (now (pool .exit)) (now (words .exit))
         (now (scratch .exit)) ⌝ }
 {
@@ -51,7 +52,7 @@ pub fn run(
     let refused = admit(
         headers,
         steps,
-        0,
+        edition,
         coefficients.len(),
         pool.len(),
         words.len(),
@@ -65,7 +66,7 @@ pub fn run(
         headers,
         coefficients,
         steps,
-        0,
+        edition,
         &mut known,
         pool,
         words,

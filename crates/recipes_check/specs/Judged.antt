@@ -17,7 +17,7 @@ use Rattle.model.specs.Header.{noHeader}
 use Rattle.model.specs.Word.{headerOf}
 use Rattle.model.specs.Refusals.{refusedAt}
 use Rattle.model_recipes.specs.Recipe.{Recipe, announcedStep, inputHeads, announcedPlaces}
-use Rattle.model_recipes.specs.Check.{orElse, rightSizes, inputsRefusal, stepsRefusal, checkRefusal}
+use Rattle.model_recipes.specs.Check.{orElse, knownEdition, rightSizes, inputsRefusal, stepsRefusal, checkRefusal}
 use Rattle.shape_words.specs.Rules.{Regular, none-regular}
 use Rattle.recipes_kinds.specs.Known.{Known, step-regular}
 use Rattle.recipes_check.specs.Inputs.{inputs-known}
@@ -31,7 +31,8 @@ pub record Judged (it : Recipe) (old new : List ℕ) (r : Refusal) : Type 0 wher
 
 -- what the test of sizes says
 pub record Sizes (it : Recipe) : Type 0 where
-  pub test : rightSizes (length (it .headers)) (length (it .steps)) ≡ true
+  pub test : (knownEdition (it .edition) && rightSizes (length (it .headers)) (length (it .steps))) ≡ true
+  pub edition : it .edition ≤ 1
   pub few : length (it .headers) ≤ 16
   pub some : 1 ≤ length (it .steps)
   pub fit : length (it .headers) + length (it .steps) ≤ 64
@@ -43,18 +44,20 @@ module _ (it : Recipe) where
   abbrev n : ℕ
   n = length (it .steps)
 
-  pub sizes : rightSizes k n ≡ true → Sizes it
+  pub sizes : (knownEdition (it .edition) && rightSizes k n) ≡ true → Sizes it
   unfolding rightSizes
   sizes e =
-      let g = and-left (leb k 16 && leb 1 n) (leb (k + n) 64) e in
+      let r = and-right (leb (it .edition) 1) (rightSizes k n) e in
+      let g = and-left (leb k 16 && leb 1 n) (leb (k + n) 64) r in
       record {
         test = e;
+        edition = leb-true _ _ (and-left (leb (it .edition) 1) (rightSizes k n) e);
         few = leb-true _ _ (and-left (leb k 16) (leb 1 n) g);
         some = leb-true _ _ (and-right (leb k 16) (leb 1 n) g);
-        fit = leb-true _ _ (and-right (leb k 16 && leb 1 n) (leb (k + n) 64) e);
+        fit = leb-true _ _ (and-right (leb k 16 && leb 1 n) (leb (k + n) 64) r);
       }
 
-  pub judged-sizes : (old : List ℕ) → rightSizes k n ≡ false → Judged it old old (refusedAt 7 64)
+  pub judged-sizes : (old : List ℕ) → (knownEdition (it .edition) && rightSizes k n) ≡ false → Judged it old old (refusedAt 7 64)
   unfolding checkRefusal
   judged-sizes old e = record { answer = simp e; len = refl; noted = λ z. absurd (omega (arith, z)) }
 
@@ -106,7 +109,7 @@ pub record Accepts (it : Recipe) : Type 0 where
 pub accepts : (it : Recipe) → checkRefusal it .number ≡ 0 → Accepts it
 unfolding checkRefusal
 accepts it e =
-    let a = ask-none (rightSizes (length (it .headers)) (length (it .steps))) 64 (orElse (inputsRefusal 0 (it .headers)) (stepsRefusal (it .edition) (inputHeads (it .headers)) (it .steps))) (λ z. omega (arith, z)) e in
+    let a = ask-none (knownEdition (it .edition) && rightSizes (length (it .headers)) (length (it .steps))) 64 (orElse (inputsRefusal 0 (it .headers)) (stepsRefusal (it .edition) (inputHeads (it .headers)) (it .steps))) (λ z. omega (arith, z)) e in
     let b = or-none (inputsRefusal 0 (it .headers)) (stepsRefusal (it .edition) (inputHeads (it .headers)) (it .steps)) (a .1) in
     record { sizes = sizes it (a .0); inputs = b .0; steps = b .1 }
 

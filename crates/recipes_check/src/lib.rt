@@ -75,7 +75,7 @@ pub fn judge(headers: &[u64], steps: &[u64], edition: u64, known: &mut [u64]) ->
 {
     let inputs = headers.len();
     let count = steps.len();
-    if !((inputs <= 16) & (1 <= count) & (inputs + count <= 64)) {
+    if !((edition <= 1) & ((inputs <= 16) & (1 <= count) & (inputs + count <= 64))) {
         return Refusal::at(7, Refusal::NOWHERE);
     }
     let first = inputs_refusal(headers);

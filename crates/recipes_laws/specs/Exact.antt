@@ -20,7 +20,7 @@ use Rattle.model.specs.Refusals.{refusedAt}
 use Rattle.model.specs.Gates.{badWord}
 use Rattle.model_recipes.specs.Recipe.{Recipe, upTo, announcedStep, inputHeads, announcedPlaces, announcedSteps, total, largest}
 use Rattle.model_recipes.specs.Check.{checkRefusal, checkAnswer}
-use Rattle.model_recipes.specs.Reasons.{WrongSizes, many-inputs, no-step, many-places, StepReason, Reason, sizes, input, step, turn, FirstReason}
+use Rattle.model_recipes.specs.Reasons.{WrongSizes, no-edition, many-inputs, no-step, many-places, StepReason, Reason, sizes, input, step, turn, FirstReason}
 use Rattle.recipes_check.specs.Asks.{by-refusal}
 use Rattle.recipes_check.specs.Answered.{answer-no, answer-yes}
 use Rattle.recipes_check.specs.Judged.{Sizes}
@@ -55,6 +55,7 @@ first-one {it} {r} {q} a b =
 
 module _ (it : Recipe) where
   sizes-right : Sizes it → WrongSizes it → ⊥
+  sizes-right s (no-edition l) = omega (arith, s .edition)
   sizes-right s (many-inputs l) = omega (arith, s .few)
   sizes-right s (no-step e) = omega (arith, s .some, e)
   sizes-right s (many-places l) = omega (arith, s .fit)

@@ -1,6 +1,6 @@
 -- How the check ends: by sizes, at an input, at a step, or not refused; with all that was passed before.
 use Prim.Native.Nat.{ℕ, zero, suc, _+_, _<_}
-use mathlib.Core.Bool.{true, false}
+use mathlib.Core.Bool.{true, false, _&&_}
 use mathlib.Core.List.{List, [], _∷_, _++_}
 use mathlib.Core.Path.{_≡_, refl}
 use native.Mathlib.Omega.{arith}
@@ -15,8 +15,8 @@ use Rattle.model.specs.Word.{goodWord}
 use Rattle.model.specs.Refusals.{refusedAt, noRefusal}
 use Rattle.model.specs.Gates.{badWord}
 use Rattle.model_recipes.specs.Recipe.{Recipe, announcedStep, inputHeads}
-use Rattle.model_recipes.specs.Check.{orElse, rightSizes, stepRefusal, inputsRefusal, stepsRefusal, checkRefusal}
-use Rattle.model_recipes.specs.Reasons.{WrongSizes, many-inputs, no-step, many-places}
+use Rattle.model_recipes.specs.Check.{orElse, knownEdition, rightSizes, stepRefusal, inputsRefusal, stepsRefusal, checkRefusal}
+use Rattle.model_recipes.specs.Reasons.{WrongSizes, no-edition, many-inputs, no-step, many-places}
 use Rattle.recipes_check.specs.Asks.{or-first, or-next, by-refusal}
 use Rattle.recipes_check.specs.Judged.{Sizes, sizes}
 use Rattle.shape_words.specs.Faults.{not-both}
@@ -88,16 +88,18 @@ steps-outcome ed known (w ∷ ws) =
 -- ---- the whole
 
 module _ (it : Recipe) where
-  pub sizes-wrong : rightSizes (length (it .headers)) (length (it .steps)) ≡ false → WrongSizes it
+  pub sizes-wrong : (knownEdition (it .edition) && rightSizes (length (it .headers)) (length (it .steps))) ≡ false → WrongSizes it
   unfolding rightSizes
   sizes-wrong e =
-      decide (leb (length (it .headers)) 16)
+      decide (leb (it .edition) 1)
+      (λ t0. decide (leb (length (it .headers)) 16)
       (λ t1. decide (leb 1 (length (it .steps)))
       (λ t2. decide (leb (length (it .headers) + length (it .steps)) 64)
-      (λ t3. absurd (not-both true refl (rw (t1, t2, t3) at e)))
+      (λ t3. absurd (not-both true refl (rw (t0, t1, t2, t3) at e)))
       (λ f. many-places (leb-false _ _ f)))
       (λ f. no-step (omega (arith, leb-false 1 (length (it .steps)) f))))
-      (λ f. many-inputs (leb-false _ _ f))
+      (λ f. many-inputs (leb-false _ _ f)))
+      (λ f. no-edition (leb-false _ _ f))
 
   pub data Outcome : Refusal → Type 0 where
     by-sizes : WrongSizes it → Outcome (refusedAt 7 64)
@@ -120,6 +122,6 @@ module _ (it : Recipe) where
   pub outcome : Outcome (checkRefusal it)
   unfolding checkRefusal
   outcome =
-      decide (rightSizes (length (it .headers)) (length (it .steps)))
+      decide (knownEdition (it .edition) && rightSizes (length (it .headers)) (length (it .steps)))
       (λ t. rw t (after-sizes (sizes it t) (inputs-outcome 0 (it .headers))))
       (λ t. rw t (by-sizes (sizes-wrong t)))

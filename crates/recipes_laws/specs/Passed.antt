@@ -12,7 +12,7 @@ use borrow.Author.Tests.{le-leb}
 use Rattle.model.specs.declared.Header.{Header}
 use Rattle.model_recipes.specs.declared.Step.{Step}
 use Rattle.model.specs.declared.Family.{Family}
-use Rattle.model.specs.declared.Family.the-variants.{Constant, Same, Sum, Product, Quotient, Power, Shift, Substitution}
+use Rattle.model.specs.declared.Family.the-variants.{Constant, Same, Sum, Product, Quotient, Power, Shift, Substitution, One}
 use Rattle.model.specs.Header.{limit, stored, noHeader, ones, span, zeroWith}
 use Rattle.model.specs.Word.{headerOf, goodWord, wordOf}
 use Rattle.model.specs.Announced.{announced}
@@ -20,6 +20,8 @@ use Rattle.model.specs.Refusals.{noRefusal}
 use Rattle.model.specs.Faults.{limitsFault}
 use Rattle.model.specs.Gates.{oneGate, workGate, inGate, pairGate, withGate}
 use Rattle.model.specs.Poly.{Poly}
+use Rattle.lists.specs.Test.{decide}
+use Rattle.model_recipes.specs.Kinds.{idle, powerFamily}
 use Rattle.model_recipes.specs.Steps.{stepOf}
 use Rattle.model_recipes.specs.Recipe.{families, familyOf}
 use Rattle.model_recipes.specs.Run.{valueAt, gates, stepGate}
@@ -84,6 +86,11 @@ abbrev pub inLimit : ℕ → Bool → Bool
 inLimit k t = cond (leb 7 k && leb k 9) t true
 
 module _ (ed : ℕ) (s : Step) (a b : Poly) (n m : ℕ) (o : Operand a) (u : Operand b) where
+  power-passes : Room (announced (powerFamily ed (s .n)) (a .head) (b .head)) n m
+      → workGate (powerFamily ed (s .n)) (wordOf (a .head)) (length (a .coeffs)) n m .number ≡ 0
+  unfolding announced
+  power-passes r = decide (idle ed (s .n)) (λ t. rw t (work-passes a o One (rw t at r))) (λ t. rw t (work-passes a o (Power (s .n)) (rw t at r)))
+
   gate-passes : (k : ℕ) → Room (announced (getD (families ed s) k Constant) (a .head) (b .head)) n m → inLimit k (ltb (s .variable) (a .head .vars)) ≡ true
       → inLimit k (ltb (s .n) (limit (a .head) (s .variable))) ≡ true → getD (gates ed s a b n m) k noRefusal .number ≡ 0
   unfolding families gates announced
@@ -95,7 +102,7 @@ module _ (ed : ℕ) (s : Step) (a b : Poly) (n m : ℕ) (o : Operand a) (u : Ope
         k3 = λ r _ _. pair-passes Sum a b o u r;
         k4 = λ r _ _. pair-passes Product a b o u r;
         k5 = λ r _ _. pair-passes Quotient a b o u r;
-        k6 = λ r _ _. work-passes a o (Power (s .n)) r;
+        k6 = λ r _ _. power-passes r;
         k7 = λ r v d. in-passes a o (Shift (s .variable) (s .n)) (s .variable) (s .n) r v d;
         k8 = λ r v d. in-passes a o (Shift (s .variable) (s .n)) (s .variable) (s .n) r v d;
         k9 = λ r v d. in-passes a o (Shift (s .variable) (s .n)) (s .variable) (s .n) r v d;

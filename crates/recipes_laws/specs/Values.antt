@@ -37,7 +37,7 @@ module _ (it : Recipe) (cs : List Float) {m : ℕ} (none : checkRefusal it .numb
       ap (λ (x : List Poly). valueAt x q) (sym e) ∙ getD-take (length (it .headers) + i) (values it cs) q noValue h
 
   pub step-computed : (i : ℕ) → i < length (it .steps)
-      → Computed (stepOf (getD (it .steps) i 0)) (length (it .headers) + i) (valueAt (values it cs)) (valueAt (values it cs) (length (it .headers) + i))
+      → Computed (it .edition) (stepOf (getD (it .steps) i 0)) (length (it .headers) + i) (valueAt (values it cs)) (valueAt (values it cs) (length (it .headers) + i))
   unfolding announcedPlaces
   step-computed i l =
       let c = clear-at it cs none full room i l in

@@ -109,6 +109,7 @@ fn full_after(f: Family, k: usize, p: usize, a: usize, b: usize) -> usize
         Family::Substitution(v) => substitution_full(p, pick(k == v, 1, a), b),
         Family::Term(_) => a,
         Family::Order(_, _) => a,
+        Family::One => 1,
     }
 }
 

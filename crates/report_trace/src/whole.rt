@@ -32,6 +32,7 @@ fn needs_first(f: Family) -> bool
         Family::Substitution(_) => true,
         Family::Term(_) => true,
         Family::Order(_, _) => true,
+        Family::One => false,
     }
 }
 
@@ -51,6 +52,7 @@ fn needs_second(f: Family, p: usize) -> bool
         Family::Substitution(_) => p != 1,
         Family::Term(_) => false,
         Family::Order(_, _) => false,
+        Family::One => false,
     }
 }
 

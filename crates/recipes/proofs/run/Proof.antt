@@ -9,18 +9,18 @@ returns : tie.Need-returns
 returns c =
     let c3 = c .before .before .before in
     let start = c3 .before .before .before .before .before .before .before .before in (
-      no-answer (recipeOf 0 (start .args .headers .now) (start .args .steps .now)) (start .args .coefficients .now)
+      no-answer (recipeOf (start .args .edition) (start .args .headers .now) (start .args .steps .now)) (start .args .coefficients .now)
           (start .args .pool .now) (start .args .words .now) (start .args .scratch .now) (c3 .admit .ensures)
           (c .if1 .taken),
       (
-        no-pool (recipeOf 0 (start .args .headers .now) (start .args .steps .now)) (start .args .coefficients .now)
+        no-pool (recipeOf (start .args .edition) (start .args .headers .now) (start .args .steps .now)) (start .args .coefficients .now)
             (start .args .pool .now) (start .args .words .now) (start .args .scratch .now) (c3 .admit .ensures)
             (c .if1 .taken),
         (
-          no-words (recipeOf 0 (start .args .headers .now) (start .args .steps .now)) (start .args .coefficients .now)
+          no-words (recipeOf (start .args .edition) (start .args .headers .now) (start .args .steps .now)) (start .args .coefficients .now)
               (start .args .pool .now) (start .args .words .now) (start .args .scratch .now) (c3 .admit .ensures)
               (c .if1 .taken),
-          no-scratch (recipeOf 0 (start .args .headers .now) (start .args .steps .now)) (start .args .coefficients .now)
+          no-scratch (recipeOf (start .args .edition) (start .args .headers .now) (start .args .steps .now)) (start .args .coefficients .now)
               (start .args .pool .now) (start .args .words .now) (start .args .scratch .now)
               (c3 .admit .ensures) (c .if1 .taken),
         ),
@@ -31,10 +31,10 @@ run-admitted-requires : tie.Need-run-admitted-requires
 run-admitted-requires c κs =
     let c4 = c .before .before .before .before in let c7 = c4 .before .before .before in
     let start = c7 .before .before .before .before .before .before .before .before in (
-      admitted (recipeOf 0 (start .args .headers .now) (start .args .steps .now)) (start .args .coefficients .now)
+      admitted (recipeOf (start .args .edition) (start .args .headers .now) (start .args .steps .now)) (start .args .coefficients .now)
           (start .args .pool .now) (start .args .words .now) (start .args .scratch .now) (c7 .admit .ensures)
           (c4 .if1 .left) (omega (arith, c7 .admit .ensures .len)),
-      enough-words (recipeOf 0 (start .args .headers .now) (start .args .steps .now)) (start .args .coefficients .now)
+      enough-words (recipeOf (start .args .edition) (start .args .headers .now) (start .args .steps .now)) (start .args .coefficients .now)
           (start .args .pool .now) (start .args .words .now) (start .args .scratch .now)
           (c7 .admit .ensures) (c4 .if1 .left),
     )
@@ -44,18 +44,18 @@ returns-2 c =
     let c7 = c .before .before .before .before .before .before .before in
     let c12 = c7 .before .before .before .before .before in let c15 = c12 .before .before .before in
     let start = c15 .before .before .before .before .before .before .before .before in (
-      yes-answer (recipeOf 0 (start .args .headers .now) (start .args .steps .now)) (start .args .coefficients .now)
+      yes-answer (recipeOf (start .args .edition) (start .args .headers .now) (start .args .steps .now)) (start .args .coefficients .now)
           (start .args .pool .now) (start .args .words .now) (start .args .scratch .now) (c15 .admit .ensures)
           (c12 .if1 .left),
       (
-        yes-pool (recipeOf 0 (start .args .headers .now) (start .args .steps .now)) (start .args .coefficients .now)
+        yes-pool (recipeOf (start .args .edition) (start .args .headers .now) (start .args .steps .now)) (start .args .coefficients .now)
             (start .args .pool .now) (start .args .words .now) (start .args .scratch .now) (c15 .admit .ensures)
             (c12 .if1 .left) (c7 .run-admitted .ensures .0),
         (
-          yes-words (recipeOf 0 (start .args .headers .now) (start .args .steps .now)) (start .args .coefficients .now)
+          yes-words (recipeOf (start .args .edition) (start .args .headers .now) (start .args .steps .now)) (start .args .coefficients .now)
               (start .args .pool .now) (start .args .words .now) (start .args .scratch .now) (c15 .admit .ensures)
               (c12 .if1 .left) (c7 .run-admitted .ensures .1 .0),
-          yes-scratch (recipeOf 0 (start .args .headers .now) (start .args .steps .now)) (start .args .coefficients .now)
+          yes-scratch (recipeOf (start .args .edition) (start .args .headers .now) (start .args .steps .now)) (start .args .coefficients .now)
               (start .args .pool .now) (start .args .words .now) (start .args .scratch .now) (c15 .admit .ensures)
               (c12 .if1 .left) (c7 .run-admitted .ensures .1 .1 .0),
         ),

@@ -42,7 +42,7 @@ returns-5 c = simp (c .match .keys5)
 
 returns-6 : tie.Need-returns-6
 unfolding families
-returns-6 c = simp (c .match .keys6)
+returns-6 c = simp (c .before .match .keys6, c .power-family .ensures)
 
 returns-7 : tie.Need-returns-7
 unfolding families
@@ -67,5 +67,5 @@ pub family-of-spec : {M : Type 1} → statement M
 family-of-spec =
     tie.close
     (tie.spec
-    (λ c. search needs) (λ c. search needs) (λ c. search needs) returns returns-2 returns-3 returns-4 returns-5
+    (λ c κs. search needs) (λ c. search needs) (λ c. search needs) (λ c. search needs) returns returns-2 returns-3 returns-4 returns-5
     returns-6 returns-7 returns-8 returns-9 returns-10 returns-11)
