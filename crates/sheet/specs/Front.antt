@@ -18,8 +18,8 @@ use Rattle.model_recipes.specs.Recipe.{inputHeads, total}
 use Rattle.model_recipes.specs.Check.{orElse}
 use Rattle.model_texts.specs.Hex.{isDigit, digitOf, byteAt, digitAt, isLine, pushDigit, wordAt}
 use Rattle.model_texts.specs.Printed.{refusedText}
-use Rattle.model_texts.specs.Sheet.{lined, wordOn, inputCount, stepCount, spare, sheetHeaders, coefficientCount}
-use Rattle.model_texts.specs.Sheet.{sheetCoefficients, sheetSteps, restCount, headersRefusal, readRefusal}
+use Rattle.model_texts.specs.Sheet.{lined, wordOn, inputCount, stepCount, sheetEdition, spare, sheetHeaders, coefficientCount}
+use Rattle.model_texts.specs.Sheet.{sheetCoefficients, sheetSteps, sheetRecipe, restCount, headersRefusal, readRefusal}
 use Rattle.model_texts.specs.Sheet.{sheetRefusal, lastValue, sheetOutput}
 use Rattle.recipes_check.specs.Asks.{or-first}
 use Rattle.sheet_reading.specs.Reading.{Sized, sized, sizesTest, restRefusal, after-sizes, count-small}
@@ -55,9 +55,13 @@ module _ (t : List ℕ) where
   unfolding stepCount
   steps-same = ap (λ (w : ℕ). w / 2 ^ 48 % 2 ^ 8) (word-same 0 (omega arith))
 
+  edition-same : sheetEdition u ≡ sheetEdition t
+  unfolding sheetEdition
+  edition-same = ap (λ (w : ℕ). w / 2 ^ 44 % 2 ^ 4) (word-same 0 (omega arith))
+
   spare-same : spare u ≡ spare t
   unfolding spare
-  spare-same = ap (λ (w : ℕ). w % 2 ^ 48) (word-same 0 (omega arith))
+  spare-same = ap (λ (w : ℕ). w % 2 ^ 44) (word-same 0 (omega arith))
 
   headers-same : sheetHeaders u ≡ sheetHeaders t
   unfolding sheetHeaders
@@ -84,7 +88,7 @@ module _ (t : List ℕ) where
   rest-same n from h = rw (every-same (lined u) (lined t) n from (λ q a b. line-same q (omega arith)), length-same (17 * (from + n)) (omega arith))
 
   test-same : sizesTest u ≡ sizesTest t
-  test-same = rw (inputs-same, steps-same, spare-same)
+  test-same = rw (edition-same, inputs-same, steps-same, spare-same)
 
   headers-refused : headersRefusal u (inputCount u) 0 ≡ headersRefusal t (inputCount t) 0
   headers-refused = ap (λ (n : ℕ). headersRefusal u n 0) inputs-same ∙ refusal-same (inputCount t) 0 (omega (arith, count-small t))
@@ -131,8 +135,8 @@ module _ (t : List ℕ) where
         (λ j l. word-same (1 + inputCount t + coefficientCount t + j) (omega (arith, lines-few o))))
 
     opened-same : sheetOutput u ≡ sheetOutput t
-    unfolding sheetOutput sheetRefusal lastValue
-    opened-same = rw (read-same, headers-same, coefficients-same, step-words-same, steps-same)
+    unfolding sheetOutput sheetRefusal lastValue sheetRecipe
+    opened-same = rw (read-same, edition-same, headers-same, coefficients-same, step-words-same, steps-same)
 
   pub sheet-front : sheetOutput (take readAtMost t) ≡ sheetOutput t
   sheet-front =
