@@ -132,7 +132,7 @@ fn patterns() -> Vec<Vec<u8>> {
 
 /// Sheets of the recipes that the run is tried on: each kind, each field, operands, shifts, long chains.
 fn runs() -> Vec<Vec<u8>> {
-    let lists: [Vec<Recipe>; 6] = [
+    let lists: [Vec<Recipe>; 7] = [
         recipe_edges::kinds(),
         recipe_edges::shifts(),
         recipe_edges::chains(),
