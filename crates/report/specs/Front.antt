@@ -138,7 +138,7 @@ module _ (t : List ℕ) where
       let m : readRefusal u .number ≡ 0 → ⊥ = λ z. omega (arith, read-length u z, length-take readAtMost t) in
       let e : refusedText (readRefusal u) ≡ refusedText (readRefusal t) = sym (output-read u refl m) ∙ (sheet-front t ∙ output-read t refl n) in
       let f : readRefusal u ≡ readRefusal t = sym (line-refusal (read-small u)) ∙ (ap refusalIn e ∙ line-refusal (read-small t)) in
-      told-refused u (sym (read-refused u refl m)) m ∙ (ap refusalReport f ∙ sym (told-refused t (sym (read-refused t refl n)) n))
+      told-refused u asked (sym (read-refused u refl m)) m ∙ (ap refusalReport f ∙ sym (told-refused t asked (sym (read-refused t refl n)) n))
 
   pub told-front : (asked : Asked) → toldText (take readAtMost t) asked ≡ toldText t asked
   told-front asked =

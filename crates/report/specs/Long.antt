@@ -225,7 +225,7 @@ module _ (t : List ℕ) (z : sheetRefusal t .number ≡ 0) where
       kept-behind v (record { most = f .most; keeps = f .keeps }) in
       let m = kept-behind (limits-lines hs ss (check-none t z) fs)
       (kept-behind (inputs-lines hs cs (accepts-it .sizes .few)) k) in
-      rw (told-done t {asked = asked} z) (record { most = omega (arith, m .most); keeps = m .keeps })
+      rw (told-done t asked z) (record { most = omega (arith, m .most); keeps = m .keeps })
 
 -- ---- the laws
 
@@ -235,7 +235,7 @@ told-kept t asked =
     (λ a. done-kept t (eqb-true _ _ a) asked)
     (λ a.
     let k = refusal-kept (sheetRefusal t) (refusal-small t) in
-    rw (told-refused t {asked = asked} refl (eqb-false (sheetRefusal t .number) 0 a)) (record { most = omega (arith, k .most); keeps = k .keeps }))
+    rw (told-refused t asked refl (eqb-false (sheetRefusal t .number) 0 a)) (record { most = omega (arith, k .most); keeps = k .keeps }))
 
 module _ (t : List ℕ) (asked : Asked) where
   pub told-columns : inColumns 0 (toldText t asked) ≡ true

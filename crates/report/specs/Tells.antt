@@ -34,15 +34,15 @@ use Rattle.report_totals.specs.Forecast.{Forecast}
 use Rattle.report.specs.Before.{place-told, cuts-told, end-told}
 
 module _ (t : List ℕ) where
-  pub told-refused : {asked : Asked} {q : Refusal} → sheetRefusal t ≡ q → (q .number ≡ 0 → ⊥) → toldText t asked ≡ refusalReport q
+  pub told-refused : (asked : Asked) {q : Refusal} → sheetRefusal t ≡ q → (q .number ≡ 0 → ⊥) → toldText t asked ≡ refusalReport q
   unfolding toldText
-  told-refused {asked} {q} e z = rw (e, ne-eqb (q .number) 0 z)
+  told-refused asked {q} e z = rw (e, ne-eqb (q .number) 0 z)
 
-  pub told-done : {asked : Asked} → sheetRefusal t .number ≡ 0
+  pub told-done : (asked : Asked) → sheetRefusal t .number ≡ 0
       → toldText t asked
       ≡ forecastText (sheetKnown t) (sheetHeaders t) (sheetCoefficients t) (sheetSteps t) (wordOf (lastValue t .head)) (lastValue t .coeffs) asked
   unfolding toldText
-  told-done e = rw (eq-eqb (sheetRefusal t .number) 0 e)
+  told-done asked e = rw (eq-eqb (sheetRefusal t .number) 0 e)
 
   abbrev places : ℕ
   places = placeCount (sheetKnown t) (sheetHeaders t) (sheetCoefficients t) (sheetSteps t)
@@ -80,7 +80,7 @@ module _ (t : List ℕ) where
         place = place-told (sheetKnown t) (sheetSteps t) inputs full places p l;
         cuts = cuts-told (sheetKnown t) (sheetSteps t) inputs full places p l;
         ends = end-told (sheetKnown t) (sheetSteps t) inputs full places v k;
-        is = told-done e;
+        is = told-done asked e;
       }
 
 -- what is said of limits, and the verdict, know no coefficient: sheets with equal headers and steps have the same
@@ -141,13 +141,13 @@ module _ {t headers steps known : List ℕ} {pool : List Float} {s : Solved} (d 
     coefficients-are = rw (e, d .header-words, headers-many t)
 
     -- the forecast of the sheet, from what was solved
-    pub told-solved : {asked : Asked} → toldText t asked
+    pub told-solved : (asked : Asked) → toldText t asked
         ≡ forecastText (map headerOf (take (s .inputs + s .steps) known)) (take (s .inputs) headers)
         (coefficientsOf t (length (take (s .inputs) headers)) n) (take (s .steps) steps) (s .header)
         (take (s .from + s .count - s .from) (drop (s .from) pool)) asked
-    told-solved =
+    told-solved asked =
         let f : s .from + s .count - s .from ≡ s .count = omega arith in
-        told-done t z ∙ rw (coefficients-are, f, d .places, d .step-words, d .header-words, d .last .header, d .last .coefficients) refl
+        told-done t asked z ∙ rw (coefficients-are, f, d .places, d .step-words, d .header-words, d .last .header, d .last .coefficients) refl
 
 -- no other number means anything of a place, or of a sheet
 pub no-place-meaning : (n : ℕ) → (n ≡ 3 → ⊥) → (n ≡ 4 → ⊥) → (n ≡ 5 → ⊥) → (n ≡ 7 → ⊥) → [] ≡ bytes (getD placeMeanings n "")

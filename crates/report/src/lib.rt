@@ -3,8 +3,8 @@ mod limits;
 mod refusal;
 
 use limits::put_limit_lines;
-use recipes_check::total_of;
 use model_forecast::Asked;
+use recipes_check::total_of;
 use refusal::put_refusal_report;
 use report_inputs::put_inputs;
 use report_lines::ends::put_verdict;
