@@ -217,24 +217,95 @@ def limits_text(inputs, steps, known):
         far, (by, note) = further(last, v, {}), way(last, v)
         more = ";\n  place %d went to %d" % (far, limit(far, v)) if limit(far, v) > limit(by, v) else ""
         out.append("variable %d of the answer ends at %d%s%sas %s does%s\n" % (v, limit(last, v), note, ",\n  " if note else ", ", who(by), more))
-    made, seen = [last], set()
-    while made:
-        p = made.pop()
-        if p not in seen:
-            seen.add(p)
-            made += made_of(step(p), full) if p >= inputs else []
-    lost = sorted(p for p in seen if p >= inputs and passing(p))
+
+    def made_from(place):
+        """All places that a place is made of, itself too."""
+        made, seen = [place], set()
+        while made:
+            p = made.pop()
+            if p not in seen:
+                seen.add(p)
+                made += made_of(step(p), full) if p >= inputs else []
+        return seen
+
+    out_of = lambda place: sorted(p for p in made_from(place) if p >= inputs and passing(p))
+    lost = out_of(last)
+    mixed = sorted(p for p in made_from(last) if p >= inputs and fields(step(p))[0] == 10 and out_of(fields(step(p))[1]))
     verdict = (
         "*** CUT: what lies past the limits of place %d is left out. ***\n" % lost[0]
         if lost
         else "*** WHOLE: with each input as it is stored, no limit left anything out. ***\n"
     )
-    return "".join(out), verdict
+    wrong = (
+        "Place %d (subst_var) puts something for a variable of a table that was cut:\n"
+        "the figures shown may be wrong, and not only incomplete.\n" % mixed[0]
+        if mixed
+        else ""
+    )
+    return "".join(out), verdict, wrong, not lost
 
 
 def number(x):
     """A float for people, with Python's decimal module as the judge of the digits."""
     return printed(0x7FF8000000000000 if x != x else struct.unpack(">Q", struct.pack(">d", x))[0])
+
+
+def power(e, x):
+    """A number to a power by squaring, as `pow` makes one of a constant."""
+    if e < 2:
+        return x if e else 1.0
+    reached, base = 1.0, x
+    while e > 1:
+        reached, base, e = (reached * base if e & 1 else reached), base * base, e >> 1
+    return reached * base
+
+
+def totals(steps, sums):
+    """Of each place its total, or the number of the first place that stands in its way; sums: those of the inputs."""
+    out = list(sums)
+    for w in steps:
+        kind, a, b, _, n = fields(w)
+        if kind not in (0, 1, 2, 3, 4, 6, 9):
+            out.append(len(out))
+            continue
+        if kind == 0 or kind == 6 and n == 0:
+            out.append(float(n) if kind == 0 else 1.0)
+            continue
+        uses = [out[a]] + ([out[b]] if kind in (2, 3, 4) else [])
+        bars = [x for x in uses if isinstance(x, int)]
+        if bars:
+            out.append(min(bars))
+        elif kind == 1:
+            out.append(-uses[0])
+        elif kind == 6:
+            out.append(power(n, uses[0]))
+        elif kind == 9:
+            out.append(uses[0])
+        else:
+            x, y = uses
+            out.append(x + y if kind == 2 else x - y if kind == 3 else x * y)
+    return out
+
+
+def good(total):
+    """Whether parts can be taken of a total."""
+    return 0 < total < float("inf")
+
+
+def total_text(origin, total, shown, lost):
+    if not good(total):
+        return "The total, %s, is %s:\n  not a finite number above zero, so that no part of it is told.\n" % (origin, number(total))
+    return "Of %s in all, %s,\n  %s are shown here;\n  %s\n" % (number(total), origin, number(shown), lost % number(total - shown) if "%s" in lost else lost)
+
+
+def totals_text(steps, inputs, total, given, shown, whole, one):
+    """What is said of the total; total: a float, or the place that stands in its way."""
+    if given is not None:
+        return total_text("as given", given, shown, "%s are not.")
+    if isinstance(total, int):
+        kind = NAMES[fields(steps[total - inputs])[0]]
+        return "No total follows from the inputs: place %d is a %s.\n%s" % (total, kind, "Parts are taken of a total of 1.\n" if one else "")
+    return total_text("taking each input as whole", total, shown, "nothing lies past the limits." if whole else "%s lie past the limits.")
 
 
 def cell(column, width, text):
@@ -287,8 +358,8 @@ def floating(digits):
     return struct.unpack(">d", bytes.fromhex(digits))[0]
 
 
-def told(text, said):
-    """What `limits` prints for a sheet, said what `recipe` printed for it."""
+def told(text, said, given=None):
+    """What `limits` prints for a sheet, said what `recipe` printed for it; given: a total that its arguments give."""
     if said.startswith("refused"):
         n, place, variable, cause = map(int, said.split()[1:])
         if n == 1:
@@ -308,8 +379,13 @@ def told(text, said):
         known.append(announce(w, known))
     answer = said.split("\n")[1:-1]
     xs = [floating(l) for l in answer[1:]]
-    limits, verdict = limits_text(inputs, steps, known)
-    return limits + inputs_text(heads, coefficients) + verdict + figures_text(int(answer[0], 16), xs, 1.0)
+    limits, verdict, wrong, whole = limits_text(inputs, steps, known)
+    word = int(answer[0], 16)
+    own = totals(steps, [running(c)[-1] for c in coefficients])[-1]
+    total = given if given is not None else 1.0 if isinstance(own, int) else own
+    said = totals_text(steps, inputs, own, given, running(xs)[-1], whole, word >> 61 == 1)
+    figures = figures_text(word, xs, total if good(total) else None)
+    return limits + inputs_text(heads, coefficients) + verdict + wrong + said + figures
 
 
 def fault(rng):

@@ -24,6 +24,7 @@ use Rattle.model_texts.specs.Sheet.{lined, wordOn, inputCount, restCount, heade
 use Rattle.model_texts.specs.Sheet.{ownRefusal, recipeRefusal, sheetRefusal}
 use Rattle.gates.specs.Small.{Small, at-small, word-small, asked-small, small-up}
 use Rattle.recipes_laws.specs.Refuses.{check-small, run-small}
+use Rattle.model_forecast.specs.declared.Asked.{Asked}
 use Rattle.model_forecast.specs.Told.{toldText}
 use Rattle.recipes_check.specs.Asks.{or-none, ask-none}
 use Rattle.sheet_text.specs.Value.{numberAt, behindNumber, decimal-number, decimal-behind}
@@ -131,13 +132,16 @@ module _ (t : List ℕ) where
   abbrev u : List ℕ
   u = take readAtMost t
 
-  long-front : readAtMost < length t → toldText u ≡ toldText t
-  long-front l =
+  long-front : (asked : Asked) → readAtMost < length t → toldText u asked ≡ toldText t asked
+  long-front asked l =
       let n : readRefusal t .number ≡ 0 → ⊥ = λ z. omega (arith, read-length t z) in
       let m : readRefusal u .number ≡ 0 → ⊥ = λ z. omega (arith, read-length u z, length-take readAtMost t) in
       let e : refusedText (readRefusal u) ≡ refusedText (readRefusal t) = sym (output-read u refl m) ∙ (sheet-front t ∙ output-read t refl n) in
       let f : readRefusal u ≡ readRefusal t = sym (line-refusal (read-small u)) ∙ (ap refusalIn e ∙ line-refusal (read-small t)) in
-      told-refused u (sym (read-refused u refl m)) m ∙ (ap refusalReport f ∙ sym (told-refused t (sym (read-refused t refl n)) n))
+      told-refused u asked (sym (read-refused u refl m)) m ∙ (ap refusalReport f ∙ sym (told-refused t asked (sym (read-refused t refl n)) n))
 
-  pub told-front : toldText (take readAtMost t) ≡ toldText t
-  told-front = decide (leb (length t) readAtMost) (λ a. ap toldText (take-all readAtMost t (leb-true _ _ a))) (λ a. long-front (leb-false _ _ a))
+  pub told-front : (asked : Asked) → toldText (take readAtMost t) asked ≡ toldText t asked
+  told-front asked =
+      decide (leb (length t) readAtMost)
+      (λ a. ap (λ (x : List ℕ). toldText x asked) (take-all readAtMost t (leb-true _ _ a)))
+      (λ a. long-front asked (leb-false _ _ a))

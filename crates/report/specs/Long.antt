@@ -16,7 +16,6 @@ use Rattle.lists.specs.Table.{length-table}
 use Rattle.lists.specs.Test.{decide, of-both, and-left, and-right}
 use Rattle.model.specs.declared.Refusal.{Refusal}
 use Rattle.model.specs.Header.{stored}
-use Rattle.model.specs.Readings.{oneF}
 use Rattle.model.specs.Word.{headerOf, wordOf}
 use Rattle.model.specs.Refusals.{isNone}
 use Rattle.model_recipes.specs.Check.{checkRefusal}
@@ -29,7 +28,8 @@ use Rattle.model_texts.specs.Sentence.{placeMeanings, sheetMeanings, meaning, r
 use Rattle.model_texts.specs.Sheet.{inputCount, sheetHeaders, sheetCoefficients, sheetSteps, wordOn}
 use Rattle.model_texts.specs.Sheet.{coefficientCount, ownRefusal, recipeRefusal, readRefusal, sheetRefusal, lastValue}
 use Rattle.model_texts.specs.Trace.{stepWord}
-use Rattle.model_figures.specs.Figures.{figuresText}
+use Rattle.model_forecast.specs.declared.Asked.{Asked}
+use Rattle.model_forecast.specs.Reckoned.{reckonedText}
 use Rattle.model_forecast.specs.Told.{limitLines, forecastText, toldText}
 use Rattle.shape_words.specs.Words.{unpack-pack}
 use Rattle.shape.specs.Under.{count-under}
@@ -51,8 +51,7 @@ use Rattle.report.specs.Front.{refusal-small}
 use Rattle.report_lines.specs.Long.{Short, place-lines, cuts-lines, end-lines, verdict-lines}
 use Rattle.report_inputs.specs.Long.{inputs-lines}
 use Rattle.report.specs.Before.{lineOne, lineTwo}
-use Rattle.report_figures.specs.Lines.{word-lengths}
-use Rattle.report_figures.specs.Long.{figures-lines}
+use Rattle.report_totals.specs.Long.{reckoned-lines}
 use Rattle.report.specs.Tells.{told-refused, told-done}
 use Rattle.report.specs.Traces.{check-ordered, shift-short, check-none}
 
@@ -215,38 +214,40 @@ module _ (t : List ℕ) (z : sheetRefusal t .number ≡ 0) where
   abbrev fs : List ℕ
   fs = fulls (announcedPlaces hs ss) ss (length hs) (length hs + length ss)
 
-  done-kept : Kept 161000 (toldText t)
+  done-kept : (asked : Asked) → Kept 162000 (toldText t asked)
   unfolding forecastText
-  done-kept =
-      let f = figures-lines (headerOf (wordOf (lastValue t .head))) (lastValue t .coeffs) oneF true (word-lengths (wordOf (lastValue t .head))) last-few in
+  done-kept asked =
+      let w = wordOf (lastValue t .head) in
+      let f = reckoned-lines (announcedPlaces hs ss) hs cs ss fs w (lastValue t .coeffs) asked last-few in
       let v = verdict-lines (announcedPlaces hs ss) ss (length hs) (places-known hs ss (accepts-it .inputs)) fs (length hs + length ss - 1) in
-      let k : Kept 95080 (verdictText (announcedPlaces hs ss) ss (length hs) fs (length hs + length ss - 1)
-      ++ figuresText (headerOf (wordOf (lastValue t .head))) (lastValue t .coeffs) oneF true) =
+      let k : Kept 95480 (verdictText (announcedPlaces hs ss) ss (length hs) fs (length hs + length ss - 1)
+      ++ reckonedText (announcedPlaces hs ss) hs cs ss fs w (lastValue t .coeffs) asked) =
       kept-behind v (record { most = f .most; keeps = f .keeps }) in
       let m = kept-behind (limits-lines hs ss (check-none t z) fs)
       (kept-behind (inputs-lines hs cs (accepts-it .sizes .few)) k) in
-      rw (told-done t z) (record { most = omega (arith, m .most); keeps = m .keeps })
+      rw (told-done t asked z) (record { most = omega (arith, m .most); keeps = m .keeps })
 
 -- ---- the laws
 
-told-kept : (t : List ℕ) → Kept 161000 (toldText t)
-told-kept t =
+told-kept : (t : List ℕ) (asked : Asked) → Kept 162000 (toldText t asked)
+told-kept t asked =
     decide (isNone (sheetRefusal t))
-    (λ a. done-kept t (eqb-true _ _ a))
+    (λ a. done-kept t (eqb-true _ _ a) asked)
     (λ a.
     let k = refusal-kept (sheetRefusal t) (refusal-small t) in
-    rw (told-refused t refl (eqb-false (sheetRefusal t .number) 0 a)) (record { most = omega (arith, k .most); keeps = k .keeps }))
+    rw (told-refused t asked refl (eqb-false (sheetRefusal t .number) 0 a)) (record { most = omega (arith, k .most); keeps = k .keeps }))
 
-module _ (t : List ℕ) where
-  pub told-columns : inColumns 0 (toldText t) ≡ true
-  told-columns = told-kept t .keeps
+module _ (t : List ℕ) (asked : Asked) where
+  pub told-columns : inColumns 0 (toldText t asked) ≡ true
+  told-columns = told-kept t asked .keeps
 
-  pub told-fits : length (toldText t) ≤ 262144
-  told-fits = omega (arith, told-kept t .most)
+  pub told-fits : length (toldText t asked) ≤ 262144
+  told-fits = omega (arith, told-kept t asked .most)
 
   -- so that all of it is printed
-  pub told-whole : {old new : List ℕ} {n : ℕ} → Printed (toldText t) old new n → 262144 ≤ length old → take n new ≡ toldText t
+  pub told-whole : {old new : List ℕ} {n : ℕ} → Printed (toldText t asked) old new n → 262144 ≤ length old → take n new ≡ toldText t asked
   told-whole {old} {new} {n} p l =
-      let e : n ≡ length (toldText t) = omega (arith, p .behind, told-fits) in
-      let f : take (length old) (toldText t) ≡ toldText t = take-all (length old) (toldText t) (omega (arith, told-fits)) in
-      ap (take n) (p .is ∙ ap (λ (x : List ℕ). over x old) f) ∙ take-over (toldText t) old n (sym e)
+      let told : List ℕ = toldText t asked in
+      let e : n ≡ length told = omega (arith, p .behind, told-fits) in
+      let f : take (length old) told ≡ told = take-all (length old) told (omega (arith, told-fits)) in
+      ap (take n) (p .is ∙ ap (λ (x : List ℕ). over x old) f) ∙ take-over told old n (sym e)

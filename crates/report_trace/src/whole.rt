@@ -17,7 +17,7 @@ ghost use Rattle.model.specs.Word.{headerOf};
 ghost use Rattle.model_texts.specs.Whole.{needsFirst, needsSecond, passes, leavesOut, firstNext, firstOut};
 
 // Whether a step is made of its first operand: not where it is a power of 0.
-fn needs_first(f: Family) -> bool
+pub fn needs_first(f: Family) -> bool
     ensures { λ r. ⌜ r ≡ needsFirst f ⌝ }
 {
     match f {
@@ -37,7 +37,7 @@ fn needs_first(f: Family) -> bool
 }
 
 // And of its second: what is put for a variable counts where the polynomial has more than one row there.
-fn needs_second(f: Family, p: usize) -> bool
+pub fn needs_second(f: Family, p: usize) -> bool
     ensures { λ r. ⌜ r ≡ needsSecond f p ⌝ }
 {
     match f {
