@@ -13,10 +13,10 @@ use Rattle.model.specs.Refusals.{isNone}
 use Rattle.model_recipes.specs.Recipe.{announcedPlaces}
 use Rattle.model_texts.specs.Full.{fulls}
 use Rattle.model_texts.specs.Report.{joined, placeText, cutsText, endText, verdictText}
-use Rattle.model_texts.specs.Sentence.{refusalReport}
 use Rattle.model_texts.specs.Sheet.{sheetHeaders, sheetCoefficients, sheetSteps, sheetRefusal, lastValue}
 use Rattle.model_figures.specs.Inputs.{inputsText}
 use Rattle.model_figures.specs.Figures.{figuresText}
+use Rattle.model_faults.specs.Fault.{faultReport}
 
 -- known what all n places announce, fs their full lengths, ss the step words
 unfoldable pub limitLines : List Header → List ℕ → ℕ → List ℕ → ℕ → List ℕ
@@ -52,4 +52,4 @@ module _ (t : List ℕ) where
   toldText =
       cond (isNone (sheetRefusal t))
       (forecastText sheetKnown (sheetHeaders t) (sheetCoefficients t) (sheetSteps t) (wordOf (lastValue t .head)) (lastValue t .coeffs))
-      (refusalReport (sheetRefusal t))
+      (faultReport t)
