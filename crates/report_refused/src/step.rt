@@ -39,13 +39,7 @@ fn put_known_fault(
 }
 
 // A sheet that is read, with its input headers.
-pub fn put_recipe_fault(
-    text: &[u8],
-    r: Refusal,
-    headers: &[u64],
-    at: usize,
-    to: &mut [u8],
-) -> usize
+pub fn put_recipe_fault(text: &[u8], r: Refusal, headers: &[u64], at: usize, to: &mut [u8]) -> usize
     requires { ⌜ Opening (now text) (now headers) ⌝ ∗ ⌜ Placed (length (now headers)) (stepCount (now text)) r ⌝ }
     ensures { λ n. ⌜ Puts (recipeFault (now (text .entry)) r) at (now (to .entry)) (now (to .exit)) n ⌝ }
 {
