@@ -1,4 +1,4 @@
-"""What `limits` has to say of a refused sheet (docs/REFERENCE.md, 9.8), worked out from the bytes of the sheet and the line
+"""What `limits` has to say of a refused sheet (docs/REFERENCE.md, 9.11), worked out from the bytes of the sheet and the line
 that `recipe` prints for it; and sheets that are damaged in every way that it tells. tests/limits.py uses both."""
 import re
 
@@ -187,7 +187,8 @@ def damaged(rng, words, pack):
             return "".join(text).encode()[: rng.randrange(17 * len(text) + 1)]
         return "".join(text).encode()
     if which < 14:  # word one
-        words[0] = rng.choice([17 << 56, 255 << 56 | 255 << 48, inputs << 56, inputs << 56 | 64 << 48 | 1, words[0] | 1 << rng.randrange(48), 16 << 56 | 49 << 48])
+        sizes = [17 << 56, 255 << 56 | 255 << 48, inputs << 56, inputs << 56 | 64 << 48 | 1, 16 << 56 | 49 << 48]
+        words[0] = rng.choice(sizes + [words[0] | 1 << rng.randrange(48)])
     elif which < 20:  # a field of a step
         at = len(words) - count + rng.randrange(count)
         p = at - (len(words) - count) + inputs
@@ -205,13 +206,15 @@ def damaged(rng, words, pack):
         elif how == 5:
             words[at] |= 1 << rng.randrange(14)
         else:
-            words[at] = rng.choice([7, 8, 9]) << 60 | rng.randrange(max(p, 1)) << 54 | rng.randrange(4) << 46 | rng.choice([0, 1, 9, 64, 2**32 - 1]) << 14
+            n = rng.choice([0, 1, 9, 64, 2**32 - 1])
+            words[at] = rng.choice([7, 8, 9]) << 60 | rng.randrange(max(p, 1)) << 54 | rng.randrange(4) << 46 | n << 14
     else:  # too large
         one, zero = 0x3FF0000000000000, 0
         long = lambda n, v: pack([64] * (v + 1), [n if k == v else 1 for k in range(v + 1)])
         how = rng.randrange(4)
         if how == 0:  # a product of more than 4,096
-            words = [3 << 56 | 2 << 48] + [long(64, v) for v in range(3)] + [one] * 192 + [4 << 60 | 1 << 48, 4 << 60 | 3 << 54 | 2 << 48]
+            words = [3 << 56 | 2 << 48] + [long(64, v) for v in range(3)] + [one] * 192
+            words += [4 << 60 | 1 << 48, 4 << 60 | 3 << 54 | 2 << 48]
         elif how == 1:  # an input or a step of more than 256
             n = rng.randint(2, 64)
             words = [2 << 56 | 1 << 48, long(64, 0), pack([64, 64], [n, 8])] + [one] * (64 + 8 * n) + [4 << 60 | 1 << 48]

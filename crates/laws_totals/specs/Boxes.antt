@@ -1,4 +1,4 @@
--- Sums over boxes of indices in four variables: a box that holds all coefficients other than zero may be any larger one.
+-- Sums over boxes of indices in four variables: a box past which all coefficients are zero may be any larger one.
 use Prim.Native.Nat.{ℕ, zero, suc, _-_, _≤_, _<_}
 use mathlib.Core.List.{List, [], _∷_}
 use mathlib.Core.Path.{_≡_, refl, ap, _∙_}

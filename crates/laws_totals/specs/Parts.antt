@@ -1,5 +1,5 @@
--- REFERENCE 9.8: what is shown and what lies past the limits add up to the total; and the difference that `limits` prints
--- is exact.
+-- REFERENCE 9.8: what is shown and what lies past the limits add up to the total; and the difference that `limits`
+-- prints is exact.
 use Prim.Native.Nat.{ℕ, _+_, _^_, _≤_, _<_}
 use mathlib.Core.Bool.{true, false, cond}
 use mathlib.Core.List.{List}

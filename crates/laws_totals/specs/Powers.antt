@@ -1,4 +1,5 @@
--- `numberPower` on a whole number is its power, where that is 2 ^ 53 at most in size: so are then all numbers on the way.
+-- `numberPower` on a whole number is its power, where that is 2 ^ 53 at most in size: then no number on the way is
+-- larger.
 use Prim.Native.Nat.{ℕ, zero, suc, _+_, _*_, _/_, _%_, _^_, _≤_, _<_}
 use mathlib.Core.Bool.{true, false, cond}
 use mathlib.Core.Path.{_≡_, refl, sym, ap, _∙_}

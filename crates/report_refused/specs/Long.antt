@@ -17,7 +17,7 @@ use Rattle.model.specs.Word.{headerOf}
 use Rattle.model_recipes.specs.Recipe.{announcedStep, inputHeads, announcedPlaces, total}
 use Rattle.model_texts.specs.Cause.{causeText}
 use Rattle.model_texts.specs.Hex.{isDigit, byteAt}
-use Rattle.model_texts.specs.Printed.{refusedWord, space, refusedText}
+use Rattle.model_texts.specs.Printed.{refusedWord, space, decimal, refusedText}
 use Rattle.model_texts.specs.Sheet.{lined, inputCount, stepCount, restCount, coefficientCount, sheetHeaders, sheetSteps, readRefusal, sheetRefusal}
 use Rattle.model_texts.specs.Trace.{stepWord}
 use Rattle.model_faults.specs.Saying.{firstNot}
@@ -62,7 +62,7 @@ name-piece b =
     (λ t. rw t (piece 18 (bytes "an unreadable byte") refl))
 
 module _ (c : ℕ) (l : c ≤ 16) where
-  column : Piece 2 _
+  column : Piece 2 (decimal (c + 1))
   column = two-digits (c + 1) (omega arith)
 
   no-digit-fits : (b : ℕ) → Fits 66 67 (noDigitText b c)

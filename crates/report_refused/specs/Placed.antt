@@ -5,12 +5,12 @@ use mathlib.Core.List.{List}
 use mathlib.Core.Path.{_≡_, refl, sym, ap, _∙_}
 use native.Mathlib.Omega.{arith}
 use lib.Dec.{leb}
-use lib.ListN.{length, getD}
+use lib.ListN.{length, getD, take}
 use lib.Ieee.{Float}
 use Rattle.lists.specs.Table.{table, table-at}
 use Rattle.model.specs.declared.Refusal.{Refusal}
 use Rattle.model.specs.Word.{goodWord}
-use Rattle.model.specs.Refusals.{askFor, noRefusal, zeros}
+use Rattle.model.specs.Refusals.{askFor, ask, refusedBy, noRefusal, zeros}
 use Rattle.model_recipes.specs.Recipe.{inputHeads, announcedPlaces, announcedSteps, total, largest}
 use Rattle.model_recipes.specs.Check.{askAt, orElse, checkRefusal}
 use Rattle.model_recipes.specs.Run.{lentRefusal, runRefusal}
@@ -23,6 +23,8 @@ use Rattle.recipes_laws.specs.Outcome.{GoodInputs, Outcome, by-sizes, at-input,
 use Rattle.recipes_laws.specs.Exact.{known, length-known}
 use Rattle.sheet_reading.specs.Headers.{headerOn, good-at}
 use Rattle.sheet_solving.specs.Opened.{Opened, opened, headers-many, steps-many}
+use Rattle.sheet_reading.specs.Reading.{Read}
+use Rattle.sheet_solving.specs.Running.{Opening}
 use Rattle.sheet_solving.specs.Ended.{ranRefusal}
 
 -- k inputs, n steps
@@ -36,9 +38,9 @@ nowhere e = record { from = λ l. absurd (omega (arith, e)); to = λ l. absurd (
 
 -- ---- the program's own limits, and lent memory
 
-asked : (b : Bool) {q next : Refusal} → q .place ≡ 64 → next .place ≡ 64 → askFor b q next .place ≡ 64
-asked true e f = f
-asked false e f = e
+asked : (b : Bool) (q next : Refusal) → q .place ≡ 64 → next .place ≡ 64 → askFor b q next .place ≡ 64
+asked true q next e f = f
+asked false q next e f = e
 
 own-nowhere : (b : Bool) → askAt b 5 64 noRefusal .place ≡ 64
 own-nowhere true = refl
@@ -47,8 +49,12 @@ own-nowhere false = refl
 lent-nowhere : (hs ss : List ℕ) (c p w s : ℕ) → lentRefusal hs ss c p w s .place ≡ 64
 unfolding lentRefusal
 lent-nowhere hs ss c p w s =
-    asked (leb (total (inputHeads hs)) c) refl
-    (asked (leb (total (announcedSteps hs ss)) p && leb (length ss) w) refl (asked (leb (8 * largest (announcedSteps hs ss)) s) refl refl))
+    let a : Bool = leb (total (inputHeads hs)) c in
+    let b : Bool = leb (total (announcedSteps hs ss)) p && leb (length ss) w in
+    let d : Bool = leb (8 * largest (announcedSteps hs ss)) s in
+    let third : Refusal = ask d 6 noRefusal in
+    let second : Refusal = ask b 5 third in
+    asked a (refusedBy 2) second refl (asked b (refusedBy 5) third refl (asked d (refusedBy 6) noRefusal refl refl))
 
 -- ---- the check, where every header is good
 
@@ -68,9 +74,9 @@ recipe-placed : (hs : List ℕ) (cs : List Float) (ss : List ℕ) → GoodInputs
 unfolding recipeRefusal ownRefusal runRefusal
 recipe-placed hs cs ss g =
     let c = check-placed hs ss (outcome hs ss) g in
-    let pool = zeros (total (announcedSteps hs ss)) in
-    let words = table (length ss) (λ k. 0) in
-    let scratch = zeros (8 * largest (announcedSteps hs ss)) in
+    let pool : List Float = zeros (total (announcedSteps hs ss)) in
+    let words : List ℕ = table (length ss) (λ k. 0) in
+    let scratch : List Float = zeros (8 * largest (announcedSteps hs ss)) in
     or-placed (checkRefusal hs ss) (orElse (ownRefusal hs ss) (ranRefusal hs cs ss)) c
     (or-placed (ownRefusal hs ss) (ranRefusal hs cs ss)
     (nowhere (own-nowhere ((leb (largest (announcedPlaces hs ss)) 256 && leb (total (inputHeads hs)) 2048) && leb (total (announcedSteps hs ss)) 2048)))
@@ -93,3 +99,17 @@ module _ (t : List ℕ) (z : readRefusal t .number ≡ 0) where
   sheet-placed =
       rw (or-next (readRefusal t) (recipeRefusal (sheetHeaders t) (sheetCoefficients t) (sheetSteps t)) z, ← steps-many t)
       (recipe-placed (sheetHeaders t) (sheetCoefficients t) (sheetSteps t) good-headers)
+
+-- the headers that were read stand at the front of a buffer
+module _ {t old new : List ℕ} {q : Refusal} {n : ℕ} (d : Read t old new q) (z : q .number ≡ 0) (e : n ≡ inputCount t) where
+  pub read-none : readRefusal t .number ≡ 0
+  read-none = ap (λ (x : Refusal). x .number) (sym (d .answer)) ∙ z
+
+  pub read-few : n ≤ 16
+  read-few = omega (arith, e, opened t read-none .sizes .few)
+
+  pub read-opening : Opening t (take n new)
+  read-opening = record { read = read-none; headers = ap (λ (k : ℕ). take k new) e ∙ d .headers z }
+
+  pub read-placed : {r : Refusal} → r ≡ sheetRefusal t → Placed (length (take n new)) (stepCount t) r
+  read-placed {r} f = rw (read-opening .headers, f) (sheet-placed t read-none)

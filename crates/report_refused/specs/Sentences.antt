@@ -168,7 +168,8 @@ sizes-fits k n x a b =
     let s = piece 13 (bytes "word one has ") refl in
     let q = three k (omega arith) in
     fits-unless (leb k 16)
-    (fits-up (fits-say "word one has " k " inputs; 16 are the most.\n" s q (fits-text 26 27 (bytes " inputs; 16 are the most.\n") refl)) (omega arith) (omega arith))
+    (fits-up (fits-say "word one has " k " inputs; 16 are the most.\n" s q (fits-text 26 27 (bytes " inputs; 16 are the most.\n") refl))
+    (omega arith) (omega arith))
     (fits-unless (leb 1 n) (fits-text 72 73 (bytes "word one has no step; write 1 or more.\n") refl)
     (fits-unless (leb (k + n) 64)
     (fits-up
