@@ -1,19 +1,18 @@
 -- Sums over boxes of indices in four variables: a box past which all coefficients are zero may be any larger one.
 use Prim.Native.Nat.{ℕ, zero, suc, _-_, _≤_, _<_}
 use mathlib.Core.List.{List, [], _∷_}
-use mathlib.Core.Path.{_≡_, refl, ap, _∙_}
+use mathlib.Core.Path.{_≡_, refl, _∙_}
 use native.Mathlib.Omega.{arith}
 use native.Mathlib.Nat.{suc-inj}
 use lib.Dec.{leb, lit<}
 use lib.ListN.{length}
-use lib.IntN.{ℤ, pos}
 use borrow.Author.Tests.{leb-true, leb-false}
 use Rattle.lists.specs.Four.{at, four, each, at-four}
 use Rattle.lists.specs.Test.{decide}
 use Rattle.model.specs.Header.{ones}
 use Rattle.model_textbook.specs.Sum.{addZ}
 use Rattle.model_textbook.specs.Box.{box, boxZ, indexMinus}
-use Rattle.model_textbook.specs.Textbook.{Series, origin, sumOfAll}
+use Rattle.model_textbook.specs.Textbook.{Series, origin}
 use Rattle.laws_whole.specs.Index.{InBox, Within}
 use Rattle.laws_whole.specs.IndexLaws.{in-box-length}
 use Rattle.laws_whole.specs.SumLaws.{sum-one}

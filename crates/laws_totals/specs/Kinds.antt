@@ -10,7 +10,7 @@ use lib.IntN.{ℤ, pos, negℤ, _+ℤ_, _-ℤ_, _*ℤ_, zero-*ℤ}
 use Rattle.lists.specs.Four.{at, four, at-four}
 use Rattle.model.specs.Header.{ones}
 use Rattle.model_textbook.specs.Sum.{addZ}
-use Rattle.model_textbook.specs.Box.{box, boxZ, upTo, indexPlus, indexMinus, degree}
+use Rattle.model_textbook.specs.Box.{box, boxZ, indexPlus, indexMinus, degree}
 use Rattle.model_textbook.specs.Textbook.{Series, sumOfAll, plus, less, times, one, power}
 use Rattle.laws_whole.specs.IndexLaws.{in-box-length, in-box-at, minus-length, add-minus}
 use Rattle.laws_whole.specs.SumSizes.{negation}

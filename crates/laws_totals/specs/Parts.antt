@@ -1,15 +1,14 @@
 -- REFERENCE 9.8: what is shown and what lies past the limits add up to the total; and the difference that `limits`
 -- prints is exact.
 use Prim.Native.Nat.{ℕ, _+_, _^_, _≤_, _<_}
-use mathlib.Core.Bool.{true, false, cond}
+use mathlib.Core.Bool.{cond}
 use mathlib.Core.List.{List}
-use mathlib.Core.Path.{_≡_, refl, sym, ap, ap₂, _∙_, subst}
+use mathlib.Core.Path.{_≡_, sym, ap, _∙_, subst}
 use lib.IntN.{ℤ, pos, natAbs, negℤ, _+ℤ_, _-ℤ_, +ℤ-idl, +ℤ-idr, +ℤ-comm}
 use lib.Ieee.{Float, sub, binary64}
 use Rattle.lists.specs.Test.{decide}
 use Rattle.model.specs.Places.{inside}
 use Rattle.model_textbook.specs.Sum.{addZ}
-use Rattle.model_textbook.specs.Box.{boxZ}
 use Rattle.model_textbook.specs.Textbook.{Series, truncated, sumOfAll}
 use Rattle.laws_whole.specs.BoxLaws.{box-same, box-plus}
 use Rattle.laws_whole.specs.Int.{neg-+ℤ-cancel}

@@ -1,16 +1,14 @@
 -- `numberPower` on a whole number is its power, where that is 2 ^ 53 at most in size: then no number on the way is
 -- larger.
 use Prim.Native.Nat.{ℕ, zero, suc, _+_, _*_, _/_, _%_, _^_, _≤_, _<_}
-use mathlib.Core.Bool.{true, false, cond}
 use mathlib.Core.Path.{_≡_, refl, sym, ap, _∙_}
 use native.Mathlib.Omega.{arith}
-use native.Mathlib.Nat.{mul-one, one-mul, zero-mul, mul-zero, mul-assoc, mul-comm, mul-le-mul-right, mul-le-mul-left, le-trans, le-of-eq}
+use native.Mathlib.Nat.{mul-one, one-mul, zero-mul, mul-zero, mul-le-mul-right, mul-le-mul-left, le-trans, le-of-eq}
 use lib.Dec.{leb, eqb}
 use lib.IntN.{ℤ, pos, natAbs, _*ℤ_, *ℤ-comm}
 use lib.Ieee.{Float, mul, binary64}
 use borrow.Author.Tests.{leb-true, leb-false, eqb-true, eqb-false}
 use Rattle.lists.specs.Test.{decide}
-use Rattle.model.specs.Readings.{oneF}
 use Rattle.model_forecast.specs.Totals.{squaredNumber, numberPower}
 use Rattle.laws_whole.specs.Int.{abs-mul, *ℤ-assoc, *ℤ-unit}
 use Rattle.laws_whole.specs.Whole.{Whole, whole-unit}

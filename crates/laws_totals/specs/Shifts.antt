@@ -4,7 +4,6 @@ use mathlib.Core.Bool.{cond}
 use mathlib.Core.List.{List, [], _∷_}
 use mathlib.Core.Path.{_≡_, refl, sym, ap, ap₂, _∙_, subst}
 use native.Mathlib.Omega.{arith}
-use native.Mathlib.Nat.{suc-inj}
 use lib.Dec.{eqb}
 use lib.ListN.{length, set}
 use lib.IntN.{ℤ, pos, _+ℤ_}

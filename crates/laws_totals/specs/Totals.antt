@@ -2,8 +2,8 @@
 -- at each place that no step of another kind stands in the way of, the number found from the inputs' sums is the sum
 -- over all indices of the exact value with no limits anywhere. Asked is that the sizes of each input's coefficients sum
 -- to 2 ^ 53 at most, and that the total of each such place is 2 ^ 53 at most in size.
-use Prim.Native.Nat.{ℕ, zero, suc, _+_, _-_, _^_, _≤_, _<_, min, max}
-use mathlib.Core.Bool.{Bool, true, false, cond, false≢true}
+use Prim.Native.Nat.{ℕ, zero, suc, _+_, _-_, _^_, _≤_, _<_, min}
+use mathlib.Core.Bool.{true, cond}
 use mathlib.Core.List.{List, [], _∷_}
 use mathlib.Core.Path.{_≡_, refl, sym, ap, _∙_, subst}
 use native.Mathlib.Omega.{arith}
@@ -13,12 +13,12 @@ use lib.Seq.{length-take-le, getD-take}
 use lib.IntN.{ℤ, pos, natAbs}
 use lib.Ieee.{Float, nan, neg, add, sub, mul, binary64}
 use borrow.Author.Tests.{eqb-true, ltb-true, ltb-false}
-use Rattle.lists.specs.Chain.{chain, length-chain}
+use Rattle.lists.specs.Chain.{length-chain}
 use Rattle.lists.specs.Four.{at}
 use Rattle.lists.specs.Table.{table, length-table, table-at}
 use Rattle.lists.specs.Test.{decide}
 use Rattle.model.specs.declared.Header.{Header}
-use Rattle.model.specs.Header.{limit, len, stored, ones}
+use Rattle.model.specs.Header.{limit, len, stored}
 use Rattle.model.specs.Readings.{sumTo}
 use Rattle.model.specs.Constructed.{wholeF}
 use Rattle.model.specs.Word.{headerOf}
@@ -40,7 +40,7 @@ use Rattle.laws_whole.specs.Exact.{whole-neg, whole-add, whole-sub, whole-mul}
 use Rattle.laws_full.specs.Unlimited.{Value, noValue, valueAt, results, resultOf, stepResult, inputValue, unlimited}
 use Rattle.laws_full.specs.Unlimited.{sumLengths, productLengths, powerLengths, shiftLengths}
 use Rattle.laws_full.specs.Described.{Bounded}
-use Rattle.laws_full.specs.Bounds.{Bounds, bounds-stored, bounds-constant, bounds-negative, bounds-plus, bounds-less, bounds-times}
+use Rattle.laws_full.specs.Bounds.{bounds-stored, bounds-constant, bounds-negative, bounds-plus, bounds-less, bounds-times}
 use Rattle.laws_full.specs.Bounds.{bounds-power, bounds-none, bounds-shifted}
 use Rattle.laws_full.specs.Accepted.{accepted-ordered, accepted-few}
 use Rattle.laws_full.specs.Lacking.{good}
@@ -48,7 +48,7 @@ use Rattle.laws_full.specs.Places.{chain-first, chain-step}
 use Rattle.laws_full.specs.Setting.{size, word, step, head}
 use Rattle.laws_full.specs.Chained.{head-input, unlimited-input, unlimited-step}
 use Rattle.laws_totals.specs.Boxes.{listed}
-use Rattle.laws_totals.specs.Kinds.{powerZ, constant-total, negative-total, plus-total, less-total, times-total, none-total, power-total}
+use Rattle.laws_totals.specs.Kinds.{constant-total, negative-total, plus-total, less-total, times-total, none-total, power-total}
 use Rattle.laws_totals.specs.Shifts.{shifted-total}
 use Rattle.laws_totals.specs.Powers.{power-whole}
 

@@ -2,14 +2,14 @@
 -- longer is refused while it is read.
 use Prim.Native.Nat.{ℕ, _<_}
 use mathlib.Core.List.{List}
-use mathlib.Core.Path.{_≡_, refl, sym, ap, _∙_}
+use mathlib.Core.Path.{_≡_, sym, ap, _∙_}
 use native.Mathlib.Omega.{arith}
 use lib.Dec.{leb}
 use lib.ListN.{length, take, length-take}
 use lib.Seq.{take-all}
 use borrow.Author.Tests.{leb-true, leb-false}
 use Rattle.lists.specs.Test.{decide}
-use Rattle.model_texts.specs.Sheet.{readRefusal, sheetRefusal}
+use Rattle.model_texts.specs.Sheet.{readRefusal}
 use Rattle.model_forecast.specs.Told.{toldText}
 use Rattle.sheet.specs.Front.{readAtMost}
 use Rattle.report_refused.specs.Front.{fault-front}

@@ -2,10 +2,10 @@
 use Prim.Native.Nat.{ℕ, _+_, _-_, _≤_, _<_}
 use mathlib.Core.Bool.{cond}
 use mathlib.Core.List.{List, _++_, map}
-use mathlib.Core.Path.{_≡_, refl, sym, ap, _∙_}
+use mathlib.Core.Path.{_≡_, refl, ap, _∙_}
 use native.Mathlib.Omega.{arith}
 use lib.Dec.{ltb}
-use lib.ListN.{length, take, length-map, length-take}
+use lib.ListN.{length, take, length-map}
 use lib.Seq.{length-take-le}
 use Rattle.lists.specs.Chain.{chain, chain-take}
 use Rattle.lists.specs.Grow.{over, length-over, take-over}
@@ -15,7 +15,7 @@ use Rattle.model.specs.declared.Header.{Header}
 use Rattle.model.specs.declared.Refusal.{Refusal}
 use Rattle.model.specs.Word.{headerOf}
 use Rattle.model_recipes.specs.Recipe.{announcedStep, inputHeads, announcedPlaces, total}
-use Rattle.model_texts.specs.Sheet.{inputCount, stepCount, sheetHeaders, sheetSteps, coefficientCount}
+use Rattle.model_texts.specs.Sheet.{inputCount, stepCount, sheetSteps, coefficientCount}
 use Rattle.model_texts.specs.Trace.{stepWord}
 use Rattle.model_faults.specs.Own.{whereText, lineOf, ownFault}
 use Rattle.model_faults.specs.Fault.{stepCause, placeFault, recipeFault}

@@ -1,6 +1,6 @@
 -- Whatever the sheet, what is said where it is refused keeps to 80 columns and is short.
 use Prim.Native.Nat.{ℕ, _+_, _-_, _*_, _≤_, _<_}
-use mathlib.Core.Bool.{Bool, true, false, _||_, cond}
+use mathlib.Core.Bool.{true, _||_}
 use mathlib.Core.List.{List, [], _∷_, _++_}
 use mathlib.Core.Path.{_≡_, refl, sym, ap, _∙_}
 use native.Mathlib.Omega.{arith}
@@ -10,7 +10,6 @@ use borrow.Author.Tests.{leb-true, ltb-true, ltb-false, eqb-true, eqb-false, ne-
 use Rattle.lists.specs.Bytes.{bytes}
 use Rattle.lists.specs.Chain.{length-chain}
 use Rattle.lists.specs.Test.{decide, and-left}
-use Rattle.model.specs.declared.Header.{Header}
 use Rattle.model.specs.declared.Refusal.{Refusal}
 use Rattle.model.specs.Refusals.{isNone}
 use Rattle.model.specs.Word.{headerOf}
@@ -24,7 +23,7 @@ use Rattle.model_faults.specs.Saying.{firstNot}
 use Rattle.model_faults.specs.Broken.{isCapital, isBlank, isShown, byteText, noDigitText, noNewlineText, shortText, byteFault, askedText, endedText}
 use Rattle.model_faults.specs.Broken.{headLines, leastLines, allLines, digitsOn, lineCause, lineFault, restFault, brokenText}
 use Rattle.model_faults.specs.WordOne.{sizesFault}
-use Rattle.model_faults.specs.Own.{whereText, lineOf}
+use Rattle.model_faults.specs.Own.{lineOf}
 use Rattle.model_faults.specs.Fault.{readFault, placeFault, recipeFault, faultText, faultReport}
 use Rattle.gates.specs.Small.{Small}
 use Rattle.recipes_check.specs.Judged.{chain-known}
@@ -41,7 +40,7 @@ use Rattle.report_broken.specs.Headers.{lines-most}
 use Rattle.report_broken.specs.Wrong.{digits-most, broken-open}
 use Rattle.report_refused.specs.Fits.{Fits, fits-up, fits-none, fits-text, fits-then, fits-either, fits-say}
 use Rattle.report_refused.specs.Sentences.{three, five, where-piece, step-fits, sizes-fits, own-fits}
-use Rattle.report_refused.specs.Said.{read-is, said-read, said-recipe}
+use Rattle.report_refused.specs.Said.{read-is}
 use Rattle.report_refused.specs.Small.{refusal-small}
 
 -- ---- a byte that is wrong, behind c right ones

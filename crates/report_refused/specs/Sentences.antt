@@ -1,6 +1,6 @@
 -- How wide the sentences of steps, word one and the program's own limits are, and how long.
 use Prim.Native.Nat.{ℕ, _+_, _≤_, _<_}
-use mathlib.Core.Bool.{Bool, true, false, cond}
+use mathlib.Core.Bool.{Bool}
 use mathlib.Core.List.{List, [], _++_}
 use mathlib.Core.Path.{_≡_, refl}
 use native.Mathlib.Omega.{arith}
@@ -24,7 +24,7 @@ use Rattle.shape_words.specs.Lengths.{lengths-of, count-most}
 use Rattle.shape_words.specs.Rules.{Regular, ruled-at}
 use Rattle.recipes_kinds.specs.Known.{Known, step-regular, small-kind, small-variable}
 use Rattle.report_trace.specs.Small.{a-small, b-small}
-use Rattle.report_lines.specs.Columns.{inColumns, Piece, piece, piece-up, piece-then, piece-either, number-piece, small-piece, one-digit, two-digits}
+use Rattle.report_lines.specs.Columns.{inColumns, Piece, piece, piece-then, piece-either, number-piece, small-piece, one-digit, two-digits}
 use Rattle.report_refused.specs.Fits.{Fits, fits-up, fits-none, fits-text, fits-then, fits-either, fits-unless, fits-say, fits-two}
 
 -- numbers of three, five and eight digits

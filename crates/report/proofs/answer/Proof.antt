@@ -1,7 +1,6 @@
 use native.Mathlib.Omega.{arith}
 use mathlib.Core.List.{[]}
 use mathlib.Core.Path.{sym, ap, _∙_}
-use lib.ListN.{length-take, length-drop}
 use lib.Seq.{length-take-le}
 use Rattle.model.specs.declared.Refusal.{Refusal}
 use Rattle.report_lines.specs.Puts.{printed-none}

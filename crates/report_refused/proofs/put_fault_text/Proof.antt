@@ -7,58 +7,61 @@ use Rattle.report_refused.specs.Said.{read-is, said-read, said-recipe}
 use borrow.Author.Needs.{needs}
 use Rattle.report_refused.proofs.put_fault_text.Statement.{statement}
 use Rattle.report_refused.proofs.put_fault_text.Tie as tie
-use Rattle.report_refused.proofs.put_fault_text.Reads as reads
-use Rattle.report_refused.proofs.put_fault_text.Lts as lts
-use Rattle.report_refused.proofs.read.put_read_fault.Reads as put-read-fault-reads
-use Rattle.report_refused.proofs.step.put_recipe_fault.Reads as put-recipe-fault-reads
-use Rattle.sheet_reading.proofs.input_count.Reads as input-count-reads
-use Rattle.sheet_reading.proofs.read.Reads as read-reads
-
-slice-aggregate-read : tie.Need-slice-aggregate-read
-slice-aggregate-read c = search needs
-
-read-requires : tie.Need-read-requires
-read-requires c κs = search needs
 
 put-read-fault-requires : tie.Need-put-read-fault-requires
-put-read-fault-requires c κs = (c .before .before .before .before .before .before .before .before) .pre .0 ∙ read-is _ (λ z. c .before .if1 .taken (ap (λ (x : Refusal). x .number) (c .before .before .before .before .read .ensures .answer) ∙ z))
-
-same-length : tie.Need-same-length
-same-length c = search needs
+put-read-fault-requires c κs =
+    (c .before .before .before .before .before .before .before .before) .pre .0 ∙ read-is _ (λ z. c .before .if1 .taken (ap (λ (x : Refusal). x
+    .number) (c .before .before .before .before .read .ensures .answer) ∙ z))
 
 returns : tie.Need-returns
-returns c = rw (said-read _ ((c .before .before .before .before .before .before .before .before .before .before .before) .pre .0) ((c .before .before .before .before .before .before .before .before .before .before .before) .pre .1) (λ z. c .before .before .before .before .if1 .taken (ap (λ (x : Refusal). x .number) (c .before .before .before .before .before .before .before .read .ensures .answer) ∙ z))) (c .before .before .put-read-fault .ensures)
-
-input-count-requires : tie.Need-input-count-requires
-input-count-requires c κs = search needs
+returns c =
+    let c11 = c .before .before .before .before .before .before .before .before .before .before .before in
+    rw (said-read _ (c11 .pre .0) (c11 .pre .1) (λ z. c .before .before .before .before .if1 .taken (ap (λ (x : Refusal). x .number) (c .before
+    .before .before .before .before .before .before .read .ensures .answer) ∙ z))) (c .before .before .put-read-fault .ensures)
 
 array-share-prefix-headers : tie.Need-array-share-prefix-headers
-array-share-prefix-headers c = omega (arith, read-few (c .before .before .before .before .read .ensures) (c .before .if1 .left) (c .input-count .ensures), c .before .before .before .before .read .ensures .len)
+array-share-prefix-headers c =
+    let c4 = c .before .before .before .before in
+    omega (arith, read-few (c4 .read .ensures) (c .before .if1 .left) (c .input-count .ensures), c4 .read .ensures .len)
 
 slice-aggregate-put-recipe-fault : tie.Need-slice-aggregate-put-recipe-fault
-slice-aggregate-put-recipe-fault c = sym (length-take-le _ _ (omega (arith, read-few (c .before .before .before .before .before .read .ensures) (c .before .before .if1 .left) (c .before .input-count .ensures), c .before .before .before .before .before .read .ensures .len)))
+slice-aggregate-put-recipe-fault c =
+    let c5 = c .before .before .before .before .before in
+    sym (length-take-le _ _ (omega (
+      arith,
+      read-few (c5 .read .ensures) (c .before .before .if1 .left) (c .before .input-count .ensures),
+      c5 .read
+          .ensures .len,
+    )))
 
 put-recipe-fault-requires : tie.Need-put-recipe-fault-requires
-put-recipe-fault-requires c κs = (read-opening (c .before .before .before .before .before .before .read .ensures) (c .before .before .before .if1 .left) (c .before .before .input-count .ensures), read-placed (c .before .before .before .before .before .before .read .ensures) (c .before .before .before .if1 .left) (c .before .before .input-count .ensures) ((c .before .before .before .before .before .before .before .before .before .before) .pre .0))
-
-same-length-2 : tie.Need-same-length-2
-same-length-2 c = search needs
+put-recipe-fault-requires c κs =
+    let c3 = c .before .before .before in
+    let c6 = c3 .before .before .before in (
+      read-opening (c6 .read .ensures) (c3 .if1 .left) (c .before .before .input-count .ensures),
+      read-placed (c6 .read .ensures) (c3 .if1 .left)
+          (c .before .before .input-count .ensures) ((c .before .before .before .before .before .before .before .before .before .before) .pre .0),
+    )
 
 returns-2 : tie.Need-returns-2
-returns-2 c = rw (said-recipe _ ((c .before .before .before .before .before .before .before .before .before .before .before .before .before) .pre .0) ((c .before .before .before .before .before .before .before .before .before .before .before .before .before) .pre .1) (read-none (c .before .before .before .before .before .before .before .before .before .read .ensures) (c .before .before .before .before .before .before .if1 .left) (c .before .before .before .before .before .input-count .ensures))) (c .before .before .put-recipe-fault .ensures)
+returns-2 c =
+    let c13 = c .before .before .before .before .before .before .before .before .before .before .before .before .before in
+    rw (said-recipe _ (c13 .pre .0) (c13 .pre .1) (read-none (c .before .before .before .before .before .before .before .before .before .read
+    .ensures) (c .before .before .before .before .before .before .if1 .left) (c .before .before .before .before .before .input-count .ensures)))
+    (c .before .before .put-recipe-fault .ensures)
 
 pub put-fault-text-spec : {M : Type 1} → statement M
 put-fault-text-spec =
     tie.close
     (tie.spec
-    slice-aggregate-read
-    read-requires
+    (λ c. search needs)
+    (λ c κs. search needs)
     put-read-fault-requires
-    same-length
+    (λ c. search needs)
     returns
-    input-count-requires
+    (λ c κs. search needs)
     array-share-prefix-headers
     slice-aggregate-put-recipe-fault
     put-recipe-fault-requires
-    same-length-2
+    (λ c. search needs)
     returns-2)

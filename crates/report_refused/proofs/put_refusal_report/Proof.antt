@@ -3,10 +3,6 @@ use Rattle.report_lines.specs.Puts.{puts-then}
 use borrow.Author.Needs.{needs}
 use Rattle.report_refused.proofs.put_refusal_report.Statement.{statement}
 use Rattle.report_refused.proofs.put_refusal_report.Tie as tie
-use Rattle.report_refused.proofs.put_refusal_report.Reads as reads
-use Rattle.report_refused.proofs.put_refusal_report.Lts as lts
-use Rattle.report_refused.proofs.put_fault_text.Reads as put-fault-text-reads
-use Rattle.report_refused.proofs.put_refused.Reads as put-refused-reads
 
 put-refused-requires : tie.Need-put-refused-requires
 put-refused-requires c κs = search needs
@@ -19,7 +15,9 @@ same-length c = search needs
 
 returns : tie.Need-returns
 unfolding faultReport
-returns c = rw (← ((c .before .before .before .before .before .before .before .before .before .before) .pre .0)) (puts-then (c .before .before .before .before .before .before .put-refused .ensures) (c .before .before .put-fault-text .ensures))
+returns c =
+    rw (← ((c .before .before .before .before .before .before .before .before .before .before) .pre .0)) (puts-then (c .before .before .before
+    .before .before .before .put-refused .ensures) (c .before .before .put-fault-text .ensures))
 
 pub put-refusal-report-spec : {M : Type 1} → statement M
 put-refusal-report-spec =
