@@ -10,6 +10,7 @@ how many sheets there were and the first difference, if any. tests/limits starts
 import random, struct, subprocess, sys
 
 from decimals import printed
+from refused import damaged, sentence
 
 NAMES = ["constant", "negate", "add", "subtract", "multiply", "divide", "power", "derivative", "taylor_expansion_of_coeff", "shift_down", "subst_var"]
 USES = ["n", "a", "ab", "ab", "ab", "ab", "an", "avn", "avn", "avn", "abv"]
@@ -17,24 +18,6 @@ HEAD = (
     "Each place: what it is, its number of variables, and of each variable the\n"
     "limit/most it stores. Operands are places, v is a variable, n a number.\n"
 )
-OF_CAUSE = {
-    1: "its number of variables is above 4;\nwrite the word anew.\n",
-    2: "the length of variable %d is above its limit;\nlower the length or raise the limit.\n",
-    3: "variable %d is missing, but its fields are not zero;\nclear them, or count it among the variables.\n",
-    4: "its last 13 bits are not zero;\nclear them.\n",
-    5: "its lengths multiply to more than 4,096;\nlower them.\n",
-}
-OF_PLACE = {
-    3: "its variable is not its operand's; name one that the operand has.\n",
-    4: "its n is not below the operand's limit; take a smaller n.\n",
-    5: "it would hold more than 4,096 coefficients; lower limits or lengths.\n",
-    7: "its step has a wrong kind, operand or unused field; write it anew.\n",
-}
-OF_SHEET = {
-    5: "The sheet is too large: at most 256 coefficients a place, 2,048 in all inputs\nand 2,048 in all steps; lower limits or lengths.\n",
-    7: "Word one is wrong: 0 to 16 inputs, 1 or more steps, 64 places at most, zeros.\n",
-    8: "The sheet is not its words exactly: write each as 16 lower-case hex digits and\na newline, none missing and nothing after them.\n",
-}
 
 
 def unpack(w):
@@ -361,10 +344,7 @@ def floating(digits):
 def told(text, said, given=None):
     """What `limits` prints for a sheet, said what `recipe` printed for it; given: a total that its arguments give."""
     if said.startswith("refused"):
-        n, place, variable, cause = map(int, said.split()[1:])
-        if n == 1:
-            return said + "Input %d: %s" % (place, OF_CAUSE[cause].replace("%d", str(variable)))
-        return said + ("Place %d: %s" % (place, OF_PLACE[n]) if place < 64 else OF_SHEET[n])
+        return said + sentence(text.encode("latin-1"), *map(int, said.split()[1:]), announce)
     words = [int(l, 16) for l in text.split()]
     inputs, count = words[0] >> 56, words[0] >> 48 & 255
     known, steps = [unpack(w) for w in words[1 : 1 + inputs]], words[-count:]
@@ -425,8 +405,9 @@ def sheet(rng):
     if rng.random() < 0.03:
         steps[rng.randrange(count)] |= rng.choice([1, 1 << 63, 1 << 50])
     words = [inputs << 56 | count << 48] + lines + [struct.unpack(">Q", struct.pack(">d", x))[0] for x in coefficients] + steps
-    text = "".join("%016x\n" % w for w in words)
-    return text[:-1] if rng.random() < 0.02 else text
+    if rng.random() < 0.3:
+        return damaged(rng, words, pack).decode("latin-1")
+    return "".join("%016x\n" % w for w in words)
 
 
 def main():
@@ -437,7 +418,7 @@ def main():
         return 2
     rng, count = random.Random(int(given[0])), int(given[1])
     limits, recipe = given[2:between], given[between + 1 :]
-    run = lambda program, text: subprocess.run(program, input=text.encode(), stdout=subprocess.PIPE).stdout.decode()
+    run = lambda program, text: subprocess.run(program, input=text.encode("latin-1"), stdout=subprocess.PIPE).stdout.decode()
     kinds = {"refused": 0, "WHOLE": 0, "CUT": 0}
     for i in range(count):
         text = sheet(rng)

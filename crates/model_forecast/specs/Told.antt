@@ -12,9 +12,9 @@ use Rattle.model.specs.Refusals.{isNone}
 use Rattle.model_recipes.specs.Recipe.{announcedPlaces}
 use Rattle.model_texts.specs.Full.{fulls}
 use Rattle.model_texts.specs.Report.{joined, placeText, cutsText, endText, verdictText}
-use Rattle.model_texts.specs.Sentence.{refusalReport}
 use Rattle.model_texts.specs.Sheet.{sheetHeaders, sheetCoefficients, sheetSteps, sheetRefusal, lastValue}
 use Rattle.model_figures.specs.Inputs.{inputsText}
+use Rattle.model_faults.specs.Fault.{faultReport}
 use Rattle.model_forecast.specs.declared.Asked.{Asked}
 use Rattle.model_forecast.specs.Reckoned.{reckonedText}
 
@@ -52,4 +52,4 @@ module _ (t : List ℕ) where
   toldText asked =
       cond (isNone (sheetRefusal t))
       (forecastText sheetKnown (sheetHeaders t) (sheetCoefficients t) (sheetSteps t) (wordOf (lastValue t .head)) (lastValue t .coeffs) asked)
-      (refusalReport (sheetRefusal t))
+      (faultReport t)

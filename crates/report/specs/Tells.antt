@@ -1,22 +1,21 @@
 -- What is printed, by how a sheet ends; and that every limit is printed before any figure.
-use Prim.Native.Nat.{ℕ, zero, suc, _+_, _-_, _≤_, _<_}
-use mathlib.Core.List.{List, [], _∷_, _++_, map}
+use Prim.Native.Nat.{ℕ, _+_, _-_, _≤_, _<_}
+use mathlib.Core.List.{List, _++_, map}
 use mathlib.Core.Path.{_≡_, refl, sym, ap, _∙_}
 use native.Mathlib.Omega.{arith}
 use lib.Ieee.{Float, ofBits, binary64}
-use lib.ListN.{length, getD, take, drop}
+use lib.ListN.{length, take, drop}
 use borrow.Author.Tests.{eq-eqb, ne-eqb}
-use Rattle.lists.specs.Bytes.{bytes}
 use Rattle.lists.specs.Table.{table}
 use Rattle.model.specs.declared.Refusal.{Refusal}
 use Rattle.model.specs.Word.{headerOf, wordOf}
 use Rattle.model_texts.specs.Full.{fulls}
 use Rattle.model_texts.specs.Report.{placeText, cutsText, endText, verdictText}
-use Rattle.model_texts.specs.Sentence.{placeMeanings, sheetMeanings, refusalReport}
 use Rattle.model_recipes.specs.Recipe.{inputHeads, total}
 use Rattle.model_recipes.specs.Check.{checkRefusal}
 use Rattle.model_texts.specs.Sheet.{wordOn, sheetHeaders, coefficientCount, sheetCoefficients, sheetSteps}
 use Rattle.model_texts.specs.Sheet.{readRefusal, ownRefusal, recipeRefusal, sheetRefusal, lastValue}
+use Rattle.model_faults.specs.Fault.{faultReport}
 use Rattle.model_figures.specs.Inputs.{inputsText}
 use Rattle.model_forecast.specs.declared.Asked.{Asked}
 use Rattle.model_forecast.specs.Reckoned.{reckonedText}
@@ -34,9 +33,9 @@ use Rattle.report_totals.specs.Forecast.{Forecast}
 use Rattle.report.specs.Before.{place-told, cuts-told, end-told}
 
 module _ (t : List ℕ) where
-  pub told-refused : (asked : Asked) {q : Refusal} → sheetRefusal t ≡ q → (q .number ≡ 0 → ⊥) → toldText t asked ≡ refusalReport q
+  pub told-refused : (asked : Asked) → (sheetRefusal t .number ≡ 0 → ⊥) → toldText t asked ≡ faultReport t
   unfolding toldText
-  told-refused asked {q} e z = rw (e, ne-eqb (q .number) 0 z)
+  told-refused asked z = rw (ne-eqb (sheetRefusal t .number) 0 z)
 
   pub told-done : (asked : Asked) → sheetRefusal t .number ≡ 0
       → toldText t asked
@@ -148,29 +147,3 @@ module _ {t headers steps known : List ℕ} {pool : List Float} {s : Solved} (d 
     told-solved asked =
         let f : s .from + s .count - s .from ≡ s .count = omega arith in
         told-done t asked z ∙ rw (coefficients-are, f, d .places, d .step-words, d .header-words, d .last .header, d .last .coefficients) refl
-
--- no other number means anything of a place, or of a sheet
-pub no-place-meaning : (n : ℕ) → (n ≡ 3 → ⊥) → (n ≡ 4 → ⊥) → (n ≡ 5 → ⊥) → (n ≡ 7 → ⊥) → [] ≡ bytes (getD placeMeanings n "")
-unfolding placeMeanings bytes
-no-place-meaning zero a b c d = refl
-no-place-meaning (suc zero) a b c d = refl
-no-place-meaning (suc (suc zero)) a b c d = refl
-no-place-meaning (suc (suc (suc zero))) a b c d = absurd (a refl)
-no-place-meaning (suc (suc (suc (suc zero)))) a b c d = absurd (b refl)
-no-place-meaning (suc (suc (suc (suc (suc zero))))) a b c d = absurd (c refl)
-no-place-meaning (suc (suc (suc (suc (suc (suc zero)))))) a b c d = refl
-no-place-meaning (suc (suc (suc (suc (suc (suc (suc zero))))))) a b c d = absurd (d refl)
-no-place-meaning (suc (suc (suc (suc (suc (suc (suc (suc n)))))))) a b c d = refl
-
-pub no-sheet-meaning : (n : ℕ) → (n ≡ 5 → ⊥) → (n ≡ 7 → ⊥) → (n ≡ 8 → ⊥) → [] ≡ bytes (getD sheetMeanings n "")
-unfolding sheetMeanings bytes
-no-sheet-meaning zero a b c = refl
-no-sheet-meaning (suc zero) a b c = refl
-no-sheet-meaning (suc (suc zero)) a b c = refl
-no-sheet-meaning (suc (suc (suc zero))) a b c = refl
-no-sheet-meaning (suc (suc (suc (suc zero)))) a b c = refl
-no-sheet-meaning (suc (suc (suc (suc (suc zero))))) a b c = absurd (a refl)
-no-sheet-meaning (suc (suc (suc (suc (suc (suc zero)))))) a b c = refl
-no-sheet-meaning (suc (suc (suc (suc (suc (suc (suc zero))))))) a b c = absurd (b refl)
-no-sheet-meaning (suc (suc (suc (suc (suc (suc (suc (suc zero)))))))) a b c = absurd (c refl)
-no-sheet-meaning (suc (suc (suc (suc (suc (suc (suc (suc (suc n))))))))) a b c = refl

@@ -1,13 +1,12 @@
 // The answer of a sheet in plain text, for people: every limit before any figure, or why the sheet is refused.
 mod limits;
-mod refusal;
 
 use limits::put_limit_lines;
 use model_forecast::Asked;
 use recipes_check::total_of;
-use refusal::put_refusal_report;
 use report_inputs::put_inputs;
 use report_lines::ends::put_verdict;
+use report_refused::put_refusal_report;
 use report_totals::put_reckoned;
 use report_trace::full::fulls;
 use sheet_reading::fill_floats;
@@ -112,7 +111,7 @@ pub fn answer(text: &[u8], asked: Asked, output: &mut [u8]) -> usize
     let solved = solve(text, &mut headers, &mut steps, &mut known, &mut pool);
     let refusal = solved.refusal;
     if refusal.number != 0 {
-        return put_refusal_report(refusal, 0, output);
+        return put_refusal_report(text, refusal, 0, output);
     }
     let inputs = solved.inputs;
     let count = solved.steps;
