@@ -5,15 +5,14 @@ use Prim.Native.Nat.{ℕ, _+_, _-_}
 use mathlib.Core.Bool.{cond}
 use mathlib.Core.List.{List, [], _++_}
 use lib.Dec.{ltb, eqb}
-use lib.ListN.{take}
 use Rattle.model.specs.declared.Header.{Header}
 use Rattle.model.specs.declared.Refusal.{Refusal}
 use Rattle.model.specs.Refusals.{isNone}
-use Rattle.model_recipes.specs.Recipe.{announcedPlaces}
+use Rattle.model_recipes.specs.Recipe.{upTo, announcedPlaces}
 use Rattle.model_texts.specs.Cause.{causeText}
 use Rattle.model_texts.specs.Printed.{refusedText}
 use Rattle.model_texts.specs.Trace.{stepWord}
-use Rattle.model_texts.specs.Sheet.{inputCount, coefficientCount, sheetHeaders, sheetSteps, readRefusal, sheetRefusal}
+use Rattle.model_texts.specs.Sheet.{inputCount, coefficientCount, sheetSteps, sheetRecipe, readRefusal, sheetRefusal}
 use Rattle.model_faults.specs.Broken.{brokenText}
 use Rattle.model_faults.specs.WordOne.{sizesFault}
 use Rattle.model_faults.specs.StepWord.{formedCause}
@@ -41,8 +40,7 @@ module _ (t : List ℕ) where
   unfoldable pub placeFault : ℕ → ℕ → List ℕ
   placeFault p n =
       let k = inputCount t in
-      let ss = sheetSteps t in
-      whereText (lineOf k (coefficientCount t) p) k p ++ stepCause n (stepWord ss k p) p (announcedPlaces (sheetHeaders t) (take (p - k) ss))
+      whereText (lineOf k (coefficientCount t) p) k p ++ stepCause n (stepWord (sheetSteps t) k p) p (announcedPlaces (upTo (sheetRecipe t) (p - k)))
 
   -- at a step, or by the program's own limits
   unfoldable pub recipeFault : Refusal → List ℕ

@@ -1,6 +1,6 @@
 -- REFERENCE 6.4, 9. Refusals 3, 4 and 5 at a step, document 01: the variable is not below the number of variables of
 -- the operand a; n is not below its limit there; the announced count is above 4,096. The step w, known what the places
--- before it announce.
+-- before it announce. A power of zero is never refused by 5, so edition 0's count serves for every edition.
 use Prim.Native.Nat.{ℕ}
 use mathlib.Core.Bool.{cond}
 use mathlib.Core.List.{List, _++_}
@@ -26,4 +26,4 @@ limitCause w known =
     tell "n is " (s .n) ++ sayTwo ", not below " (limit (headAt known (s .a)) (s .variable)) ", the limit of variable " (s .variable) ".\n"
 
 unfoldable pub countCause : ℕ → List Header → List ℕ
-countCause w known = say "it takes " (stored (announcedStep w known)) " coefficients; 4096 are the most.\n"
+countCause w known = say "it takes " (stored (announcedStep 0 w known)) " coefficients; 4096 are the most.\n"

@@ -9,7 +9,7 @@ use native.Mathlib.Numerals.{add-one}
 use lib.Dec.{ltb, eqb}
 use lib.ListN.{length, getD, set, take, drop, length-append, length-drop, length-set, length-map, List·getD-append}
 use lib.Seq.{take-at, take-take, drop-at, drop-drop, length-take-le, getD-drop, getD-take, getD-set-same, getD-set-other, take-suc}
-use lib.Ieee.{Float}
+use lib.Ieee.{Float, ofInt, ofBits}
 use borrow.Author.Tests.{eqb-true, eqb-false}
 use Rattle.lists.specs.Test.{decide, and-left, and-right}
 use Rattle.lists.specs.Part.{Kept, drop-take}
@@ -21,6 +21,7 @@ use Rattle.model.specs.Word.{headerOf}
 use Rattle.model.specs.Refusals.{zeros, padded}
 use Rattle.model.specs.Constructed.{constant, wholeF}
 use Rattle.model.specs.Poly.{Poly, poly}
+use Rattle.model.specs.Readings.{oneF}
 use Rattle.model_recipes.specs.Kinds.{idle, oneLike}
 use Rattle.model_recipes.specs.Recipe.{families, familyOf, inputHeads, headAt, total}
 use Rattle.model_recipes.specs.Run.{inputValues, operations, noValue, valueAt}
@@ -39,6 +40,11 @@ valueIn e s a b = getD (operations e s a b) (s .kind) noValue
 pub plain-value : (e : ℕ) (s : Step) (a b : Poly) → idleStep e s ≡ false → valueOf s a b ≡ valueIn e s a b
 unfolding valueOf valueIn
 plain-value e s a b t = sym (same-value e s a b t)
+
+-- 1 is one
+pub one-float : wholeF 1 ≡ oneF
+unfolding ofInt ofBits
+one-float = refl
 
 pub one-value : (e : ℕ) (s : Step) (a b : Poly) → idleStep e s ≡ true → oneLike a ≡ valueIn e s a b
 unfolding valueIn

@@ -137,8 +137,9 @@ fn step_word(
     ensures spent { λ _. ⌜ length (now (scratch .exit)) ≡ length (now (scratch .entry)) ⌝ }
 {
     if (s.kind == Step::POWER) & is_idle(edition, s.n) {
+        let a = s.a;
         constant_to(1, pool, at, room);
-        return one_word(known[s.a]);
+        return one_word(known[a]);
     }
     plain_word(
         s,

@@ -5,15 +5,15 @@ ghost use Rattle.recipes_check.specs.Judging.{Ready};
 ghost use Rattle.report_causes.specs.Announced.{Announced};
 
 // Of the steps, behind those of the inputs, which stand at the front of `known`.
-pub fn announce_steps(steps: &[u64], inputs: usize, known: &mut [u64])
+pub fn announce_steps(edition: u64, steps: &[u64], inputs: usize, known: &mut [u64])
     requires { ⌜ Ready (now steps) inputs (now known) ⌝ }
-    ensures { λ r. ⌜ Announced (now (steps .entry)) inputs (now (known .entry)) (now (known .exit)) ⌝ }
+    ensures { λ r. ⌜ Announced edition (now (steps .entry)) inputs (now (known .entry)) (now (known .exit)) ⌝ }
 {
     let mut i = 0;
     while i < steps.len() {
         let word = steps[i];
         let at = inputs + i;
-        known[at] = pack(announce(word, &known[..at]));
+        known[at] = pack(announce(edition, word, &known[..at]));
         i += 1;
     }
 }

@@ -146,7 +146,7 @@ fn put_count_cause(word: u64, known: &[u64], at: usize, to: &mut [u8]) -> usize
     requires { ⌜ Known (map headerOf (now known)) ⌝ }
     ensures { λ r. ⌜ Puts (countCause word (map headerOf (now (known .entry)))) at (now (to .entry)) (now (to .exit)) r ⌝ }
 {
-    let count = stored_of(announce(word, known));
+    let count = stored_of(announce(0, word, known));
     say(
         b"it takes ",
         count,

@@ -12,7 +12,7 @@ use Rattle.lists.specs.Test.{decide}
 use Rattle.model.specs.declared.Refusal.{Refusal}
 use Rattle.model_texts.specs.Hex.{isDigit, byteAt, digitAt}
 use Rattle.model_texts.specs.Printed.{refusedText}
-use Rattle.model_texts.specs.Sheet.{lined, inputCount, stepCount, spare, coefficientCount, restCount, readRefusal, sheetRefusal}
+use Rattle.model_texts.specs.Sheet.{lined, inputCount, stepCount, sheetEdition, spare, coefficientCount, restCount, readRefusal, sheetRefusal}
 use Rattle.model_faults.specs.Saying.{firstNot}
 use Rattle.model_faults.specs.Broken.{byteFault, askedText, endedText}
 use Rattle.model_faults.specs.Broken.{headLines, leastLines, allLines, digitsOn, lineCause, lineFault, restFault, brokenText}
@@ -20,7 +20,7 @@ use Rattle.model_faults.specs.WordOne.{sizesFault}
 use Rattle.model_faults.specs.Fault.{readFault, faultText, faultReport}
 use Rattle.sheet_reading.specs.Reading.{count-small}
 use Rattle.sheet_solving.specs.Opened.{Opened}
-use Rattle.sheet.specs.Front.{readAtMost, byte-same, line-same, inputs-same, steps-same, spare-same, count-same, length-same, read-same}
+use Rattle.sheet.specs.Front.{readAtMost, byte-same, line-same, inputs-same, steps-same, edition-same, spare-same, count-same, length-same, read-same}
 use Rattle.report_say.specs.First.{first-same}
 use Rattle.report_broken.specs.Headers.{lines-most}
 use Rattle.report_broken.specs.Wrong.{digits-most, broken-open}
@@ -34,6 +34,7 @@ record Alike (t u : List ℕ) : Type 0 where
   ends : (m : ℕ) → m < readAtMost → leb (length u) m ≡ leb (length t) m
   inputs : inputCount u ≡ inputCount t
   steps : stepCount u ≡ stepCount t
+  edition : sheetEdition u ≡ sheetEdition t
   zeros : spare u ≡ spare t
   count : coefficientCount u ≡ coefficientCount t
   read : readRefusal u ≡ readRefusal t
@@ -46,6 +47,7 @@ front-alike t =
       ends = length-same t;
       inputs = inputs-same t;
       steps = steps-same t;
+      edition = edition-same t;
       zeros = spare-same t;
       count = count-same t;
       read = read-same t;
@@ -107,7 +109,7 @@ module _ {t u : List ℕ} (s : Alike t u) where
 
   sizes-same : sizesFault u ≡ sizesFault t
   unfolding sizesFault
-  sizes-same = rw (s .inputs, s .steps, s .zeros) refl
+  sizes-same = rw (s .edition, s .inputs, s .steps, s .zeros) refl
 
   read-said : readFault u (readRefusal t) ≡ readFault t (readRefusal t)
   unfolding readFault

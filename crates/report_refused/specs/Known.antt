@@ -14,8 +14,8 @@ use borrow.Author.Tests.{ltb-true}
 use Rattle.model.specs.declared.Header.{Header}
 use Rattle.model.specs.declared.Refusal.{Refusal}
 use Rattle.model.specs.Word.{headerOf}
-use Rattle.model_recipes.specs.Recipe.{announcedStep, inputHeads, announcedPlaces, total}
-use Rattle.model_texts.specs.Sheet.{inputCount, stepCount, sheetSteps, coefficientCount}
+use Rattle.model_recipes.specs.Recipe.{recipeOf, announcedStep, inputHeads, announcedPlaces, total}
+use Rattle.model_texts.specs.Sheet.{inputCount, stepCount, sheetSteps, sheetRecipe, coefficientCount}
 use Rattle.model_texts.specs.Trace.{stepWord}
 use Rattle.model_faults.specs.Own.{whereText, lineOf, ownFault}
 use Rattle.model_faults.specs.Fault.{stepCause, placeFault, recipeFault}
@@ -43,29 +43,30 @@ pub record Known (r : Refusal) (k c : ℕ) (ss ws : List ℕ) : Type 0 where
   pub regular : announced.Known (map headerOf ws)
 
 -- what is said is the sheet's
-module _ {t hs ss : List ℕ} (ws : List ℕ) (o : Opening t hs) (es : ss ≡ sheetSteps t) (ew : map headerOf ws ≡ announcedPlaces hs ss) where
+module _ {t hs ss : List ℕ} {ed : ℕ} (ws : List ℕ) (o : Opening t hs ed) (es : ss ≡ sheetSteps t)
+    (ew : map headerOf ws ≡ announcedPlaces (recipeOf ed hs ss)) where
   -- what the places before the place p announce
-  before : (p : ℕ) → length hs ≤ p → p < length hs + length ss → map headerOf (take p ws) ≡ announcedPlaces hs (take (p - length hs) ss)
+  before : (p : ℕ) → length hs ≤ p → p < length hs + length ss → map headerOf (take p ws) ≡ announcedPlaces (recipeOf ed hs (take (p - length hs) ss))
   unfolding announcedPlaces
   before p a b =
       let e : p ≡ length (inputHeads hs) + (p - length hs) = omega (arith, length-map hs headerOf) in
       front-heads ws p
       ∙ (ap (take p) ew
-      ∙ (ap (λ (q : ℕ). take q (chain announcedStep (inputHeads hs) ss)) e ∙ chain-take announcedStep (inputHeads hs) ss (p - length hs) (omega arith)))
+      ∙ (ap (λ (q : ℕ). take q (chain (announcedStep ed) (inputHeads hs) ss)) e ∙ chain-take (announcedStep ed) (inputHeads hs) ss (p - length hs) (omega arith)))
 
   pub known-is : {r : Refusal} {c : ℕ} → Placed (length hs) (length ss) r → c ≡ total (map headerOf hs) → knownFault r (length hs) c ss ws ≡ recipeFault t r
-  unfolding knownFault recipeFault placeFault
+  unfolding knownFault recipeFault placeFault sheetRecipe
   known-is {r} {c} q ec =
       let k : length hs ≡ inputCount t = ap length (o .headers) ∙ headers-many t in
       let n : c ≡ coefficientCount t = ec ∙ opening-count o in
       decide (ltb (r .place) 64)
       (λ b.
       let l : r .place < 64 = ltb-true (r .place) 64 b in
-      rw (b, before (r .place) (q .from l) (q .to l), n, ← es, ← o .headers, ← k) refl)
-      (λ b. rw (b, ew, ← es, ← o .headers, ← k) refl)
+      rw (b, before (r .place) (q .from l) (q .to l), n, ← es, ← o .headers, ← o .edition, ← k) refl)
+      (λ b. rw (b, ew, ← es, ← o .headers, ← o .edition, ← k) refl)
 
 -- the words of the inputs hs stand in front of `mid`
-module _ {t hs : List ℕ} (o : Opening t hs) (old : List ℕ) {mid : List ℕ} (m : 64 ≤ length old) (e : mid ≡ over hs old) where
+module _ {t hs : List ℕ} {ed : ℕ} (o : Opening t hs ed) (old : List ℕ) {mid : List ℕ} (m : 64 ≤ length old) (e : mid ≡ over hs old) where
   mid-heads : heads (length hs) mid ≡ inputHeads hs
   mid-heads = ap (map headerOf) (ap (take (length hs)) e ∙ take-over hs old (length hs) refl)
 
@@ -81,7 +82,7 @@ module _ {t hs : List ℕ} (o : Opening t hs) (old : List ℕ) {mid : List ℕ} 
       }
 
   -- and those of the steps ss are noted behind them
-  module _ {ss new : List ℕ} {end : ℕ} (es : ss ≡ sheetSteps t) (a : Announced ss (length hs) mid new) (ee : end ≡ length hs + stepCount t) where
+  module _ {ss new : List ℕ} {end : ℕ} (es : ss ≡ sheetSteps t) (a : Announced ed ss (length hs) mid new) (ee : end ≡ length hs + stepCount t) where
     many-steps : length ss ≡ stepCount t
     many-steps = ap length es ∙ steps-many t
 
@@ -91,9 +92,9 @@ module _ {t hs : List ℕ} (o : Opening t hs) (old : List ℕ) {mid : List ℕ} 
     pub new-room : end ≤ length new
     new-room = omega (arith, ee, opening-fit o, a .len, mid-len)
 
-    pub new-places : map headerOf (take end new) ≡ announcedPlaces hs ss
+    pub new-places : map headerOf (take end new) ≡ announcedPlaces (recipeOf ed hs ss)
     unfolding announcedPlaces
-    new-places = rw all-places (a .noted ∙ ap (λ (known : List Header). chain announcedStep known ss) mid-heads)
+    new-places = rw all-places (a .noted ∙ ap (λ (known : List Header). chain (announcedStep ed) known ss) mid-heads)
 
     pub new-known : {r : Refusal} {c : ℕ} → Placed (length hs) (stepCount t) r → c ≡ total (map headerOf hs) → Known r (length hs) c ss (take end new)
     new-known p ec =

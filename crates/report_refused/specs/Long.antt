@@ -13,11 +13,11 @@ use Rattle.lists.specs.Test.{decide, and-left}
 use Rattle.model.specs.declared.Refusal.{Refusal}
 use Rattle.model.specs.Refusals.{isNone}
 use Rattle.model.specs.Word.{headerOf}
-use Rattle.model_recipes.specs.Recipe.{announcedStep, inputHeads, announcedPlaces, total}
+use Rattle.model_recipes.specs.Recipe.{recipeOf, announcedStep, inputHeads, announcedPlaces, total}
 use Rattle.model_texts.specs.Cause.{causeText}
 use Rattle.model_texts.specs.Hex.{isDigit, byteAt}
 use Rattle.model_texts.specs.Printed.{refusedWord, space, decimal, refusedText}
-use Rattle.model_texts.specs.Sheet.{lined, inputCount, stepCount, restCount, coefficientCount, sheetHeaders, sheetSteps, readRefusal, sheetRefusal}
+use Rattle.model_texts.specs.Sheet.{lined, inputCount, stepCount, restCount, coefficientCount, sheetHeaders, sheetEdition, sheetSteps, sheetRecipe, readRefusal, sheetRefusal}
 use Rattle.model_texts.specs.Trace.{stepWord}
 use Rattle.model_faults.specs.Saying.{firstNot}
 use Rattle.model_faults.specs.Broken.{isCapital, isBlank, isShown, byteText, noDigitText, noNewlineText, shortText, byteFault, askedText, endedText}
@@ -30,7 +30,7 @@ use Rattle.recipes_check.specs.Judged.{chain-known}
 use Rattle.recipes_kinds.specs.Known.{Known}
 use Rattle.sheet_limits.specs.Limits.{inputs-first}
 use Rattle.sheet_reading.specs.Headers.{good-known}
-use Rattle.sheet_reading.specs.Reading.{count-small, step-small}
+use Rattle.sheet_reading.specs.Reading.{edition-small, count-small, step-small}
 use Rattle.sheet_solving.specs.Opened.{Opened, opened, opened-good, opened-few, headers-many, steps-many}
 use Rattle.report_lines.specs.Columns.{inColumns, columns-append, columns-earlier, Piece, piece, piece-up, piece-then, piece-either, two-digits}
 use Rattle.report_lines.specs.Columns.{Lines, lines, lines-up, newline-rest, rest-then}
@@ -39,7 +39,7 @@ use Rattle.report_header.specs.Causes.{cause-columns, cause-length}
 use Rattle.report_broken.specs.Headers.{lines-most}
 use Rattle.report_broken.specs.Wrong.{digits-most, broken-open}
 use Rattle.report_refused.specs.Fits.{Fits, fits-up, fits-none, fits-text, fits-then, fits-either, fits-say}
-use Rattle.report_refused.specs.Sentences.{three, five, where-piece, step-fits, sizes-fits, own-fits}
+use Rattle.report_refused.specs.Sentences.{three, five, where-piece, step-fits, word-one-fits, own-fits}
 use Rattle.report_refused.specs.Said.{read-is}
 use Rattle.report_refused.specs.Small.{refusal-small}
 
@@ -185,7 +185,7 @@ module _ (t : List ℕ) where
       (λ b.
       rw b
       (fits-either (eqb (r .number) 7)
-      (fits-up (fits-then (piece 8 (bytes "line 1: ") refl) (sizes-fits (inputCount t) (stepCount t) _ (count-small t) (step-small t)))
+      (fits-up (fits-then (piece 8 (bytes "line 1: ") refl) (word-one-fits (sheetEdition t) (inputCount t) (stepCount t) _ (edition-small t) (count-small t) (step-small t)))
       (omega arith) (omega arith))
       (fits-up
       (fits-then (where-piece (2 + r .place) (inputCount t) (r .place) (three (2 + r .place) (omega (arith, s .place)))
@@ -195,15 +195,15 @@ module _ (t : List ℕ) where
   -- ---- refused once it is read
 
   module _ (o : Opened t) where
-    places-known : (ss : List ℕ) → Known (announcedPlaces (sheetHeaders t) ss)
+    places-known : (ss : List ℕ) → Known (announcedPlaces (recipeOf (sheetEdition t) (sheetHeaders t) ss))
     unfolding announcedPlaces
-    places-known ss = chain-known (good-known (opened-good o)) ss
+    places-known ss = chain-known (sheetEdition t) (good-known (opened-good o)) ss
 
     count-few : coefficientCount t ≤ 65536
     count-few = omega (arith, opened-few o, o .sizes .few)
 
     place-fits : (p n : ℕ) → p < 64 → Fits 80 81 (placeFault t p n)
-    unfolding placeFault lineOf
+    unfolding placeFault lineOf sheetRecipe
     place-fits p n l =
         let k = inputCount t in
         let line = lineOf k (coefficientCount t) p in
@@ -211,28 +211,28 @@ module _ (t : List ℕ) where
         fits-then (where-piece line k p (five line m) (two-digits p (omega arith)))
         (step-fits (stepWord (sheetSteps t) k p) (places-known (take (p - k) (sheetSteps t))) n p)
 
-    places-few : length (announcedPlaces (sheetHeaders t) (sheetSteps t)) ≤ 64
-    unfolding announcedPlaces
+    places-few : length (announcedPlaces (sheetRecipe t)) ≤ 64
+    unfolding announcedPlaces sheetRecipe
     places-few =
         omega (
           arith,
-          length-chain announcedStep (inputHeads (sheetHeaders t)) (sheetSteps t),
+          length-chain (announcedStep (sheetEdition t)) (inputHeads (sheetHeaders t)) (sheetSteps t),
           length-map (sheetHeaders t) headerOf,
           headers-many t,
           steps-many t,
           o .sizes .fit,
         )
 
-    inputs-few : total (take (inputCount t) (announcedPlaces (sheetHeaders t) (sheetSteps t))) ≤ 65536
-    unfolding coefficientCount
-    inputs-few = rw (← headers-many t, inputs-first (sheetHeaders t) (sheetSteps t)) count-few
+    inputs-few : total (take (inputCount t) (announcedPlaces (sheetRecipe t))) ≤ 65536
+    unfolding coefficientCount sheetRecipe
+    inputs-few = rw (← headers-many t, inputs-first (recipeOf (sheetEdition t) (sheetHeaders t) (sheetSteps t))) count-few
 
     recipe-fits : (r : Refusal) → Fits 80 81 (recipeFault t r)
-    unfolding recipeFault
+    unfolding recipeFault sheetRecipe
     recipe-fits r =
         decide (ltb (r .place) 64)
         (λ b. rw b (place-fits (r .place) (r .number) (ltb-true (r .place) 64 b)))
-        (λ b. rw b (own-fits (announcedPlaces (sheetHeaders t) (sheetSteps t)) (inputCount t) (places-known (sheetSteps t)) places-few inputs-few))
+        (λ b. rw b (own-fits (announcedPlaces (sheetRecipe t)) (inputCount t) (places-known (sheetSteps t)) places-few inputs-few))
 
   -- ---- the sentence
 

@@ -15,7 +15,7 @@ use Rattle.model_recipes.specs.Check.{namedBefore, zeroUnless}
 use Rattle.model_recipes.specs.Recipe.{headAt, announcedStep, total}
 use Rattle.model_recipes.specs.Steps.{stepOf, spareOf, usesOf}
 use Rattle.model_texts.specs.Printed.{decimal}
-use Rattle.model_faults.specs.WordOne.{sizesCause}
+use Rattle.model_faults.specs.WordOne.{wordOneCause, sizesCause}
 use Rattle.model_faults.specs.StepWord.{lateText, unusedText, operandText, fieldsCause, formedCause}
 use Rattle.model_faults.specs.StepCount.{hasText, variableCause, limitCause, countCause}
 use Rattle.model_faults.specs.Own.{whereText, lineOf, largeFault, totalsFault, firstLarge, ownFault}
@@ -148,10 +148,10 @@ module _ (w : ℕ) {known : List Header} (g : Known known) where
   count-fits : Fits 57 58 (countCause w known)
   unfolding countCause bytes inColumns
   count-fits =
-      let n = stored (announcedStep w known) in
+      let n = stored (announcedStep 0 w known) in
       fits-up
       (fits-say "it takes " n " coefficients; 4096 are the most.\n" (piece 9 (bytes "it takes ") refl)
-      (eight n (count-most (lengths-of (step-regular w g .rules)))) (fits-text 33 34 (bytes " coefficients; 4096 are the most.\n") refl))
+      (eight n (count-most (lengths-of (step-regular 0 w g .rules)))) (fits-text 33 34 (bytes " coefficients; 4096 are the most.\n") refl))
       (omega arith) (omega arith)
 
   pub step-fits : (n p : ℕ) → Fits 57 58 (stepCause n w p known)
@@ -176,7 +176,15 @@ sizes-fits k n x a b =
     (fits-two "word one has " k " inputs and " n " steps; 64 together are the most.\n" s q (piece 12 (bytes " inputs and ") refl)
     (three n (omega arith)) (fits-text 33 34 (bytes " steps; 64 together are the most.\n") refl))
     (omega arith) (omega arith))
-    (fits-unless (eqb x 0) (fits-text 72 73 (bytes "word one's last 12 digits are not all zero; write zeros.\n") refl) fits-none)))
+    (fits-unless (eqb x 0) (fits-text 72 73 (bytes "word one's last 11 digits are not all zero; write zeros.\n") refl) fits-none)))
+
+pub word-one-fits : (e k n x : ℕ) → e < 16 → k < 256 → n < 256 → Fits 72 73 (wordOneCause e k n x)
+unfolding wordOneCause bytes inColumns
+word-one-fits e k n x d a b =
+    fits-unless (leb e 1)
+    (fits-up (fits-say "word one has edition " e "; write 0 or 1.\n" (piece 21 (bytes "word one has edition ") refl) (two-digits e (omega arith))
+    (fits-text 15 16 (bytes "; write 0 or 1.\n") refl)) (omega arith) (omega arith))
+    (sizes-fits k n x a b)
 
 -- ---- the program's own limits
 

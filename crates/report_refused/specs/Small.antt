@@ -14,9 +14,9 @@ use Rattle.lists.specs.Test.{of-both}
 use Rattle.model.specs.declared.Refusal.{Refusal}
 use Rattle.model.specs.Word.{goodWord}
 use Rattle.model.specs.Refusals.{noRefusal, isNone, zeros}
-use Rattle.model_recipes.specs.Recipe.{inputHeads, announcedPlaces, announcedSteps, total, largest}
+use Rattle.model_recipes.specs.Recipe.{Recipe, inputHeads, announcedPlaces, announcedSteps, total, largest}
 use Rattle.model_recipes.specs.Check.{askAt, orElse, checkRefusal}
-use Rattle.model_texts.specs.Sheet.{lined, wordOn, inputCount, restCount, headersRefusal, readRefusal, sheetHeaders, sheetCoefficients, sheetSteps}
+use Rattle.model_texts.specs.Sheet.{lined, wordOn, inputCount, restCount, headersRefusal, readRefusal, sheetCoefficients, sheetRecipe}
 use Rattle.model_texts.specs.Sheet.{ownRefusal, recipeRefusal, sheetRefusal}
 use Rattle.gates.specs.Small.{Small, at-small, word-small, asked-small, small-up}
 use Rattle.recipes_check.specs.Asks.{or-none, ask-none}
@@ -38,20 +38,20 @@ unfolding orElse
 or-small {r} s n = of-both (Small 8 512) (isNone r) n s
 
 -- the check, the program's own limits, and the run
-own-small : (hs ss : List ℕ) → Small 8 512 (ownRefusal hs ss)
+own-small : (it : Recipe) → Small 8 512 (ownRefusal it)
 unfolding ownRefusal
-own-small hs ss =
-    ask-small ((leb (largest (announcedPlaces hs ss)) 256 && leb (total (inputHeads hs)) 2048) && leb (total (announcedSteps hs ss)) 2048) 5 64
+own-small it =
+    ask-small ((leb (largest (announcedPlaces it)) 256 && leb (total (inputHeads (it .headers))) 2048) && leb (total (announcedSteps it)) 2048) 5 64
     (omega arith) (omega arith) none-small
 
-recipe-small : (hs : List ℕ) (cs : List Float) (ss : List ℕ) → Small 8 512 (recipeRefusal hs cs ss)
+recipe-small : (it : Recipe) (cs : List Float) → Small 8 512 (recipeRefusal it cs)
 unfolding recipeRefusal
-recipe-small hs cs ss =
-    or-small {r = checkRefusal hs ss} {next = orElse (ownRefusal hs ss) (ranRefusal hs cs ss)}
-    (small-up (check-small hs ss) (omega arith) (omega arith))
-    (or-small {r = ownRefusal hs ss} {next = ranRefusal hs cs ss} (own-small hs ss)
+recipe-small it cs =
+    or-small {r = checkRefusal it} {next = orElse (ownRefusal it) (ranRefusal it cs)}
+    (small-up (check-small it) (omega arith) (omega arith))
+    (or-small {r = ownRefusal it} {next = ranRefusal it cs} (own-small it)
     (small-up
-    (run-small hs cs ss (zeros (total (announcedSteps hs ss))) (table (length ss) (λ k. 0)) (zeros (8 * largest (announcedSteps hs ss))))
+    (run-small it cs (zeros (total (announcedSteps it))) (table (length (it .steps)) (λ k. 0)) (zeros (8 * largest (announcedSteps it))))
     (omega arith) (omega arith)))
 
 module _ (t : List ℕ) where
@@ -73,7 +73,7 @@ module _ (t : List ℕ) where
 
   pub refusal-small : Small 8 512 (sheetRefusal t)
   unfolding sheetRefusal
-  refusal-small = or-small read-small (recipe-small (sheetHeaders t) (sheetCoefficients t) (sheetSteps t))
+  refusal-small = or-small read-small (recipe-small (sheetRecipe t) (sheetCoefficients t))
 
   -- what is read without a refusal is at most 65,601 lines long
   pub read-length : readRefusal t .number ≡ 0 → length t < readAtMost

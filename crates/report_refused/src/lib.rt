@@ -6,6 +6,7 @@ mod step;
 use model::Refusal;
 use read::put_read_fault;
 use report_lines::put::put;
+use sheet_reading::edition_of;
 use sheet_reading::input_count;
 use sheet_reading::read;
 use sheet_text::refused::put_refusal;
@@ -35,8 +36,9 @@ fn put_fault_text(text: &[u8], r: Refusal, at: usize, to: &mut [u8]) -> usize
     if first.number != 0 {
         return put_read_fault(text, r, at, to);
     }
+    let edition = edition_of(text);
     let inputs = input_count(text);
-    put_recipe_fault(text, r, &headers[..inputs], at, to)
+    put_recipe_fault(text, r, &headers[..inputs], edition, at, to)
 }
 
 // Both, for a sheet that r refuses.

@@ -38,9 +38,16 @@ fn put_known_fault(
     put_own_fault(known, k, at, to)
 }
 
-// A sheet that is read, with its input headers.
-pub fn put_recipe_fault(text: &[u8], r: Refusal, headers: &[u64], at: usize, to: &mut [u8]) -> usize
-    requires { ⌜ Opening (now text) (now headers) ⌝ ∗ ⌜ Placed (length (now headers)) (stepCount (now text)) r ⌝ }
+// A sheet that is read, with its input headers and its edition.
+pub fn put_recipe_fault(
+    text: &[u8],
+    r: Refusal,
+    headers: &[u64],
+    edition: u64,
+    at: usize,
+    to: &mut [u8],
+) -> usize
+    requires { ⌜ Opening (now text) (now headers) edition ⌝ ∗ ⌜ Placed (length (now headers)) (stepCount (now text)) r ⌝ }
     ensures { λ n. ⌜ Puts (recipeFault (now (text .entry)) r) at (now (to .entry)) (now (to .exit)) n ⌝ }
 {
     let k = headers.len();
@@ -51,6 +58,6 @@ pub fn put_recipe_fault(text: &[u8], r: Refusal, headers: &[u64], at: usize, to:
     let mut known = [0u64; 64];
     fill_words(text, 1 + k + c, &mut steps[..n]);
     note_inputs(headers, &mut known);
-    announce_steps(&steps[..n], k, &mut known);
+    announce_steps(edition, &steps[..n], k, &mut known);
     put_known_fault(r, k, c, &steps[..n], &known[..end], at, to)
 }

@@ -35,6 +35,10 @@ pub step-small : (t : List ℕ) → stepCount t < 256
 unfolding stepCount
 step-small t = omega arith
 
+pub edition-small : (t : List ℕ) → sheetEdition t < 16
+unfolding sheetEdition
+edition-small t = omega arith
+
 -- the test of word one
 abbrev pub sizesTest : List ℕ → Bool
 sizesTest t = knownEdition (sheetEdition t) && (rightSizes (inputCount t) (stepCount t) && eqb (spare t) 0)

@@ -21,33 +21,34 @@ returns c =
 
 array-share-prefix-headers : tie.Need-array-share-prefix-headers
 array-share-prefix-headers c =
-    let c4 = c .before .before .before .before in
-    omega (arith, read-few (c4 .read .ensures) (c .before .if1 .left) (c .input-count .ensures), c4 .read .ensures .len)
+    let c5 = c .before .before .before .before .before in
+    omega (arith, read-few (c5 .read .ensures) (c .before .before .if1 .left) (c .input-count .ensures), c5 .read .ensures .len)
 
 slice-aggregate-put-recipe-fault : tie.Need-slice-aggregate-put-recipe-fault
 slice-aggregate-put-recipe-fault c =
-    let c5 = c .before .before .before .before .before in
+    let c6 = c .before .before .before .before .before .before in
     sym (length-take-le _ _ (omega (
       arith,
-      read-few (c5 .read .ensures) (c .before .before .if1 .left) (c .before .input-count .ensures),
-      c5 .read
+      read-few (c6 .read .ensures) (c .before .before .before .if1 .left) (c .before .input-count .ensures),
+      c6 .read
           .ensures .len,
     )))
 
 put-recipe-fault-requires : tie.Need-put-recipe-fault-requires
 put-recipe-fault-requires c κs =
     let c3 = c .before .before .before in
-    let c6 = c3 .before .before .before in (
-      read-opening (c6 .read .ensures) (c3 .if1 .left) (c .before .before .input-count .ensures),
-      read-placed (c6 .read .ensures) (c3 .if1 .left)
-          (c .before .before .input-count .ensures) ((c .before .before .before .before .before .before .before .before .before .before) .pre .0),
+    let c4 = c3 .before in
+    let c7 = c4 .before .before .before in
+    let start = c7 .before .before .before .before in (
+      read-opening (c7 .read .ensures) (c4 .if1 .left) (c .before .before .input-count .ensures) (c3 .edition-of .ensures),
+      read-placed (c7 .read .ensures) (c4 .if1 .left) (c .before .before .input-count .ensures) (start .pre .0),
     )
 
 returns-2 : tie.Need-returns-2
 returns-2 c =
-    let c13 = c .before .before .before .before .before .before .before .before .before .before .before .before .before in
-    rw (said-recipe _ (c13 .pre .0) (c13 .pre .1) (read-none (c .before .before .before .before .before .before .before .before .before .read
-    .ensures) (c .before .before .before .before .before .before .if1 .left) (c .before .before .before .before .before .input-count .ensures)))
+    let c7 = c .before .before .before .before .before .before .before in
+    let start = c7 .before .before .before .before .before .before .before in
+    rw (said-recipe _ (start .pre .0) (start .pre .1) (read-none (c7 .before .before .before .read .ensures) (c7 .if1 .left) (c .before .before .before .before .before .input-count .ensures)))
     (c .before .before .put-recipe-fault .ensures)
 
 pub put-fault-text-spec : {M : Type 1} → statement M
@@ -59,6 +60,7 @@ put-fault-text-spec =
     put-read-fault-requires
     (λ c. search needs)
     returns
+    (λ c κs. search needs)
     (λ c κs. search needs)
     array-share-prefix-headers
     slice-aggregate-put-recipe-fault

@@ -31,12 +31,15 @@ returns c =
           (lyingAt (start .args .inputs) (start .args .known .now) (start .args .starts .now)
           (start .args .coefficients .now) (take (start .args .at) (start .args .pool .now)) (start .args .s .b))
           (c6 .if1 .taken))),
-      kept-as (ap (λ (p : Poly). padded (start .args .room) (p .coeffs))
-          (plain-constant (start .args .s) (lyingAt (start .args .inputs) (start .args .known .now)
-          (start .args .starts .now) (start .args .coefficients .now) (take (start .args .at) (start .args .pool .now))
-          (start .args .s .a)) (lyingAt (start .args .inputs) (start .args .known .now) (start .args .starts .now)
-          (start .args .coefficients .now) (take (start .args .at) (start .args .pool .now)) (start .args .s .b))
-          (c6 .if1 .taken))) (c .before .before .before .before .constant-to .ensures),
+      (
+        kept-as (ap (λ (p : Poly). padded (start .args .room) (p .coeffs))
+            (plain-constant (start .args .s) (lyingAt (start .args .inputs) (start .args .known .now)
+            (start .args .starts .now) (start .args .coefficients .now) (take (start .args .at) (start .args .pool .now))
+            (start .args .s .a)) (lyingAt (start .args .inputs) (start .args .known .now) (start .args .starts .now)
+            (start .args .coefficients .now) (take (start .args .at) (start .args .pool .now)) (start .args .s .b))
+            (c6 .if1 .taken))) (c .before .before .before .before .constant-to .ensures),
+        search needs,
+      ),
     )
 
 mul-perform : tie.Need-mul-perform

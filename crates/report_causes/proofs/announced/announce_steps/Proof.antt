@@ -8,13 +8,13 @@ use Rattle.report_causes.proofs.announced.announce_steps.Statement.{sta
 use Rattle.report_causes.proofs.announced.announce_steps.Tie as tie
 
 abbrev Inv-loop : tie.InvT-loop
-Inv-loop steps inputs known₀ i₀ known i = Announcing steps inputs known₀ known i
+Inv-loop edition steps inputs known₀ i₀ known i = Announcing edition steps inputs known₀ known i
 
 abbrev μ-loop : tie.MeasureT-loop
-μ-loop steps inputs known₀ i₀ known i = length steps - i
+μ-loop edition steps inputs known₀ i₀ known i = length steps - i
 
 loop-holds : tie.Need-loop-holds Inv-loop μ-loop
-loop-holds c = announcing-none _ _ _ (((c .before .before) .pre) .regular)
+loop-holds c = announcing-none _ _ _ _ (((c .before .before) .pre) .regular)
 
 add-at : tie.Need-add-at Inv-loop μ-loop
 add-at c =
@@ -41,7 +41,7 @@ announce-requires : tie.Need-announce-requires Inv-loop μ-loop
 announce-requires c κs = c .before .before .before .loop .inv .regular
 
 pack-requires : tie.Need-pack-requires Inv-loop μ-loop
-pack-requires c κs = rw (c .announce .ensures) (step-regular _ (c .before .before .before .before .loop .inv .regular) .rules)
+pack-requires c κs = rw (c .announce .ensures) (step-regular _ _ (c .before .before .before .before .loop .inv .regular) .rules)
 
 slice-write-known : tie.Need-slice-write-known Inv-loop μ-loop
 slice-write-known c =

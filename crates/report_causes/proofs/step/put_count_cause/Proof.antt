@@ -8,7 +8,7 @@ use Rattle.report_causes.proofs.step.put_count_cause.Reads as reads
 use Rattle.report_causes.proofs.step.put_count_cause.Lts as lts
 
 stored-of-requires : tie.Need-stored-of-requires
-stored-of-requires c κs = rw (c .announce .ensures) (step-regular _ ((c .before .before .before) .pre) .rules)
+stored-of-requires c κs = rw (c .announce .ensures) (step-regular _ _ ((c .before .before .before) .pre) .rules)
 
 returns : tie.Need-returns
 unfolding countCause bytes

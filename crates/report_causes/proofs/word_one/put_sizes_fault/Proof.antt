@@ -10,14 +10,14 @@ use Rattle.report_causes.proofs.word_one.put_sizes_fault.Tie as tie
 use Rattle.report_causes.proofs.word_one.put_sizes_fault.Reads as reads
 use Rattle.report_causes.proofs.word_one.put_sizes_fault.Lts as lts
 
-put-sizes-cause-requires : tie.Need-put-sizes-cause-requires
-put-sizes-cause-requires c κs =
-    let c11 = c .before .before .before .before .before .before .before .before .before .before .before in (
-      omega (arith, c .before .before .input-count .ensures, count-small (c11 .args .text .now)),
+put-word-one-cause-requires : tie.Need-put-word-one-cause-requires
+put-word-one-cause-requires c κs =
+    let c12 = c .before .before .before .before .before .before .before .before .before .before .before .before in (
+      omega (arith, c .before .before .input-count .ensures, count-small (c12 .args .text .now)),
       omega (
         arith,
         c .before .step-count .ensures,
-        step-small (c11 .args .text .now),
+        step-small (c12 .args .text .now),
       ),
     )
 
@@ -27,10 +27,11 @@ returns c =
     rw (
       ← c .before .before .before .before .before .input-count .ensures,
       ← c .before .before .before .before .step-count .ensures,
-      ← c .before .before .before .before .before .before .word-at .ensures,
+      ← c .before .before .before .before .before .before .edition-of .ensures,
+      ← c .before .before .before .before .before .before .before .word-at .ensures,
     ) (puts-then
-    (c .before .before .before .before .before .before .before .before .before .put .ensures)
-    (c .before .before .put-sizes-cause .ensures))
+    (c .before .before .before .before .before .before .before .before .before .before .put .ensures)
+    (c .before .before .put-word-one-cause .ensures))
 
 pub put-sizes-fault-spec : {M : Type 1} → statement M
 put-sizes-fault-spec =
@@ -41,6 +42,7 @@ put-sizes-fault-spec =
     (λ c κs. search needs)
     (λ c κs. search needs)
     (λ c κs. search needs)
-    put-sizes-cause-requires
+    (λ c κs. search needs)
+    put-word-one-cause-requires
     (λ c. search needs)
     returns)
