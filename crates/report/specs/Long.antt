@@ -17,11 +17,11 @@ use Rattle.model.specs.Header.{stored}
 use Rattle.model.specs.Word.{headerOf, wordOf}
 use Rattle.model.specs.Refusals.{isNone}
 use Rattle.model_recipes.specs.Check.{checkRefusal}
-use Rattle.model_recipes.specs.Recipe.{inputHeads, headAt, announcedPlaces, announcedSteps, total, largest}
+use Rattle.model_recipes.specs.Recipe.{Recipe, inputHeads, headAt, announcedPlaces, announcedSteps, total, largest}
 use Rattle.model_recipes.specs.Run.{noValue, valueAt, values, stepValues}
 use Rattle.model_texts.specs.Full.{fulls}
 use Rattle.model_texts.specs.Report.{placeText, cutsText, endText, verdictText}
-use Rattle.model_texts.specs.Sheet.{inputCount, sheetHeaders, sheetCoefficients, sheetSteps, wordOn}
+use Rattle.model_texts.specs.Sheet.{inputCount, sheetCoefficients, sheetRecipe, wordOn}
 use Rattle.model_texts.specs.Sheet.{coefficientCount, ownRefusal, recipeRefusal, readRefusal, sheetRefusal, lastValue}
 use Rattle.model_texts.specs.Trace.{stepWord}
 use Rattle.model_forecast.specs.declared.Asked.{Asked}
@@ -65,89 +65,86 @@ heads : (Lines 80 lineOne) × (Lines 80 lineTwo)
 unfolding bytes inColumns columnAfter
 heads = (written 80 lineOne refl refl, written 80 lineTwo refl refl)
 
-module _ (hs ss : List ℕ) (z : checkRefusal hs ss .number ≡ 0) where
-  short : (p : ℕ) → length hs ≤ p → p < length hs + length ss → Short (stepWord ss (length hs) p)
+module _ (it : Recipe) (z : checkRefusal it .number ≡ 0) where
+  short : (p : ℕ) → length (it .headers) ≤ p → p < length (it .headers) + length (it .steps) → Short (stepWord (it .steps) (length (it .headers)) p)
   short p a l e =
-      let n = shift-short hs ss z (p - length hs) (omega arith) (record { from = omega (arith, e); to = omega (arith, e) }) in omega arith
+      let n = shift-short it z (p - length (it .headers)) (omega arith) (record { from = omega (arith, e); to = omega (arith, e) }) in omega arith
 
-  limits-lines : (fs : List ℕ) → Lines 57000 (limitLines (announcedPlaces hs ss) ss (length hs) fs (length hs + length ss))
+  limits-lines : (fs : List ℕ) → Lines 57000 (limitLines (announcedPlaces it) (it .steps) (length (it .headers)) fs (length (it .headers) + length (it .steps)))
   unfolding limitLines
   limits-lines fs =
-      let a = accepts hs ss z in
-      let n = length hs + length ss in
+      let a = accepts it z in
+      let n = length (it .headers) + length (it .steps) in
       let f : n ≤ 64 = a .sizes .fit in
       let s : 1 ≤ n = omega (arith, a .sizes .some) in
-      let known = announcedPlaces hs ss in
-      let g = places-known hs ss (a .inputs) in
+      let known = announcedPlaces it in
+      let g = places-known it (a .inputs) in
       lines-up
       (lines-then (heads .0)
       (lines-then (heads .1)
-      (lines-then (lines-joined (placeText known ss (length hs)) 79 n (λ p l. place-lines known ss (length hs) g p (omega arith) (λ i. short p i l)))
-      (lines-then (lines-joined (cutsText known ss (length hs) fs) 796 n (λ p l. cuts-lines known ss (length hs) g fs p (omega arith)))
-      (lines-joined (endText known ss (length hs) (n - 1)) 124 4
-      (λ v k. end-lines known ss (length hs) g (n - 1) v (omega arith) k (check-ordered hs ss z) (omega arith)))))))
+      (lines-then (lines-joined (placeText known (it .steps) (length (it .headers))) 79 n (λ p l. place-lines known (it .steps) (length (it .headers)) g p (omega arith) (λ i. short p i l)))
+      (lines-then (lines-joined (cutsText known (it .steps) (length (it .headers)) fs) 796 n (λ p l. cuts-lines known (it .steps) (length (it .headers)) g fs p (omega arith)))
+      (lines-joined (endText known (it .steps) (length (it .headers)) (n - 1)) 124 4
+      (λ v k. end-lines known (it .steps) (length (it .headers)) g (n - 1) v (omega arith) k (check-ordered it z) (omega arith)))))))
       (omega arith)
 
 -- ---- a sheet that is not refused
 
 module _ (t : List ℕ) (z : sheetRefusal t .number ≡ 0) where
-  abbrev hs : List ℕ
-  hs = sheetHeaders t
-
-  abbrev ss : List ℕ
-  ss = sheetSteps t
+  abbrev it : Recipe
+  it = sheetRecipe t
 
   abbrev cs : List Float
   cs = sheetCoefficients t
 
-  accepts-it : Accepts hs ss
-  accepts-it = accepts hs ss (check-none t z)
+  accepts-it : Accepts it
+  accepts-it = accepts it (check-none t z)
 
-  small-steps : largest (announcedSteps hs ss) ≤ 256
+  small-steps : largest (announcedSteps it) ≤ 256
   unfolding sheetRefusal recipeRefusal
   small-steps =
-      let a = or-none (checkRefusal hs ss) _ (or-none (readRefusal t) _ z .1) in
-      let b = or-none (ownRefusal hs ss) _ (a .1) in
-      steps-largest (passed hs ss (ap (λ (x : Refusal). x .number) (or-next (checkRefusal hs ss) (ownRefusal hs ss) (a .0)) ∙ b .0))
+      let a = or-none (checkRefusal it) _ (or-none (readRefusal t) _ z .1) in
+      let b = or-none (ownRefusal it) _ (a .1) in
+      steps-largest (passed it (ap (λ (x : Refusal). x .number) (or-next (checkRefusal it) (ownRefusal it) (a .0)) ∙ b .0))
 
-  full : total (inputHeads hs) ≤ length cs
-  unfolding sheetCoefficients coefficientCount
+  full : total (inputHeads (it .headers)) ≤ length cs
+  unfolding sheetCoefficients coefficientCount sheetRecipe
   full = omega (arith, length-table (λ j. ofBits binary64 (wordOn t (1 + inputCount t + j))) (coefficientCount t))
 
   abbrev last : ℕ
-  last = length ss - 1
+  last = length (it .steps) - 1
 
-  last-in : last < length ss
+  last-in : last < length (it .steps)
   last-in = omega (arith, accepts-it .sizes .some)
 
   -- the last value keeps what its step announced
-  keep : Keeps (headAt (announcedPlaces hs ss) (length hs + last)) (lastValue t)
-  unfolding lastValue stepValues
+  keep : Keeps (headAt (announcedPlaces it) (length (it .headers) + last)) (lastValue t)
+  unfolding lastValue stepValues sheetRecipe
   keep =
-      let e : valueAt (values hs cs ss) (length hs + last) ≡ lastValue t =
-      sym (getD-drop (length hs) (values hs cs ss) last noValue) ∙ ap (λ (n : ℕ). getD (drop (length hs) (values hs cs ss)) (n - 1) noValue) (steps-many t) in
-      rw e at (follows-all hs cs ss {m = 8 * largest (announcedSteps hs ss)} (check-none t z) full (omega arith) .keeps (length hs + last))
+      let e : valueAt (values it cs) (length (it .headers) + last) ≡ lastValue t =
+      sym (getD-drop (length (it .headers)) (values it cs) last noValue) ∙ ap (λ (n : ℕ). getD (drop (length (it .headers)) (values it cs)) (n - 1) noValue) (steps-many t) in
+      rw e at (follows-all it cs {m = 8 * largest (announcedSteps it)} (check-none t z) full (omega arith) .keeps (length (it .headers) + last))
 
   last-few : stored (headerOf (wordOf (lastValue t .head))) ≤ 256
   last-few =
-      let l : stored (headAt (announcedPlaces hs ss) (length hs + last)) ≤ largest (announcedSteps hs ss) =
-      rw (announced-at hs ss last last-in) (step-largest hs ss last last-in) in
+      let l : stored (headAt (announcedPlaces it) (length (it .headers) + last)) ≤ largest (announcedSteps it) =
+      rw (announced-at it last last-in) (step-largest it last last-in) in
       rw (unpack-pack (lastValue t .head) (keep .regular)) (omega (arith, count-under (keep .under), l, small-steps))
 
   abbrev fs : List ℕ
-  fs = fulls (announcedPlaces hs ss) ss (length hs) (length hs + length ss)
+  fs = fulls (announcedPlaces it) (it .steps) (length (it .headers)) (length (it .headers) + length (it .steps))
 
   done-kept : (asked : Asked) → Kept 162000 (toldText t asked)
-  unfolding forecastText
+  unfolding forecastText sheetRecipe
   done-kept asked =
       let w = wordOf (lastValue t .head) in
-      let f = reckoned-lines (announcedPlaces hs ss) hs cs ss fs w (lastValue t .coeffs) asked last-few in
-      let v = verdict-lines (announcedPlaces hs ss) ss (length hs) (places-known hs ss (accepts-it .inputs)) fs (length hs + length ss - 1) in
-      let k : Kept 95480 (verdictText (announcedPlaces hs ss) ss (length hs) fs (length hs + length ss - 1)
-      ++ reckonedText (announcedPlaces hs ss) hs cs ss fs w (lastValue t .coeffs) asked) =
+      let f = reckoned-lines (announcedPlaces it) (it .headers) cs (it .steps) fs w (lastValue t .coeffs) asked last-few in
+      let v = verdict-lines (announcedPlaces it) (it .steps) (length (it .headers)) (places-known it (accepts-it .inputs)) fs (length (it .headers) + length (it .steps) - 1) in
+      let k : Kept 95480 (verdictText (announcedPlaces it) (it .steps) (length (it .headers)) fs (length (it .headers) + length (it .steps) - 1)
+      ++ reckonedText (announcedPlaces it) (it .headers) cs (it .steps) fs w (lastValue t .coeffs) asked) =
       kept-behind v (record { most = f .most; keeps = f .keeps }) in
-      let m = kept-behind (limits-lines hs ss (check-none t z) fs)
-      (kept-behind (inputs-lines hs cs (accepts-it .sizes .few)) k) in
+      let m = kept-behind (limits-lines it (check-none t z) fs)
+      (kept-behind (inputs-lines (it .headers) cs (accepts-it .sizes .few)) k) in
       rw (told-done t asked z) (record { most = omega (arith, m .most); keeps = m .keeps })
 
 -- ---- the laws

@@ -21,10 +21,10 @@ use Rattle.model.specs.Word.{headerOf}
 use Rattle.model.specs.Announced.{limitAfter, single, announced}
 use Rattle.model_recipes.specs.declared.Step.{Step}
 use Rattle.model_recipes.specs.Steps.{stepOf}
-use Rattle.model_recipes.specs.Recipe.{families, familyOf, headAt, announcedStep, inputHeads, announcedPlaces}
+use Rattle.model_recipes.specs.Recipe.{Recipe, upTo, families, familyOf, headAt, announcedStep, inputHeads, announcedPlaces}
 use Rattle.model_recipes.specs.Check.{lowers, checkRefusal}
 use Rattle.model_recipes.specs.Reasons.{Shifts}
-use Rattle.model_texts.specs.Sheet.{inputCount, stepCount, sheetHeaders, sheetSteps, sheetRefusal}
+use Rattle.model_texts.specs.Sheet.{inputCount, stepCount, sheetSteps, sheetRecipe, sheetRefusal}
 use Rattle.model_texts.specs.Trace.{stepWord, shiftsIn, lowering, limitAt, decider, lowerer}
 use Rattle.recipes_laws.specs.Ahead.{announced-at}
 use Rattle.sheet_solving.specs.Opened.{headers-many, steps-many}
@@ -34,19 +34,19 @@ use Rattle.report_trace.specs.Lowered.{Lowers, shift, lessOn, decider-limit, lo
 use Rattle.report.specs.Traces.{check-ordered, shift-below, check-none, sheet-ordered, few}
 
 -- the three shifts announce as such
-shift-family : (s : Step) (k : ℕ) → 7 ≤ k → k ≤ 9 → getD (families s) k Constant ≡ Shift (s .variable) (s .n)
+shift-family : (ed : ℕ) (s : Step) (k : ℕ) → 7 ≤ k → k ≤ 9 → getD (families ed s) k Constant ≡ Shift (s .variable) (s .n)
 unfolding families
-shift-family s (suc (suc (suc (suc (suc (suc (suc zero))))))) a b = refl
-shift-family s (suc (suc (suc (suc (suc (suc (suc (suc zero)))))))) a b = refl
-shift-family s (suc (suc (suc (suc (suc (suc (suc (suc (suc zero))))))))) a b = refl
-shift-family s (suc (suc (suc (suc (suc (suc (suc (suc (suc (suc k)))))))))) a b = absurd (omega arith)
-shift-family s zero a b = absurd (omega arith)
-shift-family s (suc zero) a b = absurd (omega arith)
-shift-family s (suc (suc zero)) a b = absurd (omega arith)
-shift-family s (suc (suc (suc zero))) a b = absurd (omega arith)
-shift-family s (suc (suc (suc (suc zero)))) a b = absurd (omega arith)
-shift-family s (suc (suc (suc (suc (suc zero))))) a b = absurd (omega arith)
-shift-family s (suc (suc (suc (suc (suc (suc zero)))))) a b = absurd (omega arith)
+shift-family ed s (suc (suc (suc (suc (suc (suc (suc zero))))))) a b = refl
+shift-family ed s (suc (suc (suc (suc (suc (suc (suc (suc zero)))))))) a b = refl
+shift-family ed s (suc (suc (suc (suc (suc (suc (suc (suc (suc zero))))))))) a b = refl
+shift-family ed s (suc (suc (suc (suc (suc (suc (suc (suc (suc (suc k)))))))))) a b = absurd (omega arith)
+shift-family ed s zero a b = absurd (omega arith)
+shift-family ed s (suc zero) a b = absurd (omega arith)
+shift-family ed s (suc (suc zero)) a b = absurd (omega arith)
+shift-family ed s (suc (suc (suc zero))) a b = absurd (omega arith)
+shift-family ed s (suc (suc (suc (suc zero)))) a b = absurd (omega arith)
+shift-family ed s (suc (suc (suc (suc (suc zero))))) a b = absurd (omega arith)
+shift-family ed s (suc (suc (suc (suc (suc (suc zero)))))) a b = absurd (omega arith)
 
 shift-limit : (v n : ℕ) (h b : Header) → v < 4 → n < limit h v → limit h v ≡ limit (announced (Shift v n) h b) v + n
 unfolding announced single
@@ -55,23 +55,23 @@ shift-limit v n h b k l =
     at-four (λ j. limitAfter (Shift v n) j (limit h j)) v k in
     rw (e, eq-eqb v v refl) (omega arith)
 
-module _ (hs ss : List ℕ) (z : checkRefusal hs ss .number ≡ 0) where
+module _ (it : Recipe) (z : checkRefusal it .number ≡ 0) where
   -- what the places before a step announce, they announce in the end too
-  known-early : (i x : ℕ) → i < length ss → x < length hs + i
-      → headAt (announcedPlaces hs (take i ss)) x ≡ headAt (announcedPlaces hs ss) x
+  known-early : (i x : ℕ) → i < length (it .steps) → x < length (it .headers) + i
+      → headAt (announcedPlaces (upTo it i)) x ≡ headAt (announcedPlaces it) x
   unfolding announcedPlaces
   known-early i x l h =
-      let e : length (inputHeads hs) ≡ length hs = length-map hs headerOf in
-      ap (λ (k : List Header). headAt k x) (sym (chain-take announcedStep (inputHeads hs) ss i (omega arith)))
-      ∙ getD-take (length (inputHeads hs) + i) (chain announcedStep (inputHeads hs) ss) x noHeader (omega (arith, e))
+      let e : length (inputHeads (it .headers)) ≡ length (it .headers) = length-map (it .headers) headerOf in
+      ap (λ (k : List Header). headAt k x) (sym (chain-take (announcedStep (it .edition)) (inputHeads (it .headers)) (it .steps) i (omega arith)))
+      ∙ getD-take (length (inputHeads (it .headers)) + i) (chain (announcedStep (it .edition)) (inputHeads (it .headers)) (it .steps)) x noHeader (omega (arith, e))
 
   -- and its limit is its operand's, less n
-  step-lowers : (v i : ℕ) → v < 4 → i < length ss → shiftsIn v (getD ss i 0) ≡ true
-      → limitAt (announcedPlaces hs ss) v (stepOf (getD ss i 0) .a) ≡ limitAt (announcedPlaces hs ss) v (length hs + i) + stepOf (getD ss i 0) .n
+  step-lowers : (v i : ℕ) → v < 4 → i < length (it .steps) → shiftsIn v (getD (it .steps) i 0) ≡ true
+      → limitAt (announcedPlaces it) v (stepOf (getD (it .steps) i 0) .a) ≡ limitAt (announcedPlaces it) v (length (it .headers) + i) + stepOf (getD (it .steps) i 0) .n
   unfolding shiftsIn announcedStep
   step-lowers v i k l y =
-      let w : ℕ = getD ss i 0 in
-      let before = announcedPlaces hs (take i ss) in
+      let w : ℕ = getD (it .steps) i 0 in
+      let before = announcedPlaces (upTo it i) in
       let kind = and-left (lowers (stepOf w)) (eqb (stepOf w .variable) v) y in
       let s : Shifts w =
       record {
@@ -79,35 +79,36 @@ module _ (hs ss : List ℕ) (z : checkRefusal hs ss .number ≡ 0) where
         to = leb-true _ 9 (and-right (leb 7 (stepOf w .kind)) (leb (stepOf w .kind) 9) kind);
       } in
       let e : stepOf w .variable ≡ v = eqb-true _ _ (and-right (lowers (stepOf w)) (eqb (stepOf w .variable) v) y) in
-      let place : length hs + i - length hs ≡ i = omega arith in
-      let o : Operand (stepWord ss (length hs) (length hs + i)) (stepOf w .a) =
+      let place : length (it .headers) + i - length (it .headers) ≡ i = omega arith in
+      let o : Operand (stepWord (it .steps) (length (it .headers)) (length (it .headers) + i)) (stepOf w .a) =
       rw place (first (shift-uses v w y) refl) in
-      let a : headAt before (stepOf w .a) ≡ headAt (announcedPlaces hs ss) (stepOf w .a) =
-      known-early i (stepOf w .a) l (check-ordered hs ss z .before (length hs + i) (stepOf w .a) (omega arith) (omega arith) o) in
+      let a : headAt before (stepOf w .a) ≡ headAt (announcedPlaces it) (stepOf w .a) =
+      known-early i (stepOf w .a) l (check-ordered it z .before (length (it .headers) + i) (stepOf w .a) (omega arith) (omega arith) o) in
       let n : ℕ = stepOf w .n in
       let b : Header = headAt before (stepOf w .b) in
-      let f : familyOf (stepOf w) ≡ Shift v n =
-      shift-family (stepOf w) (stepOf w .kind) (s .from) (s .to) ∙ ap (λ (x : ℕ). Shift x n) e in
-      let h : headAt (announcedPlaces hs ss) (length hs + i) ≡ announced (Shift v n) (headAt before (stepOf w .a)) b =
-      announced-at hs ss i l ∙ ap (λ (x : Family). announced x (headAt before (stepOf w .a)) b) f in
-      let under : n < limit (headAt before (stepOf w .a)) v = rw e at (shift-below hs ss z i l s) in
+      let f : familyOf (it .edition) (stepOf w) ≡ Shift v n =
+      shift-family (it .edition) (stepOf w) (stepOf w .kind) (s .from) (s .to) ∙ ap (λ (x : ℕ). Shift x n) e in
+      let h : headAt (announcedPlaces it) (length (it .headers) + i) ≡ announced (Shift v n) (headAt before (stepOf w .a)) b =
+      announced-at it i l ∙ ap (λ (x : Family). announced x (headAt before (stepOf w .a)) b) f in
+      let under : n < limit (headAt before (stepOf w .a)) v = rw e at (shift-below it z i l s) in
       ap (λ (x : Header). limit x v) (sym a)
       ∙ (shift-limit v n (headAt before (stepOf w .a)) b k under ∙ ap (λ (x : Header). limit x v + n) (sym h))
 
-  pub check-lowers : (v : ℕ) → v < 4 → Lowers (announcedPlaces hs ss) v ss (length hs) (length hs + length ss)
+  pub check-lowers : (v : ℕ) → v < 4 → Lowers (announcedPlaces it) v (it .steps) (length (it .headers)) (length (it .headers) + length (it .steps))
   check-lowers v k =
       record {
         by = λ p a l z.
-            let e : length hs + (p - length hs) ≡ p = omega arith in
-            rw e at (step-lowers v (p - length hs) k (omega arith) z);
+            let e : length (it .headers) + (p - length (it .headers)) ≡ p = omega arith in
+            rw e at (step-lowers v (p - length (it .headers)) k (omega arith) z);
       }
 
 module _ (t : List ℕ) (z : sheetRefusal t .number ≡ 0) (v p : ℕ) (k : v < 4) (l : p < inputCount t + stepCount t) where
   abbrev known : List Header
-  known = announcedPlaces (sheetHeaders t) (sheetSteps t)
+  known = announcedPlaces (sheetRecipe t)
 
   sheet-lowers : Lowers known v (sheetSteps t) (inputCount t) (inputCount t + stepCount t)
-  sheet-lowers = rw (headers-many t, steps-many t) at (check-lowers (sheetHeaders t) (sheetSteps t) (check-none t z) v k)
+  unfolding sheetRecipe
+  sheet-lowers = rw (headers-many t, steps-many t) at (check-lowers (sheetRecipe t) (check-none t z) v k)
 
   -- the limit of the place named is the limit and all that shifts took off it on the way
   pub sheet-source : limitAt known v (decider known v (sheetSteps t) (inputCount t) p)

@@ -13,7 +13,7 @@ use Rattle.model_texts.specs.Full.{fulls}
 use Rattle.model_texts.specs.Report.{placeText, cutsText, endText, verdictText}
 use Rattle.model_recipes.specs.Recipe.{inputHeads, total}
 use Rattle.model_recipes.specs.Check.{checkRefusal}
-use Rattle.model_texts.specs.Sheet.{wordOn, sheetHeaders, coefficientCount, sheetCoefficients, sheetSteps}
+use Rattle.model_texts.specs.Sheet.{wordOn, sheetEdition, sheetHeaders, coefficientCount, sheetCoefficients, sheetSteps, sheetRecipe}
 use Rattle.model_texts.specs.Sheet.{readRefusal, ownRefusal, recipeRefusal, sheetRefusal, lastValue}
 use Rattle.model_faults.specs.Fault.{faultReport}
 use Rattle.model_figures.specs.Inputs.{inputsText}
@@ -82,24 +82,24 @@ module _ (t : List ℕ) where
         is = told-done asked e;
       }
 
--- what is said of limits, and the verdict, know no coefficient: sheets with equal headers and steps have the same
-pub words-decide : (t u : List ℕ) → sheetHeaders t ≡ sheetHeaders u → sheetSteps t ≡ sheetSteps u
+-- what is said of limits, and the verdict, know no coefficient: sheets with equal editions, headers and steps have the same
+pub words-decide : (t u : List ℕ) → sheetEdition t ≡ sheetEdition u → sheetHeaders t ≡ sheetHeaders u → sheetSteps t ≡ sheetSteps u
     → (limitsFirst t ≡ limitsFirst u) × (verdictThen t ≡ verdictThen u)
-unfolding limitsFirst verdictThen
-words-decide t u h s = (rw (h, s) refl, rw (h, s) refl)
+unfolding limitsFirst verdictThen sheetRecipe
+words-decide t u e h s = (rw (e, h, s) refl, rw (e, h, s) refl)
 
 -- the n coefficients on a sheet behind m headers
 abbrev pub coefficientsOf : List ℕ → ℕ → ℕ → List Float
 coefficientsOf t m n = table n (λ j. ofBits binary64 (wordOn t (1 + m + j)))
 
 module _ {t headers steps known : List ℕ} {pool : List Float} {s : Solved} (d : Solution t headers steps known pool s) (z : sheetRefusal t .number ≡ 0) where
-  solved-passed : Passed (sheetHeaders t) (sheetSteps t)
+  solved-passed : Passed (sheetRecipe t)
   unfolding sheetRefusal recipeRefusal
   solved-passed =
-      let a = or-none (checkRefusal (sheetHeaders t) (sheetSteps t)) _ (or-none (readRefusal t) _ z .1) in
-      let b = or-none (ownRefusal (sheetHeaders t) (sheetSteps t)) _ (a .1) in
-      passed (sheetHeaders t) (sheetSteps t)
-      (ap (λ (x : Refusal). x .number) (or-next (checkRefusal (sheetHeaders t) (sheetSteps t)) (ownRefusal (sheetHeaders t) (sheetSteps t)) (a .0)) ∙ b .0)
+      let a = or-none (checkRefusal (sheetRecipe t)) _ (or-none (readRefusal t) _ z .1) in
+      let b = or-none (ownRefusal (sheetRecipe t)) _ (a .1) in
+      passed (sheetRecipe t)
+      (ap (λ (x : Refusal). x .number) (or-next (checkRefusal (sheetRecipe t)) (ownRefusal (sheetRecipe t)) (a .0)) ∙ b .0)
 
   -- the inputs keep the rules
   pub solved-known : Known (inputHeads (take (s .inputs) headers))
@@ -107,14 +107,17 @@ module _ {t headers steps known : List ℕ} {pool : List Float} {s : Solved} (d 
   solved-known = rw (d .header-words) (good-known (opened-good (opened t (or-none (readRefusal t) _ z .0))))
 
   pub solved-few : length (take (s .inputs) headers) ≤ 64
+  unfolding sheetRecipe
   solved-few = omega (arith, ap length (d .header-words), solved-passed .accepts .sizes .few)
 
   -- n coefficients, as many as the inputs have
   module _ {n : ℕ} (e : n ≡ total (inputHeads (take (s .inputs) headers))) where
     pub given-few : n ≤ 2048
+    unfolding sheetRecipe
     given-few = omega (arith, e, ap (λ (l : List ℕ). total (inputHeads l)) (d .header-words), solved-passed .inputs)
 
     pub solved-held : Held (take (s .inputs) headers) n
+    unfolding sheetRecipe
     solved-held =
         record {
           known = solved-known;

@@ -12,10 +12,10 @@ use Rattle.model.specs.declared.Header.{Header}
 use Rattle.model_recipes.specs.declared.CheckAnswer.the-variants.{Accepted}
 use Rattle.model.specs.Header.{limit}
 use Rattle.model_recipes.specs.Steps.{stepOf}
-use Rattle.model_recipes.specs.Recipe.{headAt, inputHeads, announcedPlaces, announcedSteps, total, largest}
+use Rattle.model_recipes.specs.Recipe.{Recipe, upTo, headAt, inputHeads, announcedPlaces, announcedSteps, total, largest}
 use Rattle.model_recipes.specs.Check.{checkRefusal, checkBy, checkAnswer}
 use Rattle.model_recipes.specs.Reasons.{Shifts, StepReason, late-a, late-b, wrong-word, large-n, step}
-use Rattle.model_texts.specs.Sheet.{inputCount, stepCount, sheetHeaders, sheetSteps, recipeRefusal, readRefusal, sheetRefusal}
+use Rattle.model_texts.specs.Sheet.{inputCount, stepCount, sheetSteps, sheetRecipe, recipeRefusal, readRefusal, sheetRefusal}
 use Rattle.model_texts.specs.Trace.{stepWord, limitAt, decider, furthest}
 use Rattle.shape_words.specs.Rules.{ruled-at}
 use Rattle.recipes_kinds.specs.Known.{small-variable}
@@ -27,62 +27,65 @@ use Rattle.report_trace.specs.Laws.{Operand, first, second}
 use Rattle.report_trace.specs.Ends.{Ordered, Ends, decider-ends}
 use Rattle.report_trace.specs.Furthest.{Made, furthest-made, furthest-most}
 
-module _ (hs ss : List ℕ) (z : checkRefusal hs ss .number ≡ 0) where
-  accepted : checkAnswer hs ss ≡ Accepted (total (announcedSteps hs ss)) (largest (announcedSteps hs ss)) (total (inputHeads hs))
+module _ (it : Recipe) (z : checkRefusal it .number ≡ 0) where
+  accepted : checkAnswer it ≡ Accepted (total (announcedSteps it)) (largest (announcedSteps it)) (total (inputHeads (it .headers)))
   unfolding checkAnswer checkBy
-  accepted = rw (eq-eqb (checkRefusal hs ss .number) 0 z)
+  accepted = rw (eq-eqb (checkRefusal it .number) 0 z)
 
-  no-reason : (i n : ℕ) → i < length ss → StepReason (getD ss i 0) (announcedPlaces hs (take i ss)) n → ⊥
-  no-reason i n l x = check-exact hs ss .accepted _ _ _ accepted _ _ (step i n l (omega (arith, accepts hs ss z .sizes .fit)) x)
+  no-reason : (i n : ℕ) → i < length (it .steps) → StepReason (it .edition) (getD (it .steps) i 0) (announcedPlaces (upTo it i)) n → ⊥
+  no-reason i n l x = check-exact it .accepted _ _ _ accepted _ _ (step i n l (omega (arith, accepts it z .sizes .fit)) x)
 
   -- no operand names a later place: that would be a reason to refuse
-  not-late : (i x : ℕ) → i < length ss → Operand (getD ss i 0) x → length hs + i ≤ x → ⊥
+  not-late : (i x : ℕ) → i < length (it .steps) → Operand (getD (it .steps) i 0) x → length (it .headers) + i ≤ x → ⊥
   unfolding announcedPlaces
-  not-late i x l (first u e) h = no-reason i 7 l (wrong-word (late-a u (omega (arith, length-known hs ss i l, e))))
-  not-late i x l (second u e) h = no-reason i 7 l (wrong-word (late-b u (omega (arith, length-known hs ss i l, e))))
+  not-late i x l (first u e) h = no-reason i 7 l (wrong-word (late-a u (omega (arith, length-known it i l, e))))
+  not-late i x l (second u e) h = no-reason i 7 l (wrong-word (late-b u (omega (arith, length-known it i l, e))))
 
-  pub check-ordered : Ordered ss (length hs) (length hs + length ss)
+  pub check-ordered : Ordered (it .steps) (length (it .headers)) (length (it .headers) + length (it .steps))
   check-ordered =
       record {
         before =
             λ p x a l o. decide (ltb x p) (λ t. ltb-true _ _ t)
-            (λ t. absurd (not-late (p - length hs) x (omega arith) o (omega (arith, ltb-false x p t))));
+            (λ t. absurd (not-late (p - length (it .headers)) x (omega arith) o (omega (arith, ltb-false x p t))));
       }
 
   -- n of a shift is below a limit
-  pub shift-below : (i : ℕ) → i < length ss → Shifts (getD ss i 0)
-      → stepOf (getD ss i 0) .n < limit (headAt (announcedPlaces hs (take i ss)) (stepOf (getD ss i 0) .a)) (stepOf (getD ss i 0) .variable)
+  pub shift-below : (i : ℕ) → i < length (it .steps) → Shifts (getD (it .steps) i 0)
+      → stepOf (getD (it .steps) i 0) .n < limit (headAt (announcedPlaces (upTo it i)) (stepOf (getD (it .steps) i 0) .a)) (stepOf (getD (it .steps) i 0) .variable)
   shift-below i l s =
-      let w : ℕ = getD ss i 0 in
-      let most = limit (headAt (announcedPlaces hs (take i ss)) (stepOf w .a)) (stepOf w .variable) in
+      let w : ℕ = getD (it .steps) i 0 in
+      let most = limit (headAt (announcedPlaces (upTo it i)) (stepOf w .a)) (stepOf w .variable) in
       decide (ltb (stepOf w .n) most)
       (λ t. ltb-true (stepOf w .n) most t)
       (λ t. absurd (no-reason i 4 l (large-n (λ x. no-reason i 7 l (wrong-word x)) s (ltb-false _ _ t))))
 
-  pub shift-short : (i : ℕ) → i < length ss → Shifts (getD ss i 0) → stepOf (getD ss i 0) .n < 64
+  pub shift-short : (i : ℕ) → i < length (it .steps) → Shifts (getD (it .steps) i 0) → stepOf (getD (it .steps) i 0) .n < 64
   shift-short i l s =
-      let w : ℕ = getD ss i 0 in
-      let known = places-known hs (take i ss) (accepts hs ss z .inputs) .at (stepOf w .a) .rules in
+      let w : ℕ = getD (it .steps) i 0 in
+      let known = places-known (upTo it i) (accepts it z .inputs) .at (stepOf w .a) .rules in
       omega (arith, shift-below i l s, ruled-at known (stepOf w .variable) (small-variable w) .most)
 
 module _ (t : List ℕ) (z : sheetRefusal t .number ≡ 0) where
-  pub check-none : checkRefusal (sheetHeaders t) (sheetSteps t) .number ≡ 0
+  pub check-none : checkRefusal (sheetRecipe t) .number ≡ 0
   unfolding sheetRefusal recipeRefusal
-  check-none = or-none (checkRefusal (sheetHeaders t) (sheetSteps t)) _ (or-none (readRefusal t) _ z .1) .0
+  check-none = or-none (checkRefusal (sheetRecipe t)) _ (or-none (readRefusal t) _ z .1) .0
 
   pub sheet-ordered : Ordered (sheetSteps t) (inputCount t) (inputCount t + stepCount t)
-  sheet-ordered = rw (headers-many t, steps-many t) at (check-ordered (sheetHeaders t) (sheetSteps t) check-none)
+  unfolding sheetRecipe
+  sheet-ordered = rw (headers-many t, steps-many t) at (check-ordered (sheetRecipe t) check-none)
 
   pub sheet-short : (p : ℕ) → inputCount t ≤ p → p < inputCount t + stepCount t
       → Shifts (stepWord (sheetSteps t) (inputCount t) p) → stepOf (stepWord (sheetSteps t) (inputCount t) p) .n < 64
-  sheet-short p a l s = shift-short (sheetHeaders t) (sheetSteps t) check-none (p - inputCount t) (omega (arith, steps-many t)) s
+  unfolding sheetRecipe
+  sheet-short p a l s = shift-short (sheetRecipe t) check-none (p - inputCount t) (omega (arith, steps-many t)) s
 
   pub few : inputCount t + stepCount t ≤ 64
-  few = omega (arith, accepts (sheetHeaders t) (sheetSteps t) check-none .sizes .fit, headers-many t, steps-many t)
+  unfolding sheetRecipe
+  few = omega (arith, accepts (sheetRecipe t) check-none .sizes .fit, headers-many t, steps-many t)
 
   module _ (v p : ℕ) (l : p < inputCount t + stepCount t) where
     abbrev known : List Header
-    known = announcedPlaces (sheetHeaders t) (sheetSteps t)
+    known = announcedPlaces (sheetRecipe t)
 
     -- the place named for a limit is an input, or a step none of whose operands has the limit
     pub sheet-decider : Ends known v (sheetSteps t) (inputCount t) (decider known v (sheetSteps t) (inputCount t) p)
