@@ -25,7 +25,7 @@ module _ (t : List ℕ) where
   long-front l =
       let n : readRefusal t .number ≡ 0 → ⊥ = λ z. omega (arith, read-length t z) in
       let m : readRefusal u .number ≡ 0 → ⊥ = λ z. omega (arith, read-length u z, length-take readAtMost t) in
-      told-refused u (rw (read-is u m) m) ∙ (fault-front t ∙ sym (told-refused t (rw (read-is t n) n)))
+      told-refused u (read-is u m) m ∙ (fault-front t ∙ sym (told-refused t (read-is t n) n))
 
   pub told-front : toldText (take readAtMost t) ≡ toldText t
   told-front = decide (leb (length t) readAtMost) (λ a. ap toldText (take-all readAtMost t (leb-true _ _ a))) (λ a. long-front (leb-false _ _ a))

@@ -157,7 +157,7 @@ told-kept t =
     decide (isNone (sheetRefusal t))
     (λ a. done-kept t (eqb-true _ _ a))
     (λ a.
-    rw (told-refused t (eqb-false (sheetRefusal t .number) 0 a)) (record { most = omega (arith, fault-length t); keeps = fault-columns t }))
+    rw (told-refused t refl (eqb-false (sheetRefusal t .number) 0 a)) (record { most = omega (arith, fault-length t); keeps = fault-columns t }))
 
 module _ (t : List ℕ) where
   pub told-columns : inColumns 0 (toldText t) ≡ true

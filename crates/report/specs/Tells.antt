@@ -41,9 +41,9 @@ pub record Forecast (hs : List ℕ) (n c w x : ℕ) : Type 0 where
   pub full : x ≡ stored (headerOf w)
 
 module _ (t : List ℕ) where
-  pub told-refused : (sheetRefusal t .number ≡ 0 → ⊥) → toldText t ≡ faultReport t
+  pub told-refused : {q : Refusal} → sheetRefusal t ≡ q → (q .number ≡ 0 → ⊥) → toldText t ≡ faultReport t
   unfolding toldText
-  told-refused z = rw (ne-eqb (sheetRefusal t .number) 0 z)
+  told-refused {q} e z = rw (e, ne-eqb (q .number) 0 z)
 
   pub told-done : sheetRefusal t .number ≡ 0
       → toldText t
