@@ -10,7 +10,7 @@ how many sheets there were and the first difference, if any. tests/limits starts
 import random, struct, subprocess, sys
 
 from decimals import printed
-from refused import damaged, sentence
+from refused import damaged, sentence, shape
 
 NAMES = ["constant", "negate", "add", "subtract", "multiply", "divide", "power", "derivative", "taylor_expansion_of_coeff", "shift_down", "subst_var"]
 USES = ["n", "a", "ab", "ab", "ab", "ab", "an", "avn", "avn", "avn", "abv"]
@@ -419,7 +419,7 @@ def main():
     rng, count = random.Random(int(given[0])), int(given[1])
     limits, recipe = given[2:between], given[between + 1 :]
     run = lambda program, text: subprocess.run(program, input=text.encode("latin-1"), stdout=subprocess.PIPE).stdout.decode()
-    kinds = {"refused": 0, "WHOLE": 0, "CUT": 0}
+    kinds, sentences = {"refused": 0, "WHOLE": 0, "CUT": 0}, set()
     for i in range(count):
         text = sheet(rng)
         expected, found = told(text, run(recipe, text)), run(limits, text)
@@ -431,7 +431,10 @@ def main():
             return 1
         for k in kinds:
             kinds[k] += k in found
-    print("%d sheets, 0 differences (%s)" % (count, ", ".join("%s %d" % x for x in kinds.items())))
+        if found.startswith("refused"):
+            sentences.add(shape(found))
+    said = ", ".join("%s %d" % x for x in kinds.items())
+    print("%d sheets, 0 differences (%s; %d sentences of refused ones)" % (count, said, len(sentences)))
     return 0
 
 

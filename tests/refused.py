@@ -150,6 +150,11 @@ def sentence(data, number, place, variable, cause, announce):
     return line(place) + said + "\n"
 
 
+def shape(said):
+    """A sentence without its numbers, and without a byte that it shows: how many there are of these says what was tried."""
+    return re.sub(r"[0-9]+", "0", re.sub("'.' in", "'x' in", said.split("\n", 1)[1]))
+
+
 def damaged(rng, words, pack):
     """A sheet that is refused, or not, by one damage: its bytes. `words` is a sheet's, `pack` makes a header word."""
     inputs, count = words[0] >> 56, words[0] >> 48 & 255

@@ -45,10 +45,10 @@ past-is limits v =
     ∙ (+ℤ-comm (s +ℤ pastOf limits v) (negℤ s) ∙ neg-+ℤ-cancel s (pastOf limits v))
 
 -- where what is shown sums to the exact part below the limits, the difference printed is what lies past them
-module _ (hs ss : List ℕ) (xs : List Float) (cs : ℕ → ℕ → ℤ) (z : Given hs ss xs cs) where
-  pub past-whole : (limits : List ℕ) (p : ℕ) {shown : Float} → p < size hs ss → 64 ≤ barAt hs ss xs cs p
-      → Whole shown (shownOf limits (exactAt hs ss xs cs p)) → natAbs (pastOf limits (exactAt hs ss xs cs p)) ≤ 2 ^ 53
-      → Whole (sub binary64 (amountAt hs ss xs cs p) shown) (pastOf limits (exactAt hs ss xs cs p))
+module _ (it : Recipe) (xs : List Float) (cs : ℕ → ℕ → ℤ) (z : Given it xs cs) where
+  pub past-whole : (limits : List ℕ) (p : ℕ) {shown : Float} → p < size it → 64 ≤ barAt it xs cs p
+      → Whole shown (shownOf limits (exactAt it xs cs p)) → natAbs (pastOf limits (exactAt it xs cs p)) ≤ 2 ^ 53
+      → Whole (sub binary64 (amountAt it xs cs p) shown) (pastOf limits (exactAt it xs cs p))
   past-whole limits p l o w h =
-      let e = past-is limits (exactAt hs ss xs cs p) in
-      subst (Whole _) e (whole-sub (total-whole hs ss xs cs z p l o) w (subst (λ (t : ℤ). natAbs t ≤ 2 ^ 53) (sym e) h))
+      let e = past-is limits (exactAt it xs cs p) in
+      subst (Whole _) e (whole-sub (total-whole it xs cs z p l o) w (subst (λ (t : ℤ). natAbs t ≤ 2 ^ 53) (sym e) h))

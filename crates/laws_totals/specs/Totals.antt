@@ -23,6 +23,7 @@ use Rattle.model.specs.Readings.{sumTo}
 use Rattle.model.specs.Constructed.{wholeF}
 use Rattle.model.specs.Word.{headerOf}
 use Rattle.model_recipes.specs.declared.Step.{Step}
+use Rattle.model_recipes.specs.Recipe.{Recipe}
 use Rattle.model_recipes.specs.Check.{checkRefusal}
 use Rattle.model_recipes.specs.Steps.{stepOf, rows, usesOf}
 use Rattle.model_textbook.specs.Sum.{sumN}
@@ -178,99 +179,99 @@ module _ (s : Step) (a b : Value) (x y : Float) (p i j : ℕ) (small : p < 64) (
   unfolding barOf amountOf
   step-fine = row-fine (s .kind)
 
--- ---- a recipe: hs its inputs' header words, ss its step words, xs its inputs' coefficients, and cs the whole numbers
+-- ---- a recipe: xs its inputs' coefficients, and cs the whole numbers
 -- that they are
 
-module _ (hs ss : List ℕ) (xs : List Float) (cs : ℕ → ℕ → ℤ) where
+module _ (it : Recipe) (xs : List Float) (cs : ℕ → ℕ → ℤ) where
   -- the exact value of the place p with no limits anywhere, what is found for its total, and what stands in the way
   abbrev pub exactAt : ℕ → Value
-  exactAt = valueAt (unlimited hs cs ss)
+  exactAt = valueAt (unlimited it cs)
 
   abbrev pub amountAt : ℕ → Float
-  amountAt p = getD (amounts hs xs ss) p nan
+  amountAt p = getD (amounts (it .headers) xs (it .steps)) p nan
 
   abbrev pub barAt : ℕ → ℕ
-  barAt p = getD (bars hs ss) p 64
+  barAt p = getD (bars (it .headers) (it .steps)) p 64
 
   pub record Given : Type 0 where
-    pub accepted : checkRefusal hs ss .number ≡ 0
-    pub wholes : (i k : ℕ) → i < length hs → k < stored (inputHeader hs xs i) → Whole (getD (inputCoefficients hs xs i) k nan) (cs i k)
-    pub sizes : (i : ℕ) → i < length hs → sumN (λ k. natAbs (cs i k)) (stored (inputHeader hs xs i)) 0 ≤ 2 ^ 53
-    pub totals : (p : ℕ) → p < size hs ss → 64 ≤ barAt p → natAbs (totalOf (exactAt p)) ≤ 2 ^ 53
+    pub accepted : checkRefusal it .number ≡ 0
+    pub wholes : (i k : ℕ) → i < length (it .headers) → k < stored (inputHeader (it .headers) xs i) → Whole (getD (inputCoefficients (it .headers) xs i) k nan) (cs i k)
+    pub sizes : (i : ℕ) → i < length (it .headers) → sumN (λ k. natAbs (cs i k)) (stored (inputHeader (it .headers) xs i)) 0 ≤ 2 ^ 53
+    pub totals : (p : ℕ) → p < size it → 64 ≤ barAt p → natAbs (totalOf (exactAt p)) ≤ 2 ^ 53
 
-  many-amounts : length (table (length hs) (inputSum hs xs)) ≡ length hs
-  many-amounts = length-table (inputSum hs xs) (length hs)
+  many-amounts : length (table (length (it .headers)) (inputSum (it .headers) xs)) ≡ length (it .headers)
+  many-amounts = length-table (inputSum (it .headers) xs) (length (it .headers))
 
   abbrev inputBars : List ℕ
-  inputBars = table (length hs) (λ i. 64)
+  inputBars = table (length (it .headers)) (λ i. 64)
 
-  many-bars : length inputBars ≡ length hs
-  many-bars = length-table (λ i. 64) (length hs)
+  many-bars : length inputBars ≡ length (it .headers)
+  many-bars = length-table (λ i. 64) (length (it .headers))
 
-  amount-input : (p : ℕ) → p < length hs → amountAt p ≡ inputSum hs xs p
+  amount-input : (p : ℕ) → p < length (it .headers) → amountAt p ≡ inputSum (it .headers) xs p
   unfolding amounts
   amount-input p l =
-      chain-first amountStep nan (table (length hs) (inputSum hs xs)) ss p (omega (arith, many-amounts))
-      ∙ table-at nan (inputSum hs xs) (length hs) p l
+      chain-first amountStep nan (table (length (it .headers)) (inputSum (it .headers) xs)) (it .steps) p (omega (arith, many-amounts))
+      ∙ table-at nan (inputSum (it .headers) xs) (length (it .headers)) p l
 
-  amount-step : (p : ℕ) → length hs ≤ p → p < size hs ss → amountAt p ≡ amountStep (word hs ss p) (take p (amounts hs xs ss))
+  amount-step : (p : ℕ) → length (it .headers) ≤ p → p < size it → amountAt p ≡ amountStep (word it p) (take p (amounts (it .headers) xs (it .steps)))
   unfolding amounts
   amount-step p i l =
       rw many-amounts at
-      (chain-step amountStep nan (table (length hs) (inputSum hs xs)) ss p (omega (arith, many-amounts)) (omega (arith, many-amounts)))
+      (chain-step amountStep nan (table (length (it .headers)) (inputSum (it .headers) xs)) (it .steps) p (omega (arith, many-amounts)) (omega (arith, many-amounts)))
 
-  bar-step : (p : ℕ) → length hs ≤ p → p < size hs ss → barAt p ≡ barStep (word hs ss p) (take p (bars hs ss))
+  bar-step : (p : ℕ) → length (it .headers) ≤ p → p < size it → barAt p ≡ barStep (word it p) (take p (bars (it .headers) (it .steps)))
   unfolding bars
   bar-step p i l =
       rw many-bars at
-      (chain-step barStep 64 inputBars ss p (omega (arith, many-bars)) (omega (arith, many-bars)))
+      (chain-step barStep 64 inputBars (it .steps) p (omega (arith, many-bars)) (omega (arith, many-bars)))
 
-  bars-many : length (bars hs ss) ≡ size hs ss
+  bars-many : length (bars (it .headers) (it .steps)) ≡ size it
   unfolding bars
-  bars-many = length-chain barStep inputBars ss ∙ rw many-bars refl
+  bars-many = length-chain barStep inputBars (it .steps) ∙ rw many-bars refl
 
   module _ (z : Given) where
-    input-fine : (p : ℕ) → p < length hs → Fine (exactAt p) (amountAt p)
+    input-fine : (p : ℕ) → p < length (it .headers) → Fine (exactAt p) (amountAt p)
     unfolding inputValue headerOf inputSum sumTo
     input-fine p l =
-        let h : Header = headerOf (getD hs p 0) in
-        let e : exactAt p ≡ inputValue (getD hs p 0) (cs p) = unlimited-input hs ss cs p l in
-        let k : head hs ss p ≡ h = head-input hs ss p l in
-        let g : (w : ℕ) → w < 4 → GoodVar (h .vars) w (limit h w) (len h w) = λ w m. rw k at (good hs ss (z .accepted) p w m) in
-        let w : Whole (sumTo (inputCoefficients hs xs p) (stored h)) (totalOf (inputValue (getD hs p 0) (cs p))) =
+        let h : Header = headerOf (getD (it .headers) p 0) in
+        let e : exactAt p ≡ inputValue (getD (it .headers) p 0) (cs p) = unlimited-input it cs p l in
+        let k : head it p ≡ h = head-input it p l in
+        let g : (w : ℕ) → w < 4 → GoodVar (h .vars) w (limit h w) (len h w) = λ w m. rw k at (good it (z .accepted) p w m) in
+        let w : Whole (sumTo (inputCoefficients (it .headers) xs p) (stored h)) (totalOf (inputValue (getD (it .headers) p 0) (cs p))) =
         subst (Whole _) (sym (total-stored (h .lengths) refl (cs p)))
-        (whole-list (inputCoefficients hs xs p) (cs p) (stored h) (λ i u. z .wholes p i l u) (z .sizes p l)) in
+        (whole-list (inputCoefficients (it .headers) xs p) (cs p) (stored h) (λ i u. z .wholes p i l u) (z .sizes p l)) in
         record {
           bounded = rw e (bounds-stored (h .lengths) (cs p) (λ w m. g w m .pos));
           four = rw e refl;
           whole = rw (e, amount-input p l) w;
         }
 
-    module _ (p : ℕ) (i : length hs ≤ p) (l : p < size hs ss)
-        (of-a : step hs ss p .a < p → 64 ≤ barAt (step hs ss p .a) → Fine (exactAt (step hs ss p .a)) (amountAt (step hs ss p .a)))
-        (of-b : step hs ss p .b < p → 64 ≤ barAt (step hs ss p .b) → Fine (exactAt (step hs ss p .b)) (amountAt (step hs ss p .b))) where
+    module _ (p : ℕ) (i : length (it .headers) ≤ p) (l : p < size it)
+        (of-a : step it p .a < p → 64 ≤ barAt (step it p .a) → Fine (exactAt (step it p .a)) (amountAt (step it p .a)))
+        (of-b : step it p .b < p → 64 ≤ barAt (step it p .b) → Fine (exactAt (step it p .b)) (amountAt (step it p .b))) where
       abbrev s : Step
-      s = step hs ss p
+      s = step it p
 
       -- an operand before the place, read off the places before it
       operand : (q : ℕ) → q < p → (64 ≤ barAt q → Fine (exactAt q) (amountAt q))
-          → 64 ≤ getD (take p (bars hs ss)) q 64 → Fine (valueAt (take p (unlimited hs cs ss)) q) (getD (take p (amounts hs xs ss)) q nan)
+          → 64 ≤ getD (take p (bars (it .headers) (it .steps))) q 64 → Fine (valueAt (take p (unlimited it cs)) q) (getD (take p (amounts (it .headers) xs (it .steps))) q nan)
       operand q u f o =
-          rw (getD-take p (unlimited hs cs ss) q noValue u, getD-take p (amounts hs xs ss) q nan u)
-          (f (rw (getD-take p (bars hs ss) q 64 u) at o))
+          rw (getD-take p (unlimited it cs) q noValue u, getD-take p (amounts (it .headers) xs (it .steps)) q nan u)
+          (f (rw (getD-take p (bars (it .headers) (it .steps)) q 64 u) at o))
 
-      result-is : exactAt p ≡ resultOf s (valueAt (take p (unlimited hs cs ss)) (s .a)) (valueAt (take p (unlimited hs cs ss)) (s .b))
+      result-is : exactAt p ≡ resultOf s (valueAt (take p (unlimited it cs)) (s .a)) (valueAt (take p (unlimited it cs)) (s .b))
       unfolding stepResult
-      result-is = unlimited-step hs ss cs p i l
+      result-is = unlimited-step it cs p i l
 
-      bar-is : barAt p ≡ barOf s p (getD (take p (bars hs ss)) (s .a) 64) (getD (take p (bars hs ss)) (s .b) 64)
+      bar-is : barAt p ≡ barOf s p (getD (take p (bars (it .headers) (it .steps))) (s .a) 64) (getD (take p (bars (it .headers) (it .steps))) (s .b) 64)
       unfolding barStep
       bar-is =
-          let e : length (take p (bars hs ss)) ≡ p = length-take-le p (bars hs ss) (omega (arith, bars-many)) in
+          let e : length (take p (bars (it .headers) (it .steps))) ≡ p = length-take-le p (bars (it .headers) (it .steps)) (omega (arith, bars-many)) in
           bar-step p i l
-          ∙ ap (λ (n : ℕ). barOf s n (getD (take p (bars hs ss)) (s .a) 64) (getD (take p (bars hs ss)) (s .b) 64)) e
+          ∙ ap (λ (n : ℕ). barOf s n (getD (take p (bars (it .headers) (it .steps))) (s .a) 64) (getD (take p (bars (it .headers) (it .steps))) (s .b) 64)) e
 
-      amount-is : amountAt p ≡ amountOf s (getD (take p (amounts hs xs ss)) (s .a) nan) (getD (take p (amounts hs xs ss)) (s .b) nan)
+      amount-is : amountAt p ≡ amountOf s (getD (take p (amounts (it .headers) xs (it .steps))) (s .a) nan) (getD (take p (amounts (it .headers) xs (it .steps))) (s .b) nan)
       unfolding amountStep
       amount-is = amount-step p i l
 
@@ -280,28 +281,28 @@ module _ (hs ss : List ℕ) (xs : List Float) (cs : ℕ → ℕ → ℤ) where
 
       place-fine : 64 ≤ barAt p → Fine (exactAt p) (amountAt p)
       place-fine o =
-          let order = accepted-ordered hs ss (z .accepted) in
+          let order = accepted-ordered it (z .accepted) in
           rw (result-is, amount-is)
-          (step-fine s _ _ _ _ p _ _ (omega (arith, accepted-few hs ss (z .accepted))) n-small (small-variable (word hs ss p))
+          (step-fine s _ _ _ _ p _ _ (omega (arith, accepted-few it (z .accepted))) n-small (small-variable (word it p))
           (rw bar-is at o)
           (λ u. let v = order .first p i l u in operand (s .a) v (of-a v))
           (λ u. let v = order .second p i l u in operand (s .b) v (of-b v))
           (rw result-is at (z .totals p l o)))
 
-    below : (n p : ℕ) → p < n → p < size hs ss → 64 ≤ barAt p → Fine (exactAt p) (amountAt p)
+    below : (n p : ℕ) → p < n → p < size it → 64 ≤ barAt p → Fine (exactAt p) (amountAt p)
     below zero p u l o = absurd (omega arith)
     below (suc n) p u l o =
-        decide (ltb p (length hs))
+        decide (ltb p (length (it .headers)))
         (λ t. input-fine p (ltb-true _ _ t))
         (λ t.
-        place-fine p (ltb-false p (length hs) t) l (λ v. below n (step hs ss p .a) (omega arith) (omega arith))
-        (λ v. below n (step hs ss p .b) (omega arith) (omega arith)) o)
+        place-fine p (ltb-false p (length (it .headers)) t) l (λ v. below n (step it p .a) (omega arith) (omega arith))
+        (λ v. below n (step it p .b) (omega arith) (omega arith)) o)
 
     -- the number found is the sum over all indices
-    pub total-whole : (p : ℕ) → p < size hs ss → 64 ≤ barAt p → Whole (amountAt p) (totalOf (exactAt p))
+    pub total-whole : (p : ℕ) → p < size it → 64 ≤ barAt p → Whole (amountAt p) (totalOf (exactAt p))
     total-whole p l o = below (suc p) p (omega arith) l o .whole
 
     -- of the answer
-    pub answer-whole : 64 ≤ answerBar hs ss → Whole (answerAmount hs xs ss) (totalOf (exactAt (lastPlace hs ss)))
+    pub answer-whole : 64 ≤ answerBar (it .headers) (it .steps) → Whole (answerAmount (it .headers) xs (it .steps)) (totalOf (exactAt (lastPlace (it .headers) (it .steps))))
     unfolding answerBar answerAmount
-    answer-whole o = total-whole (lastPlace hs ss) (omega (arith, accepts hs ss (z .accepted) .sizes .some)) o
+    answer-whole o = total-whole (lastPlace (it .headers) (it .steps)) (omega (arith, accepts it (z .accepted) .sizes .some)) o

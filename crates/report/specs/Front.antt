@@ -26,7 +26,7 @@ module _ (t : List ℕ) where
   long-front asked l =
       let n : readRefusal t .number ≡ 0 → ⊥ = λ z. omega (arith, read-length t z) in
       let m : readRefusal u .number ≡ 0 → ⊥ = λ z. omega (arith, read-length u z, length-take readAtMost t) in
-      told-refused u asked (rw (read-is u m) m) ∙ (fault-front t ∙ sym (told-refused t asked (rw (read-is t n) n)))
+      told-refused u asked (read-is u m) m ∙ (fault-front t ∙ sym (told-refused t asked (read-is t n) n))
 
   pub told-front : (asked : Asked) → toldText (take readAtMost t) asked ≡ toldText t asked
   told-front asked =

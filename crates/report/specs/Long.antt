@@ -154,7 +154,7 @@ told-kept t asked =
     decide (isNone (sheetRefusal t))
     (λ a. done-kept t (eqb-true _ _ a) asked)
     (λ a.
-    rw (told-refused t asked (eqb-false (sheetRefusal t .number) 0 a)) (record { most = omega (arith, fault-length t); keeps = fault-columns t }))
+    rw (told-refused t asked refl (eqb-false (sheetRefusal t .number) 0 a)) (record { most = omega (arith, fault-length t); keeps = fault-columns t }))
 
 module _ (t : List ℕ) (asked : Asked) where
   pub told-columns : inColumns 0 (toldText t asked) ≡ true

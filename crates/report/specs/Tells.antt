@@ -33,9 +33,9 @@ use Rattle.report_totals.specs.Forecast.{Forecast}
 use Rattle.report.specs.Before.{place-told, cuts-told, end-told}
 
 module _ (t : List ℕ) where
-  pub told-refused : (asked : Asked) → (sheetRefusal t .number ≡ 0 → ⊥) → toldText t asked ≡ faultReport t
+  pub told-refused : (asked : Asked) {q : Refusal} → sheetRefusal t ≡ q → (q .number ≡ 0 → ⊥) → toldText t asked ≡ faultReport t
   unfolding toldText
-  told-refused asked z = rw (ne-eqb (sheetRefusal t .number) 0 z)
+  told-refused asked {q} e z = rw (e, ne-eqb (q .number) 0 z)
 
   pub told-done : (asked : Asked) → sheetRefusal t .number ≡ 0
       → toldText t asked

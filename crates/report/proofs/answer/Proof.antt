@@ -13,7 +13,7 @@ returns : tie.Need-returns
 returns c =
     let c4 = c .before .before .before .before in
     let c11 = c4 .before .before .before .before .before .before .before in
-    rw (told-refused _ _ (rw (← c11 .solve .ensures .refusal) (c4 .if1 .taken))) (c .before .before .put-refusal-report .ensures [] _
+    rw (told-refused _ _ (sym (c11 .solve .ensures .refusal)) (c4 .if1 .taken)) (c .before .before .put-refusal-report .ensures [] _
     (printed-none _))
 
 add-n : tie.Need-add-n
