@@ -27,7 +27,7 @@ module _ (it : Recipe) where
   head-input p l = chain-first (announcedStep (it .edition)) noHeader (inputHeads (it .headers)) (it .steps) p (omega (arith, many-heads)) ∙ head-at (it .headers) p
 
   pub head-step : (p : ℕ) → length (it .headers) ≤ p → p < size it
-      → head it p ≡ announcedStep (word it p) (take p (known it))
+      → head it p ≡ announcedStep (it .edition) (word it p) (take p (known it))
   unfolding announcedPlaces
   head-step p i l =
       rw many-heads at

@@ -113,11 +113,11 @@ module _ (it : Recipe) (z : checkRefusal it .number ≡ 0) where
     -- it is no power, so that its edition does not matter
     in-edition : (f : Family) → familyOf 0 (step it p) ≡ f → ((n : ℕ) → Power n ≡ f → ⊥) → familyOf (it .edition) (step it p) ≡ f
     unfolding families
-    in-edition f k no =
+    in-edition f k other =
         decide (idleStep (it .edition) (step it p))
         (λ t.
         let six : step it p .kind ≡ 6 = eqb-true _ _ (and-left (eqb (step it p .kind) 6) (idle (it .edition) (step it p .n)) t) in
-        absurd (no (step it p .n) (rw six at k)))
+        absurd (other (step it p .n) (rw six at k)))
         (λ t. same-family (it .edition) (step it p) t ∙ k)
 
     pub negation-fits : familyOf 0 (step it p) ≡ Same → out it p ≡ false
