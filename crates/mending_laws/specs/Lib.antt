@@ -1,0 +1,4 @@
+pub mod Plain
+pub mod Bits
+pub mod Unchanged
+pub mod Twice
