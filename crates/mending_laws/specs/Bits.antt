@@ -122,63 +122,75 @@ module _ (w : ℕ) where
 
 -- ---- no bit is ever set
 
--- one block of m bits more
-block : (m : ℕ) {a b r s : ℕ} → bitAnd a b ≡ a → r < 2 ^ m → s < 2 ^ m → bitAnd r s ≡ r → bitAnd (a * 2 ^ m + r) (b * 2 ^ m + s) ≡ a * 2 ^ m + r
-block m {a} {b} {r} {s} e f g h = and-block m a b r s f g ∙ rw (e, h)
+-- every bit of a is one of b's
+record Inside (a b : ℕ) : Type 0 where
+  pub is : bitAnd a b ≡ a
 
-used-in : (u : Bool) (x : ℕ) → bitAnd (ifUsed u x) x ≡ ifUsed u x
-used-in true x = and-self x
-used-in false x = and-zero-l x
+-- one block of m bits more
+block : (m : ℕ) {a b r s : ℕ} → Inside a b → r < 2 ^ m → s < 2 ^ m → Inside r s → Inside (a * 2 ^ m + r) (b * 2 ^ m + s)
+block m {a} {b} {r} {s} e f g h = record { is = and-block m a b r s f g ∙ rw (e .is, h .is) }
+
+itself : (x : ℕ) → Inside x x
+itself x = record { is = and-self x }
+
+nothing : (x : ℕ) → Inside 0 x
+nothing x = record { is = and-zero-l x }
+
+used-in : (u : Bool) (x : ℕ) → Inside (ifUsed u x) x
+used-in true x = itself x
+used-in false x = nothing x
 
 cleared-in : (m w : ℕ) → 0 < 2 ^ m → bitAnd (without m w) w ≡ without m w
 cleared-in m w p =
     let z : without m w + 0 ≡ without m w = omega arith in
     let l : w % 2 ^ m < 2 ^ m = mod-lt w p in
+    let b = block m (itself (w / 2 ^ m)) p l (nothing (w % 2 ^ m)) in
     ap (λ (x : ℕ). bitAnd (without m w) x) (sym (split w m))
-    ∙ (ap (λ (x : ℕ). bitAnd x (w / 2 ^ m * 2 ^ m + w % 2 ^ m)) (sym z)
-    ∙ (block m {a = w / 2 ^ m} {b = w / 2 ^ m} {r = 0} {s = w % 2 ^ m} (and-self (w / 2 ^ m)) p l (and-zero-l (w % 2 ^ m)) ∙ z))
+    ∙ (ap (λ (x : ℕ). bitAnd x (w / 2 ^ m * 2 ^ m + w % 2 ^ m)) (sym z) ∙ (b .is ∙ z))
 
-step-in : (w : ℕ) → w < 2 ^ 64 → bitAnd (mendedStep w) w ≡ mendedStep w
-step-in w h =
-    decide (uses w .kind)
-    (λ e. ap (λ (x : ℕ). bitAnd x w) (mended-is w e) ∙ (fields-in ∙ sym (mended-is w e)))
-    (λ e. ap (λ (x : ℕ). bitAnd x w) (refused-keeps w e) ∙ (and-self w ∙ sym (refused-keeps w e)))
-  where
-    fields-in : bitAnd (wordOfStep (kept w)) w ≡ wordOfStep (kept w)
-    unfolding wordOfStep stepFields
-    fields-in =
-        let s : Step = stepOf w in
-        let u : Uses = uses w in
-        let f = step-fields w in
-        let g = kept-fields w in
-        let ka = block 6 (and-self (s .kind)) (g .a) (f .a) (used-in (u .a) (s .a)) in
-        let kb = block 6 ka (g .b) (f .b) (used-in (u .b) (s .b)) in
-        let kv = block 2 kb (g .variable) (f .variable) (used-in (u .variable) (s .variable)) in
-        let kn = block 32 kv (g .n) (f .n) (used-in (u .n) (s .n)) in
-        let kz = block 14 {r = 0} {s = spareOf w} kn (omega arith) (omega arith) (and-zero-l (spareOf w)) in
-        let z : wordOfStep (kept w) + 0 ≡ wordOfStep (kept w) = omega arith in
-        let y : wordOfStep s + spareOf w ≡ w = omega (arith, pack-unpack w h) in
-        ap (λ (x : ℕ). bitAnd (wordOfStep (kept w)) x) (sym y)
-        ∙ (ap (λ (x : ℕ). bitAnd x (wordOfStep s + spareOf w)) (sym z) ∙ (kz ∙ z))
+module _ (w : ℕ) (h : w < 2 ^ 64) where
+  fields-in : bitAnd (wordOfStep (kept w)) w ≡ wordOfStep (kept w)
+  unfolding wordOfStep stepFields
+  fields-in =
+      let s : Step = stepOf w in
+      let u : Uses = uses w in
+      let f = step-fields w in
+      let g = kept-fields w in
+      let ka = block 6 (itself (s .kind)) (g .a) (f .a) (used-in (u .a) (s .a)) in
+      let kb = block 6 ka (g .b) (f .b) (used-in (u .b) (s .b)) in
+      let kv = block 2 kb (g .variable) (f .variable) (used-in (u .variable) (s .variable)) in
+      let kn = block 32 kv (g .n) (f .n) (used-in (u .n) (s .n)) in
+      let kz = block 14 kn (omega arith) (mod-lt w (omega arith)) (nothing (spareOf w)) in
+      let z : wordOfStep (kept w) + 0 ≡ wordOfStep (kept w) = omega arith in
+      let y : wordOfStep s + spareOf w ≡ w = omega (arith, pack-unpack w h) in
+      ap (λ (x : ℕ). bitAnd (wordOfStep (kept w)) x) (sym y)
+      ∙ (ap (λ (x : ℕ). bitAnd x (wordOfStep s + spareOf w)) (sym z) ∙ (kz .is ∙ z))
+
+  step-in : bitAnd (mendedStep w) w ≡ mendedStep w
+  step-in =
+      decide (uses w .kind)
+      (λ e. ap (λ (x : ℕ). bitAnd x w) (mended-is w e) ∙ (fields-in ∙ sym (mended-is w e)))
+      (λ e. ap (λ (x : ℕ). bitAnd x w) (refused-keeps w e) ∙ (and-self w ∙ sym (refused-keeps w e)))
 
 -- ---- the word of any line
 
 module _ (inputs count k w : ℕ) where
-  by-place : {P : ℕ → Type 0} → P (mendedOne w) → P (mendedHeader w) → P w → P (mendedStep w) → P (mendedWord inputs count k w)
+  by-place : (P : ℕ → Type 0) → P (mendedOne w) → P (mendedHeader w) → P w → P (mendedStep w) → P (mendedWord inputs count k w)
   unfolding mendedWord
-  by-place a b c d =
+  by-place P a b c d =
       decide (eqb k 0) (λ e. rw e a)
       (λ e. rw e (decide (leb k inputs) (λ f. rw f b) (λ f. rw f (decide (leb k (inputs + count)) (λ g. rw g c) (λ g. rw g d)))))
 
   module _ (h : w < 2 ^ 64) where
     pub word-most : mendedWord inputs count k w < 2 ^ 64
-    word-most = by-place {P = λ (x : ℕ). x < 2 ^ 64} (omega (arith, one-most w)) (omega (arith, header-most w)) h (step-small w h)
+    word-most = by-place (λ (x : ℕ). x < 2 ^ 64) (omega (arith, one-most w)) (omega (arith, header-most w)) h (step-small w h)
 
     -- no bit is ever set
     pub never-set : bitAnd (mendedWord inputs count k w) w ≡ mendedWord inputs count k w
     unfolding mendedOne mendedHeader
     never-set =
-        by-place {P = λ (x : ℕ). bitAnd x w ≡ x} (cleared-in wordOneSpare w (omega arith)) (cleared-in headerSpare w (omega arith)) (and-self w) (step-in w h)
+        by-place (λ (x : ℕ). bitAnd x w ≡ x) (cleared-in wordOneSpare w (omega arith)) (cleared-in headerSpare w (omega arith))
+        (and-self w) (step-in w h)
 
 -- what is mended stays
 pub word-again : (inputs count k w : ℕ) → mendedWord inputs count k (mendedWord inputs count k w) ≡ mendedWord inputs count k w

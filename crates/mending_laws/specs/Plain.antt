@@ -97,16 +97,14 @@ module _ (t : List ℕ) (p : ℕ) where
     unfolding endAt
     end-plain = rw (ne-eqb (byteAt t (p + 16)) 13 (λ e. omega (arith, end-is, e)))
 
+    digits-plain : every (digitAt (low t)) 16 p ≡ true
+    unfolding isLine
+    digits-plain =
+        every-same (digitAt (low t)) (digitAt t) 16 p (λ q a b. ap isDigit (low-same q a b)) ∙ and-left (every (digitAt t) 16 p) _ h
+
     pub old-plain : isOldLine t p ≡ true
     unfolding isOldLine
-    old-plain =
-        let d : every (digitAt (low t)) 16 p ≡ every (digitAt t) 16 p =
-        every-same (digitAt (low t)) (digitAt t) 16 p (λ q a b. ap isDigit (low-same q a b)) in
-        rw (end-plain, eq-eqb (byteAt t (p + 16)) 10 end-is, d) (rest h)
-      where
-        rest : isLine t p ≡ true → (every (digitAt t) 16 p && true) ≡ true
-        unfolding isLine
-        rest e = rw (and-left (every (digitAt t) 16 p) _ e)
+    old-plain = rw (digits-plain, end-plain, eq-eqb (byteAt t (p + 16)) 10 end-is)
 
     pub word-plain : wordAt (low t) p ≡ wordAt t p
     unfolding wordAt
