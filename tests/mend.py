@@ -174,16 +174,16 @@ def damaged(rng, text):
 def edges(rng):
     """Texts at the edges of the limits, and of the memory of the program."""
     full = 4 << 61 | 7 << 55 | 7 << 49 | 7 << 43 | 7 << 37 | 7 << 31 | 7 << 25 | 7 << 19 | 7 << 13
-    inputs_of = lambda word, n, steps, extra=0: plain([[n << 56 | steps << 48], [word] * n, [rng.getrandbits(64) for _ in range(n * count_of(word) + extra)], [0] * steps])
+    inputs_of = lambda word, n, steps: plain([[n << 56 | steps << 48], [word] * n, [rng.getrandbits(64) for _ in range(n * count_of(word))], [0] * steps])
     word_256 = 2 << 61 | 15 << 55 | 15 << 49 | 15 << 43 | 15 << 37
-    word_257 = 1 << 61 | 63 << 55 | 63 << 49 | 0
+    word_64 = 1 << 61 | 63 << 55 | 63 << 49
     capitals = lambda text: text.replace(b"\n", b"\r\n").upper()
     yield b""
     yield b"\n"
     yield inputs_of(word_256, 8, 56)
     yield capitals(inputs_of(word_256, 8, 56)).replace(b"0" * 16, b"F" + b"0" * 15)
     yield inputs_of(word_256, 9, 1)
-    yield inputs_of(word_257, 16, 48)
+    yield inputs_of(word_64, 16, 48)
     yield inputs_of(full, 1, 1)
     yield inputs_of(full, 1, 1)[:-17]
     big = capitals(inputs_of(full, 16, 48))
@@ -208,7 +208,8 @@ def main():
         nonlocal texts
         texts += 1
         want, said = mend(text), run(program, text, drops)
-        ends[want[:9] if want.startswith(b"refused") else b"mended"] = ends.get(want[:9] if want.startswith(b"refused") else b"mended", 0) + 1
+        end = want[:9] if want.startswith(b"refused") else b"mended"
+        ends[end] = ends.get(end, 0) + 1
         if said != want:
             print(f"text {texts} of seed {seed} differs: {text[:400]!r}\nprinted {said[:400]!r}\nnot     {want[:400]!r}")
             sys.exit(1)

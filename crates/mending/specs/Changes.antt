@@ -8,7 +8,7 @@ use native.Mathlib.Numerals.{add-one}
 use native.Mathlib.Nat.{zero-add}
 use lib.Dec.{eqb, ltb}
 use lib.ListN.{length, length-append}
-use borrow.Author.Tests.{ltb-true, ltb-false, eq-eqb, ne-eqb}
+use borrow.Author.Tests.{ltb-true, ltb-false, lt-ltb, le-ltb, eq-eqb, ne-eqb}
 use Rattle.lists.specs.Every.{every, Passing, passing-more, passing-stop}
 use Rattle.lists.specs.Table.{table, length-table}
 use Rattle.lists.specs.Test.{decide}
@@ -46,11 +46,23 @@ module _ (t : List ℕ) (line from w : ℕ) where
   unfolding oneText
   one-length = simp (length-append, length-table, length-line) (omega arith)
 
+-- byte number k of the line of a word: its digits, then the newline
+unfoldable pub lineByte : ℕ → ℕ → ℕ
+lineByte w k = cond (ltb k 16) (hexDigit w k) 10
+
+pub byte-digit : (w k : ℕ) → k < 16 → hexDigit w k ≡ lineByte w k
+unfolding lineByte
+byte-digit w k l = sym (rw (lt-ltb k 16 l))
+
+pub byte-end : (w k : ℕ) → 16 ≤ k → 10 ≡ lineByte w k
+unfolding lineByte
+byte-end w k l = sym (rw (le-ltb k 16 l))
+
 -- the loop that compares the digits at `from` with those of the word w
 module _ (t : List ℕ) (from w : ℕ) {k : ℕ} (p : Passing (λ j. eqb (byteAt t (from + j)) (hexDigit w j)) 16 0 k) (l : k < 16) {b d : ℕ}
-    (eb : b ≡ byteAt t (from + k)) (ed : d ≡ hexDigit w k) where
+    (eb : b ≡ byteAt t (from + k)) (ed : d ≡ lineByte w k) where
   here : eqb (byteAt t (from + (0 + k))) (hexDigit w (0 + k)) ≡ eqb b d
-  here = rw (zero-add k, eb, ed)
+  here = rw (zero-add k, eb, ed, ← byte-digit w k l)
 
   pub same-stop : (b ≡ d → ⊥) → false ≡ every (λ j. eqb (byteAt t (from + j)) (hexDigit w j)) 16 0
   same-stop n = sym (passing-stop p l (here ∙ ne-eqb b d n))

@@ -17,7 +17,7 @@ ghost use Rattle.model_texts.specs.Hex.{byteAt, digitFor, hexDigit};
 ghost use Rattle.model_texts.specs.Report.{joined};
 ghost use Rattle.model_mending.specs.Mended.{changeText, newLine};
 ghost use Rattle.sheet_text.specs.Put.{Put};
-ghost use Rattle.mending.specs.Changes.{oneText, mayText};
+ghost use Rattle.mending.specs.Changes.{lineByte, oneText, mayText};
 
 // The digit that says d.
 fn digit_for(d: u8) -> u8
@@ -35,14 +35,29 @@ fn hex_digit(word: u64, k: u64) -> u8
     digit_for(((word >> (60 - 4 * k)) % 16) as u8)
 }
 
+// Byte number k of the line of a word: its digits, then the newline.
+fn line_byte(word: u64, k: usize) -> u8
+    requires { ⌜ k < 17 ⌝ }
+    ensures { λ r. ⌜ r ≡ lineByte word k ⌝ }
+{
+    if k < 16 {
+        hex_digit(word, k as u64)
+    } else {
+        10
+    }
+}
+
+// How many bytes of a line are its digits: a carriage return behind them is no change of digits.
+const DIGITS: usize = 16;
+
 // Whether the 16 digits of a word stand at a place.
 fn same_digits(text: &[u8], at: usize, word: u64) -> bool
     requires { ⌜ at ≤ 4294967296 ⌝ }
     ensures { λ r. ⌜ r ≡ every (λ j. eqb (byteAt (now (text .entry)) (at + j)) (hexDigit word j)) 16 0 ⌝ }
 {
     let mut k = 0;
-    while k < 16 {
-        if byte_at(text, at + k) != hex_digit(word, k as u64) {
+    while k < DIGITS {
+        if byte_at(text, at + k) != line_byte(word, k) {
             return false;
         }
         k += 1;

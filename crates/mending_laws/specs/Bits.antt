@@ -1,7 +1,7 @@
 -- Document 02, W14, and its reading: every other bit of every kept word stays. The new word is the old one with exactly
 -- the spare bits and the unused fields cleared; no bit is ever set; mending a mended word changes nothing.
 use Prim.Native.Nat.{ℕ, _+_, _-_, _*_, _/_, _%_, _^_, _≤_, _<_}
-use mathlib.Core.Bool.{Bool, true, false, cond}
+use mathlib.Core.Bool.{Bool, true, false}
 use mathlib.Core.Path.{_≡_, refl, sym, ap, _∙_, subst}
 use native.Mathlib.Omega.{arith}
 use native.Mathlib.Nat.{mod-lt}

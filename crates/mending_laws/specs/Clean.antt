@@ -1,15 +1,12 @@
 -- Document 02, W14: a mended sheet has no fault left that mending is about. Reading it, as `recipe` does, finds nothing
 -- to refuse: its lines, word one's sizes and zeros, its headers, and that nothing follows the last line; and of its
 -- steps those of a kind that there is have zero in their spare bits and in every field that they do not use.
-use Prim.Native.Nat.{ℕ, zero, suc, _+_, _-_, _*_, _/_, _%_, _^_, _≤_, _<_}
-use mathlib.Core.Bool.{Bool, true, _&&_}
+use Prim.Native.Nat.{ℕ, zero, suc, _+_, _-_, _/_, _%_, _^_, _<_}
+use mathlib.Core.Bool.{true}
 use mathlib.Core.List.{List}
 use mathlib.Core.Path.{_≡_, refl, sym, ap, _∙_}
 use native.Mathlib.Omega.{arith}
 use native.Mathlib.Nat.{add-zero}
-use lib.Dec.{leb, eqb}
-use lib.ListN.{length}
-use borrow.Author.Tests.{le-leb, eq-eqb}
 use Rattle.lists.specs.Every.{every}
 use Rattle.lists.specs.Table.{table, table-same}
 use Rattle.lists.specs.Test.{and-right}
@@ -22,12 +19,12 @@ use Rattle.model_texts.specs.Sheet.{lined, wordOn, inputCount, stepCount, spare
 use Rattle.recipes_check.specs.Asks.{or-next}
 use Rattle.sheet_reading.specs.Reading.{Sized, sized, sizesTest, restRefusal, rest-none, after-sizes}
 use Rattle.model_mending.specs.Lines.{oldLined, oldWord}
-use Rattle.model_mending.specs.Words.{wordOneSpare, mendedOne, mendedStep, usedFields}
+use Rattle.model_mending.specs.Words.{wordOneSpare, mendedStep, usedFields}
 use Rattle.model_mending.specs.Mended.{inputsIn, stepsIn, headerIn, headersIn, countIn, linesIn, headerRight, mendRefusal, newWord, mendedSheet}
 use Rattle.mending.specs.Headers.{every-at}
 use Rattle.mending.specs.Words.{word-step}
-use Rattle.mending.specs.Reading.{Opened, opened}
-use Rattle.mending_laws.specs.Bits.{one-clear, step-keeps, step-clear, refused-keeps}
+use Rattle.mending.specs.Reading.{opened}
+use Rattle.mending_laws.specs.Bits.{one-clear, step-keeps, step-clear}
 use Rattle.mending_laws.specs.Unchanged.{every-all}
 use Rattle.mending_laws.specs.Twice.{Fine, fine, line-of, lines, long, words, some, first, inputs-same, steps-same, header-new}
 

@@ -1,31 +1,30 @@
 -- Mending is decided by the first 1,180,818 bytes of a text, 65,601 lines of 18 bytes: so a program may stop reading
 -- there.
 use Prim.Native.Nat.{ℕ, zero, suc, _+_, _*_, _/_, _%_, _^_, _≤_, _<_}
-use mathlib.Core.Bool.{Bool, true, false, _&&_, cond}
-use mathlib.Core.List.{List, [], _++_}
+use mathlib.Core.Bool.{true}
+use mathlib.Core.List.{List, _++_}
 use mathlib.Core.Path.{_≡_, refl, sym, ap, ap₂, _∙_}
 use native.Mathlib.Omega.{arith}
 use lib.Dec.{eqb}
-use lib.ListN.{length, take, length-map}
+use lib.ListN.{take, length-map}
 use lib.Seq.{getD-take}
 use Rattle.lists.specs.Every.{every, every-same}
 use Rattle.lists.specs.Table.{table, table-same, length-table}
 use Rattle.lists.specs.Test.{decide}
 use Rattle.lists.specs.Walk.{walk-same}
-use Rattle.model.specs.Word.{headerOf, goodWord}
-use Rattle.model_recipes.specs.Recipe.{inputHeads, total, largest}
-use Rattle.model_recipes.specs.Check.{rightSizes}
+use Rattle.model.specs.Word.{headerOf}
+use Rattle.model_recipes.specs.Recipe.{inputHeads, total}
 use Rattle.model_texts.specs.Hex.{isDigit, digitOf, byteAt, digitAt, pushDigit, wordAt, hexDigit, hexLine}
 use Rattle.model_texts.specs.Printed.{space, decimal}
 use Rattle.model_texts.specs.Report.{joined}
 use Rattle.sheet_reading.specs.Headers.{total-most}
 use Rattle.model_mending.specs.Lines.{lowered, low, endAt, isOldLine, lineAt, oldLined, oldWord, oldDigit}
-use Rattle.model_mending.specs.Words.{mendedHeader, mendedWord}
+use Rattle.model_mending.specs.Words.{mendedHeader}
 use Rattle.model_mending.specs.Mended.{inputsIn, stepsIn, headerIn, headersIn, countIn, linesIn, headerRight, isReadable, isWithin}
 use Rattle.model_mending.specs.Mended.{newWord, isKept, changeLine, changeText, newLine, reportText, mendedSheet, mendedText}
 use Rattle.mending.specs.Lines.{low-byte, end-most, line-most}
 use Rattle.mending.specs.Headers.{heads-good}
-use Rattle.mending.specs.Reading.{Sized, sized, firstTest, headersTest, restTest, inputs-small, Opened, opened, opened-few}
+use Rattle.mending.specs.Reading.{Sized, sized, firstTest, headersTest, restTest, inputs-small, Opened, opened}
 use Rattle.mending.specs.Ended.{refused-8, refused-5, mended}
 use Rattle.mending_laws.specs.Unchanged.{joined-same}
 

@@ -1,20 +1,19 @@
 -- Document 02, W14: a sheet that passes reading, the check and the program's own limits goes through unchanged.
-use Prim.Native.Nat.{ℕ, zero, suc, _+_, _-_, _*_, _/_, _%_, _^_, _≤_, _<_, max}
-use mathlib.Core.Bool.{Bool, true, false, _&&_, _||_, cond}
+use Prim.Native.Nat.{ℕ, zero, suc, _+_, _-_, _*_, _/_, _%_, _^_, _≤_, _<_}
+use mathlib.Core.Bool.{Bool, true, false, _&&_}
 use mathlib.Core.List.{List, [], _∷_, _++_}
 use mathlib.Core.Path.{_≡_, refl, sym, ap, _∙_}
 use native.Mathlib.Omega.{arith}
 use native.Mathlib.Nat.{zero-add}
-use lib.Dec.{leb, ltb, eqb}
+use lib.Dec.{leb, eqb}
 use lib.ListN.{length, getD, List·getD-eq-default}
-use borrow.Author.Tests.{leb-true, leb-false, le-leb, ltb-true, ltb-false, eqb-true, eqb-false}
+use borrow.Author.Tests.{leb-true, leb-false, le-leb, eqb-true, eqb-false}
 use Rattle.lists.specs.Chain.{chain}
 use Rattle.lists.specs.Every.{every}
 use Rattle.lists.specs.Table.{table, table-same, table-at, length-table}
 use Rattle.lists.specs.Test.{decide, and-left, and-right}
 use Rattle.model.specs.declared.Header.{Header}
 use Rattle.model.specs.declared.Refusal.{Refusal}
-use Rattle.model.specs.Header.{stored}
 use Rattle.model.specs.Word.{goodWord}
 use Rattle.model.specs.Refusals.{askFor, noRefusal}
 use Rattle.model.specs.Gates.{badWord}
@@ -22,7 +21,7 @@ use Rattle.model_recipes.specs.declared.Step.{Step}
 use Rattle.model_recipes.specs.declared.Uses.{Uses}
 use Rattle.model_recipes.specs.Steps.{stepOf, spareOf, usesOf}
 use Rattle.model_recipes.specs.Recipe.{announcedStep, inputHeads, announcedPlaces, announcedSteps, total, largest}
-use Rattle.model_recipes.specs.Check.{askAt, orElse, rightSizes, namedBefore, zeroUnless, formed, stepRefusal, stepsRefusal, checkRefusal}
+use Rattle.model_recipes.specs.Check.{askAt, rightSizes, namedBefore, zeroUnless, formed, stepRefusal, stepsRefusal, checkRefusal}
 use Rattle.model_texts.specs.Hex.{byteAt, isLine, wordAt}
 use Rattle.model_texts.specs.Sheet.{ownRefusal, lined, wordOn, inputCount, stepCount, spare, sheetHeaders, coefficientCount, sheetSteps, restCount}
 use Rattle.model_texts.specs.Sheet.{headersRefusal, readRefusal}
@@ -32,8 +31,8 @@ use Rattle.recipes_check.specs.Judged.{accepts}
 use Rattle.recipes_laws.specs.Ahead.{clear}
 use Rattle.recipes_laws.specs.Formed.{Tests, formed-tests}
 use Rattle.sheet_reading.specs.Reading.{Sized, sized, sizesTest, restRefusal}
-use Rattle.model_mending.specs.Lines.{low, isOldLine, lineAt, oldLined, oldWord}
-use Rattle.model_mending.specs.Words.{wordOneSpare, headerSpare, mendedOne, mendedHeader, ifUsed, usedFields, mendedStep, mendedWord}
+use Rattle.model_mending.specs.Lines.{low, isOldLine, oldLined, oldWord}
+use Rattle.model_mending.specs.Words.{wordOneSpare, headerSpare, mendedHeader, ifUsed, usedFields, mendedStep, mendedWord}
 use Rattle.model_mending.specs.Mended.{inputsIn, stepsIn, headerIn, headersIn, countIn, linesIn, headerRight, isReadable, isWithin}
 use Rattle.model_mending.specs.Mended.{newWord, mendedText}
 use Rattle.mending.specs.Headers.{every-at}
@@ -42,7 +41,7 @@ use Rattle.mending.specs.Reading.{firstTest, headersTest, restTest}
 use Rattle.mending_laws.specs.Plain.{end-is, old-plain, word-plain, place-plain}
 use Rattle.mending_laws.specs.Bits.{one-fixed, header-fixed, step-fixed}
 use Rattle.mending_laws.specs.Unchanged.{every-all, unchanged}
-use Rattle.mending_laws.specs.Twice.{word-small, Fine, fine-none}
+use Rattle.mending_laws.specs.Twice.{word-small, fine-none}
 
 -- ---- what reading has tested
 
@@ -232,7 +231,8 @@ module _ (t : List ℕ) (g : Passed t) where
 
   -- every word is mended already
   module _ (c : checkRefusal (sheetHeaders t) (sheetSteps t) .number ≡ 0) where
-    step-is : (j : ℕ) → j < stepCount t → mendedStep (wordOn t (1 + inputCount t + coefficientCount t + j)) ≡ wordOn t (1 + inputCount t + coefficientCount t + j)
+    step-is : (j : ℕ) → j < stepCount t
+        → mendedStep (wordOn t (1 + inputCount t + coefficientCount t + j)) ≡ wordOn t (1 + inputCount t + coefficientCount t + j)
     unfolding sheetSteps
     step-is j l =
         let f : ℕ → ℕ = λ i. wordOn t (1 + inputCount t + coefficientCount t + i) in

@@ -1,24 +1,23 @@
 -- Document 02, W14: mending twice equals mending once, of the mended sheet without the lines printed before it; and a
 -- mended sheet has no fault left that mending is about.
 use Prim.Native.Nat.{ℕ, zero, suc, _+_, _-_, _*_, _/_, _%_, _^_, _≤_, _<_}
-use mathlib.Core.Bool.{Bool, true, false, _&&_}
-use mathlib.Core.List.{List, [], _∷_, _++_, append-assoc, append-nil}
+use mathlib.Core.Bool.{true}
+use mathlib.Core.List.{List, [], _++_, append-assoc, append-nil}
 use mathlib.Core.Path.{_≡_, refl, sym, ap, _∙_, subst}
 use native.Mathlib.Omega.{arith}
 use native.Mathlib.Nat.{pow-suc}
-use lib.Dec.{ltb, eqb, leb}
+use lib.Dec.{ltb}
 use lib.ListN.{length}
-use borrow.Author.Tests.{ltb-true, ltb-false, eqb-true, ne-eqb, le-leb, lt-leb}
-use Rattle.lists.specs.Every.{every, every-same}
+use borrow.Author.Tests.{ltb-true, ltb-false}
+use Rattle.lists.specs.Every.{every}
 use Rattle.lists.specs.Table.{table, table-same}
-use Rattle.lists.specs.Test.{decide, and-left, and-right}
+use Rattle.lists.specs.Test.{decide, and-right}
 use Rattle.lists.specs.Walk.{walk, walk-more}
-use Rattle.model.specs.declared.Refusal.{Refusal}
 use Rattle.model.specs.Word.{goodWord}
 use Rattle.model.specs.Refusals.{noRefusal}
-use Rattle.model_recipes.specs.Recipe.{inputHeads, total, largest}
+use Rattle.model_recipes.specs.Recipe.{inputHeads, total}
 use Rattle.model_recipes.specs.Check.{askAt, rightSizes}
-use Rattle.model_texts.specs.Hex.{digitOf, byteAt, isLine, pushDigit, wordAt, hexLine}
+use Rattle.model_texts.specs.Hex.{byteAt, isLine, pushDigit, wordAt}
 use Rattle.model_texts.specs.Report.{joined}
 use Rattle.sheet_text.specs.Lines.{digit-small}
 use Rattle.recipes_check.specs.Asks.{ask-none}
@@ -29,10 +28,10 @@ use Rattle.model_mending.specs.Mended.{inputsIn, stepsIn, headerIn, headersIn, 
 use Rattle.model_mending.specs.Mended.{newWord, newLine, mendedSheet, mendedText}
 use Rattle.mending.specs.Headers.{every-at}
 use Rattle.mending.specs.Words.{word-one, word-header}
-use Rattle.mending.specs.Reading.{Opened, opened, firstTest, headersTest, restTest}
+use Rattle.mending.specs.Reading.{opened, firstTest, headersTest, restTest}
 use Rattle.mending.specs.Changes.{sheet-length}
 use Rattle.mending_laws.specs.Plain.{old-plain, word-plain, place-plain}
-use Rattle.mending_laws.specs.Bits.{one-keeps, header-fixed, header-clear, word-most, word-again}
+use Rattle.mending_laws.specs.Bits.{header-fixed, header-clear, word-most, word-again}
 use Rattle.mending_laws.specs.Unchanged.{every-all, unchanged}
 
 -- a word of 16 digits

@@ -4,7 +4,7 @@ use mathlib.Core.Bool.{Bool, true}
 use mathlib.Core.List.{List, [], _∷_, _++_}
 use mathlib.Core.Path.{_≡_, refl, sym, ap, ap₂, _∙_}
 use native.Mathlib.Omega.{arith}
-use native.Mathlib.Nat.{le-refl, zero-add}
+use native.Mathlib.Nat.{le-refl}
 use lib.Dec.{eqb}
 use lib.ListN.{length, getD, take, drop, length-drop}
 use lib.Seq.{take-add, take-all, getD-drop}
@@ -13,7 +13,7 @@ use Rattle.lists.specs.Every.{every}
 use Rattle.lists.specs.Table.{table, table-take, table-same}
 use Rattle.model_texts.specs.Hex.{byteAt, isLine, wordAt, hexDigit, hexLine}
 use Rattle.model_texts.specs.Report.{joined}
-use Rattle.model_mending.specs.Lines.{lineAt, oldDigit}
+use Rattle.model_mending.specs.Lines.{oldDigit}
 use Rattle.model_mending.specs.Mended.{inputsIn, countIn, linesIn, mendRefusal, newWord, isKept, changeText, newLine, reportText, mendedSheet, mendedText}
 use Rattle.mending_laws.specs.Plain.{end-is, digit-is, place-plain}
 

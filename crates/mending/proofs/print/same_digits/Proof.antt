@@ -23,8 +23,8 @@ add-byte-at c = search needs
 byte-at-requires : tie.Need-byte-at-requires Inv-loop μ-loop
 byte-at-requires c κs = search needs
 
-hex-digit-requires : tie.Need-hex-digit-requires Inv-loop μ-loop
-hex-digit-requires c κs = search needs
+line-byte-requires : tie.Need-line-byte-requires Inv-loop μ-loop
+line-byte-requires c κs = search needs
 
 returns : tie.Need-returns Inv-loop μ-loop
 returns c =
@@ -32,7 +32,7 @@ returns c =
     let c4 = c3 .before in
     let c6 = c4 .before .before in
     same-stop (c6 .args .text .now) (c6 .args .at) (c6 .args .word) (c4 .loop .inv) (c3 .loop-test .taken)
-    (c .before .before .byte-at .ensures) (c .before .hex-digit .ensures) (c .if1 .taken)
+    (c .before .before .byte-at .ensures) (c .before .line-byte .ensures) (c .if1 .taken)
 
 add-k : tie.Need-add-k Inv-loop μ-loop
 add-k c = search needs
@@ -46,7 +46,7 @@ loop-again c =
     let c4 = c3 .before in
     let c6 = c4 .before .before in
     same-more (c6 .args .text .now) (c6 .args .at) (c6 .args .word) (c4 .loop .inv) (c3 .loop-test .taken)
-    (c .before .before .byte-at .ensures) (c .before .hex-digit .ensures) (c .if1 .left)
+    (c .before .before .byte-at .ensures) (c .before .line-byte .ensures) (c .if1 .left)
 
 returns-2 : tie.Need-returns-2 Inv-loop μ-loop
 returns-2 c = sym (passing-end (c .before .loop .inv) (c .loop-test .left))
@@ -60,7 +60,7 @@ same-digits-spec =
     loop-holds
     add-byte-at
     byte-at-requires
-    hex-digit-requires
+    line-byte-requires
     returns
     add-k
     loop-less
