@@ -130,16 +130,18 @@ uint64_t taylor_shift_down(uint64_t head, const double *a, size_t a_len, uint64_
 uint64_t taylor_subst_var(uint64_t ah, const double *a, size_t a_len, uint64_t bh, const double *b, size_t b_len, uint64_t v, double *out,
                           size_t out_len, double *scratch, size_t scratch_len);
 
-/* whether a recipe can be run, from header and step words alone: 0, and through the pointers the pool total, the
+/* whether a recipe of an edition (0 the source's; 1 whose power of zero keeps its operand's limits; any other is
+   refused) can be run, from header and step words alone: 0, and through the pointers the pool total, the
    largest announced step count and the input coefficient total; or refusals 1, 3, 4, 5, 7, and nothing is written */
-uint64_t taylor_check(const uint64_t *headers, size_t headers_len, const uint64_t *steps, size_t steps_len, uint64_t *pool, uint64_t *largest,
-                      uint64_t *inputs);
+uint64_t taylor_check(const uint64_t *headers, size_t headers_len, const uint64_t *steps, size_t steps_len, uint64_t edition,
+                      uint64_t *pool, uint64_t *largest, uint64_t *inputs);
 
-/* the steps of a recipe, on the inputs' coefficients end to end: 0, each step's value in the pool at its announced
-   count, its header word in words; the scratch has 8 times the largest announced count: refusals 1 to 7, and nothing is
-   written */
+/* the steps of a recipe of an edition, on the inputs' coefficients end to end: 0, each step's value in the pool at its
+   announced count, its header word in words; the scratch has 8 times the largest announced count: refusals 1 to 7, and
+   nothing is written */
 uint64_t taylor_run(const uint64_t *headers, size_t headers_len, const double *coefficients, size_t coefficients_len, const uint64_t *steps,
-                    size_t steps_len, double *pool, size_t pool_len, uint64_t *words, size_t words_len, double *scratch, size_t scratch_len);
+                    size_t steps_len, uint64_t edition, double *pool, size_t pool_len, uint64_t *words, size_t words_len, double *scratch,
+                    size_t scratch_len);
 
 /* ---- the settings store: 32 departments in 544 lent words, the last eight versions of each
  *

@@ -67,11 +67,12 @@ mod face {
             out: *mut f64, out_len: usize, scratch: *mut f64, scratch_len: usize,
         ) -> u64;
         pub fn taylor_check(
-            headers: *const u64, headers_len: usize, steps: *const u64, steps_len: usize, pool: *mut u64, largest: *mut u64, inputs: *mut u64,
+            headers: *const u64, headers_len: usize, steps: *const u64, steps_len: usize, edition: u64,
+            pool: *mut u64, largest: *mut u64, inputs: *mut u64,
         ) -> u64;
         pub fn taylor_run(
             headers: *const u64, headers_len: usize, coefficients: *const f64, coefficients_len: usize, steps: *const u64, steps_len: usize,
-            pool: *mut f64, pool_len: usize, words: *mut u64, words_len: usize, scratch: *mut f64, scratch_len: usize,
+            edition: u64, pool: *mut f64, pool_len: usize, words: *mut u64, words_len: usize, scratch: *mut f64, scratch_len: usize,
         ) -> u64;
         pub fn settings_fresh(words: *mut u64, len: usize) -> u64;
         pub fn settings_read(
@@ -302,25 +303,25 @@ pub struct Totals {
     pub inputs: u64,
 }
 
-/// Whether a recipe can be run, from words alone.
-pub fn check(headers: &[u64], steps: &[u64]) -> Result<Totals, Refusal> {
+/// Whether a recipe of an edition can be run, from words alone.
+pub fn check(headers: &[u64], steps: &[u64], edition: u64) -> Result<Totals, Refusal> {
     let mut totals = Totals { pool: 0, largest: 0, inputs: 0 };
     let word = unsafe {
         face::taylor_check(
-            headers.as_ptr(), headers.len(), steps.as_ptr(), steps.len(), &mut totals.pool, &mut totals.largest, &mut totals.inputs,
+            headers.as_ptr(), headers.len(), steps.as_ptr(), steps.len(), edition, &mut totals.pool, &mut totals.largest, &mut totals.inputs,
         )
     };
     if word == 0 { Ok(totals) } else { Err(refusal(word)) }
 }
 
-/// The steps of a recipe: their values end to end in the pool, their header words in `words`.
+/// The steps of a recipe of an edition: their values end to end in the pool, their header words in `words`.
 pub fn run(
-    headers: &[u64], coefficients: &[f64], steps: &[u64], pool: &mut [f64], words: &mut [u64], scratch: &mut [f64],
+    headers: &[u64], coefficients: &[f64], steps: &[u64], edition: u64, pool: &mut [f64], words: &mut [u64], scratch: &mut [f64],
 ) -> Result<(), Refusal> {
     let word = unsafe {
         face::taylor_run(
             headers.as_ptr(), headers.len(), coefficients.as_ptr(), coefficients.len(), steps.as_ptr(), steps.len(),
-            pool.as_mut_ptr(), pool.len(), words.as_mut_ptr(), words.len(), scratch.as_mut_ptr(), scratch.len(),
+            edition, pool.as_mut_ptr(), pool.len(), words.as_mut_ptr(), words.len(), scratch.as_mut_ptr(), scratch.len(),
         )
     };
     if word == 0 { Ok(()) } else { Err(refusal(word)) }

@@ -10,6 +10,7 @@ how many sheets there were and the first difference, if any. tests/limits starts
 import random, struct, subprocess, sys
 
 from decimals import printed
+from refused import damaged, sentence
 
 NAMES = ["constant", "negate", "add", "subtract", "multiply", "divide", "power", "derivative", "taylor_expansion_of_coeff", "shift_down", "subst_var"]
 USES = ["n", "a", "ab", "ab", "ab", "ab", "an", "avn", "avn", "avn", "abv"]
@@ -17,24 +18,6 @@ HEAD = (
     "Each place: what it is, its number of variables, and of each variable the\n"
     "limit/most it stores. Operands are places, v is a variable, n a number.\n"
 )
-OF_CAUSE = {
-    1: "its number of variables is above 4;\nwrite the word anew.\n",
-    2: "the length of variable %d is above its limit;\nlower the length or raise the limit.\n",
-    3: "variable %d is missing, but its fields are not zero;\nclear them, or count it among the variables.\n",
-    4: "its last 13 bits are not zero;\nclear them.\n",
-    5: "its lengths multiply to more than 4,096;\nlower them.\n",
-}
-OF_PLACE = {
-    3: "its variable is not its operand's; name one that the operand has.\n",
-    4: "its n is not below the operand's limit; take a smaller n.\n",
-    5: "it would hold more than 4,096 coefficients; lower limits or lengths.\n",
-    7: "its step has a wrong kind, operand or unused field; write it anew.\n",
-}
-OF_SHEET = {
-    5: "The sheet is too large: at most 256 coefficients a place, 2,048 in all inputs\nand 2,048 in all steps; lower limits or lengths.\n",
-    7: "Word one is wrong: 0 to 16 inputs, 1 or more steps, 64 places at most, zeros.\n",
-    8: "The sheet is not its words exactly: write each as 16 lower-case hex digits and\na newline, none missing and nothing after them.\n",
-}
 
 
 def unpack(w):
@@ -217,24 +200,95 @@ def limits_text(inputs, steps, known):
         far, (by, note) = further(last, v, {}), way(last, v)
         more = ";\n  place %d went to %d" % (far, limit(far, v)) if limit(far, v) > limit(by, v) else ""
         out.append("variable %d of the answer ends at %d%s%sas %s does%s\n" % (v, limit(last, v), note, ",\n  " if note else ", ", who(by), more))
-    made, seen = [last], set()
-    while made:
-        p = made.pop()
-        if p not in seen:
-            seen.add(p)
-            made += made_of(step(p), full) if p >= inputs else []
-    lost = sorted(p for p in seen if p >= inputs and passing(p))
+
+    def made_from(place):
+        """All places that a place is made of, itself too."""
+        made, seen = [place], set()
+        while made:
+            p = made.pop()
+            if p not in seen:
+                seen.add(p)
+                made += made_of(step(p), full) if p >= inputs else []
+        return seen
+
+    out_of = lambda place: sorted(p for p in made_from(place) if p >= inputs and passing(p))
+    lost = out_of(last)
+    mixed = sorted(p for p in made_from(last) if p >= inputs and fields(step(p))[0] == 10 and out_of(fields(step(p))[1]))
     verdict = (
         "*** CUT: what lies past the limits of place %d is left out. ***\n" % lost[0]
         if lost
         else "*** WHOLE: with each input as it is stored, no limit left anything out. ***\n"
     )
-    return "".join(out), verdict
+    wrong = (
+        "Place %d (subst_var) puts something for a variable of a table that was cut:\n"
+        "the figures shown may be wrong, and not only incomplete.\n" % mixed[0]
+        if mixed
+        else ""
+    )
+    return "".join(out), verdict, wrong, not lost
 
 
 def number(x):
     """A float for people, with Python's decimal module as the judge of the digits."""
     return printed(0x7FF8000000000000 if x != x else struct.unpack(">Q", struct.pack(">d", x))[0])
+
+
+def power(e, x):
+    """A number to a power by squaring, as `pow` makes one of a constant."""
+    if e < 2:
+        return x if e else 1.0
+    reached, base = 1.0, x
+    while e > 1:
+        reached, base, e = (reached * base if e & 1 else reached), base * base, e >> 1
+    return reached * base
+
+
+def totals(steps, sums):
+    """Of each place its total, or the number of the first place that stands in its way; sums: those of the inputs."""
+    out = list(sums)
+    for w in steps:
+        kind, a, b, _, n = fields(w)
+        if kind not in (0, 1, 2, 3, 4, 6, 9):
+            out.append(len(out))
+            continue
+        if kind == 0 or kind == 6 and n == 0:
+            out.append(float(n) if kind == 0 else 1.0)
+            continue
+        uses = [out[a]] + ([out[b]] if kind in (2, 3, 4) else [])
+        bars = [x for x in uses if isinstance(x, int)]
+        if bars:
+            out.append(min(bars))
+        elif kind == 1:
+            out.append(-uses[0])
+        elif kind == 6:
+            out.append(power(n, uses[0]))
+        elif kind == 9:
+            out.append(uses[0])
+        else:
+            x, y = uses
+            out.append(x + y if kind == 2 else x - y if kind == 3 else x * y)
+    return out
+
+
+def good(total):
+    """Whether parts can be taken of a total."""
+    return 0 < total < float("inf")
+
+
+def total_text(origin, total, shown, lost):
+    if not good(total):
+        return "The total, %s, is %s:\n  not a finite number above zero, so that no part of it is told.\n" % (origin, number(total))
+    return "Of %s in all, %s,\n  %s are shown here;\n  %s\n" % (number(total), origin, number(shown), lost % number(total - shown) if "%s" in lost else lost)
+
+
+def totals_text(steps, inputs, total, given, shown, whole, one):
+    """What is said of the total; total: a float, or the place that stands in its way."""
+    if given is not None:
+        return total_text("as given", given, shown, "%s are not.")
+    if isinstance(total, int):
+        kind = NAMES[fields(steps[total - inputs])[0]]
+        return "No total follows from the inputs: place %d is a %s.\n%s" % (total, kind, "Parts are taken of a total of 1.\n" if one else "")
+    return total_text("taking each input as whole", total, shown, "nothing lies past the limits." if whole else "%s lie past the limits.")
 
 
 def cell(column, width, text):
@@ -287,13 +341,10 @@ def floating(digits):
     return struct.unpack(">d", bytes.fromhex(digits))[0]
 
 
-def told(text, said):
-    """What `limits` prints for a sheet, said what `recipe` printed for it."""
+def told(text, said, given=None):
+    """What `limits` prints for a sheet, said what `recipe` printed for it; given: a total that its arguments give."""
     if said.startswith("refused"):
-        n, place, variable, cause = map(int, said.split()[1:])
-        if n == 1:
-            return said + "Input %d: %s" % (place, OF_CAUSE[cause].replace("%d", str(variable)))
-        return said + ("Place %d: %s" % (place, OF_PLACE[n]) if place < 64 else OF_SHEET[n])
+        return said + sentence(text.encode("latin-1"), *map(int, said.split()[1:]), announce)
     words = [int(l, 16) for l in text.split()]
     inputs, count = words[0] >> 56, words[0] >> 48 & 255
     known, steps = [unpack(w) for w in words[1 : 1 + inputs]], words[-count:]
@@ -308,8 +359,13 @@ def told(text, said):
         known.append(announce(w, known))
     answer = said.split("\n")[1:-1]
     xs = [floating(l) for l in answer[1:]]
-    limits, verdict = limits_text(inputs, steps, known)
-    return limits + inputs_text(heads, coefficients) + verdict + figures_text(int(answer[0], 16), xs, 1.0)
+    limits, verdict, wrong, whole = limits_text(inputs, steps, known)
+    word = int(answer[0], 16)
+    own = totals(steps, [running(c)[-1] for c in coefficients])[-1]
+    total = given if given is not None else 1.0 if isinstance(own, int) else own
+    said = totals_text(steps, inputs, own, given, running(xs)[-1], whole, word >> 61 == 1)
+    figures = figures_text(word, xs, total if good(total) else None)
+    return limits + inputs_text(heads, coefficients) + verdict + wrong + said + figures
 
 
 def fault(rng):
@@ -349,8 +405,9 @@ def sheet(rng):
     if rng.random() < 0.03:
         steps[rng.randrange(count)] |= rng.choice([1, 1 << 63, 1 << 50])
     words = [inputs << 56 | count << 48] + lines + [struct.unpack(">Q", struct.pack(">d", x))[0] for x in coefficients] + steps
-    text = "".join("%016x\n" % w for w in words)
-    return text[:-1] if rng.random() < 0.02 else text
+    if rng.random() < 0.3:
+        return damaged(rng, words, pack).decode("latin-1")
+    return "".join("%016x\n" % w for w in words)
 
 
 def main():
@@ -361,7 +418,7 @@ def main():
         return 2
     rng, count = random.Random(int(given[0])), int(given[1])
     limits, recipe = given[2:between], given[between + 1 :]
-    run = lambda program, text: subprocess.run(program, input=text.encode(), stdout=subprocess.PIPE).stdout.decode()
+    run = lambda program, text: subprocess.run(program, input=text.encode("latin-1"), stdout=subprocess.PIPE).stdout.decode()
     kinds = {"refused": 0, "WHOLE": 0, "CUT": 0}
     for i in range(count):
         text = sheet(rng)

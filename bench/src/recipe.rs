@@ -70,7 +70,7 @@ fn case(name: &str, kinds: &[u64], rounds: usize, calls: usize) {
     };
     let inputs: Vec<f64> = (0..2 * COUNT).map(|_| next()).collect();
     let headers = [HEADER, HEADER];
-    let totals = taylor::check(&headers, &words).expect("accepted");
+    let totals = taylor::check(&headers, &words, 0).expect("accepted");
     let (mut pool, mut heads) = (vec![0.0; totals.pool as usize], vec![0; STEPS]);
     let mut scratch = vec![0.0; 8 * totals.largest as usize];
     let mut out = vec![0.0; COUNT];
@@ -78,7 +78,7 @@ fn case(name: &str, kinds: &[u64], rounds: usize, calls: usize) {
     for _ in 0..rounds {
         let start = seconds();
         for _ in 0..calls {
-            taylor::run(&headers, &inputs, &words, &mut pool, &mut heads, &mut scratch).expect("done");
+            taylor::run(&headers, &inputs, &words, 0, &mut pool, &mut heads, &mut scratch).expect("done");
         }
         let middle = seconds();
         for _ in 0..calls {

@@ -22,7 +22,7 @@ struct Told {
 
 impl Told {
     fn of(recipe: &Recipe) -> Result<Told, Refused> {
-        let mut known = check(&recipe.headers, &recipe.steps)?;
+        let mut known = check(&recipe.headers, &recipe.steps, recipe.edition)?;
         let steps = known.split_off(recipe.headers.len());
         Ok(Told { steps, inputs: known.iter().map(Header::count).sum() })
     }
@@ -67,12 +67,12 @@ impl Lending {
         Lending { pool: exact.pool + 2, words: exact.words + 2, scratch: exact.scratch + 2, ..exact }
     }
 
-    /// The line of a stored case: sizes packed into two words, then headers, coefficients, steps.
+    /// The line of a stored case: sizes, and an edition below 2^32, packed into two words, then headers, coefficients, steps.
     pub fn text(&self) -> String {
         let r = &self.recipe;
         let [headers, coefficients, steps] = [r.headers.len(), r.coefficients.len(), r.steps.len()].map(|n| n as u64);
         let sizes = headers | coefficients << 8 | steps << 24 | (self.words as u64) << 32;
-        let lent = self.pool as u64 | (self.scratch as u64) << 16;
+        let lent = self.pool as u64 | (self.scratch as u64) << 16 | r.edition << 32;
         let floats = r.coefficients.iter().map(|x| x.to_bits());
         let all = [sizes, lent].into_iter().chain(r.headers.iter().copied()).chain(floats).chain(r.steps.iter().copied());
         all.map(|word| format!("{word:016x}")).collect::<Vec<_>>().join(" ")

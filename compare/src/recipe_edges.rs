@@ -25,12 +25,12 @@ pub fn constant(n: u64) -> u64 {
 pub fn counting(headers: &[u64], steps: &[u64]) -> Recipe {
     let stored: usize = headers.iter().filter_map(|word| Header::read(*word).ok()).map(|h| h.count()).sum();
     let coefficients = (1..=stored).map(|k| k as f64).collect();
-    Recipe { headers: headers.to_vec(), coefficients, steps: steps.to_vec() }
+    Recipe { headers: headers.to_vec(), coefficients, steps: steps.to_vec(), edition: 0 }
 }
 
 /// All inputs hold these coefficients, end to end.
 pub fn holding(headers: &[u64], coefficients: &[f64], steps: &[u64]) -> Recipe {
-    Recipe { headers: headers.to_vec(), coefficients: coefficients.to_vec(), steps: steps.to_vec() }
+    Recipe { headers: headers.to_vec(), coefficients: coefficients.to_vec(), steps: steps.to_vec(), edition: 0 }
 }
 
 /// So many inputs of one coefficient and so many steps, each of which adds the two places before it.
@@ -257,6 +257,43 @@ pub fn kinds() -> Vec<Recipe> {
     rows.iter().flat_map(|row| each(row)).collect()
 }
 
+/// Idle rooms: a power of zero, alone, in products and sums, and shifted, of operands of every number of variables.
+pub fn idle() -> Vec<Recipe> {
+    let heads = [line(3, 2), word(&[4, 2], &[2, 2]), word(&[2, 3, 2, 2], &[2, 1, 2, 1]), word(&[], &[]), line(64, 1)];
+    let over = |head: u64| {
+        let zeroth = step(6, 0, 0, 0, 0);
+        let then = [
+            step(4, 0, 1, 0, 0),
+            step(2, 1, 0, 0, 0),
+            step(7, 1, 0, 0, 1),
+            step(8, 1, 0, 0, 1),
+            step(9, 1, 0, 0, 1),
+            step(7, 1, 0, 1, 0),
+            step(10, 1, 0, 0, 0),
+            step(5, 0, 1, 0, 0),
+            step(6, 1, 0, 0, 0),
+            step(6, 1, 0, 0, 2),
+        ];
+        let alone = counting(&[head], &[zeroth]);
+        std::iter::once(alone).chain(then.map(|word| counting(&[head], &[zeroth, word]))).collect::<Vec<_>>()
+    };
+    heads.into_iter().flat_map(over).collect()
+}
+
+/// Known editions and others: of idle rooms, of other steps, and of recipes whose sizes or headers are wrong too.
+pub fn editions() -> Vec<Recipe> {
+    let mut all: Vec<Recipe> = idle().into_iter().flat_map(|r| [r.clone(), r.of_edition(1)]).collect();
+    let example = holding(&[line(3, 3)], &[2.0, 3.0, 1.0], &[step(9, 0, 0, 0, 1), step(6, 0, 0, 0, 0)]);
+    let spoilt = [counting(&[1], &[constant(1)]), counting(&[], &[]), many(17, 1)];
+    let others = [2, 3, 4, 7, 8, 15, 16, 17, 1 << 31, u32::MAX as u64];
+    for recipe in std::iter::once(example).chain(spoilt) {
+        all.extend(others.map(|edition| recipe.of_edition(edition)));
+        all.push(recipe.of_edition(1));
+    }
+    all.extend(kinds().iter().chain(&chains()).chain(&shifts()).map(|r| r.of_edition(1)));
+    all
+}
+
 /// Buffers as long as a run takes, longer, one short each, several short at once, and none.
 pub fn lent(recipe: Recipe) -> Vec<Lending> {
     let exact = Lending::exact(recipe.clone());
@@ -295,7 +332,7 @@ fn measured() -> Vec<Recipe> {
 }
 
 pub fn all() -> Vec<Lending> {
-    let lists = [sizes(), chains(), shifts(), fields(), operands(), headers(), counts(), kinds()];
+    let lists = [sizes(), chains(), shifts(), fields(), operands(), headers(), counts(), kinds(), editions()];
     let measured = measured().into_iter().flat_map(lent);
     lists.into_iter().flatten().map(Lending::ample).chain(measured).collect()
 }

@@ -1,5 +1,5 @@
 //! What the check of a recipe answers, from document 01's 'Recipes' and 'Refusal numbers'; and what its steps give, by
-//! the source.
+//! the source; edition 1's power of zero from document 02, W7.
 
 use crate::case::Case;
 use crate::operations::named;
@@ -13,6 +13,15 @@ pub struct Recipe {
     /// the inputs' coefficients, end to end
     pub coefficients: Vec<f64>,
     pub steps: Vec<u64>,
+    /// any word
+    pub edition: u64,
+}
+
+impl Recipe {
+    /// The same recipe of another edition.
+    pub fn of_edition(&self, edition: u64) -> Recipe {
+        Recipe { edition, ..self.clone() }
+    }
 }
 
 /// A refusal at a place.
@@ -104,8 +113,13 @@ impl Step {
         early(a, self.a) && early(b, self.b) && idle(variable, self.variable) && idle(n, self.n) && self.spare == 0
     }
 
+    /// A power of zero, which edition 1 keeps apart.
+    fn is_idle(&self, edition: u64) -> bool {
+        edition == 1 && self.kind == 6 && self.n == 0
+    }
+
     /// What it announces, or the number of its refusal, known what the places before it announce.
-    fn announced(&self, known: &[Header]) -> Result<Header, u64> {
+    fn announced(&self, known: &[Header], edition: u64) -> Result<Header, u64> {
         if !self.is_formed(known.len()) {
             return Err(7);
         }
@@ -117,6 +131,7 @@ impl Step {
             2 | 3 => refusals::announced_sum(&a, &b),
             4 => refusals::announced_product(&a, &b),
             5 => refusals::announced_quotient(&a, &b),
+            6 if self.is_idle(edition) => one_like(&a),
             6 => refusals::announced_power(&a, self.n as usize),
             7..=9 => {
                 let v = below_limit(&a, self.variable, self.n).map_err(|refusal| refusal.number)?;
@@ -131,8 +146,11 @@ impl Step {
         }
     }
 
-    /// The source's answer.
-    fn value(&self, values: &[Value]) -> Value {
+    /// The source's answer, but for a power of zero in edition 1.
+    fn value(&self, values: &[Value], edition: u64) -> Value {
+        if self.is_idle(edition) {
+            return (one_like(&values[self.a as usize].0), vec![1.0]);
+        }
         let name = [
             "from_u32",
             "negate",
@@ -166,14 +184,24 @@ impl Step {
     }
 }
 
+/// One with the limits of its operand, and lengths of 1.
+fn one_like(a: &Header) -> Header {
+    Header { lengths: [1; 4], ..*a }
+}
+
+/// Editions 0 and 1 are known.
+pub fn is_known(edition: u64) -> bool {
+    edition <= 1
+}
+
 /// Test 7 of a recipe's sizes.
 pub fn right_sizes(inputs: usize, steps: usize) -> bool {
     inputs <= 16 && steps >= 1 && inputs + steps <= 64
 }
 
 /// The check on words alone: what every place announces.
-pub fn check(headers: &[u64], steps: &[u64]) -> Result<Vec<Header>, Refused> {
-    if !right_sizes(headers.len(), steps.len()) {
+pub fn check(headers: &[u64], steps: &[u64], edition: u64) -> Result<Vec<Header>, Refused> {
+    if !is_known(edition) || !right_sizes(headers.len(), steps.len()) {
         return Err(Refused::at(7, PLACE));
     }
     let mut known = vec![];
@@ -181,7 +209,7 @@ pub fn check(headers: &[u64], steps: &[u64]) -> Result<Vec<Header>, Refused> {
         known.push(Header::read(*word).map_err(|fault| Refused::header(fault, known.len()))?);
     }
     for word in steps {
-        known.push(Step::read(*word).announced(&known).map_err(|number| Refused::at(number, known.len() as u64))?);
+        known.push(Step::read(*word).announced(&known, edition).map_err(|number| Refused::at(number, known.len() as u64))?);
     }
     Ok(known)
 }
@@ -196,7 +224,7 @@ pub fn values(recipe: &Recipe) -> Vec<Value> {
         at += header.count();
     }
     for word in &recipe.steps {
-        values.push(Step::read(*word).value(&values));
+        values.push(Step::read(*word).value(&values, recipe.edition));
     }
     values
 }

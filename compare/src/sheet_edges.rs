@@ -46,13 +46,15 @@ fn texts() -> Vec<Vec<u8>> {
     all
 }
 
-/// 7 of word one: sizes around their edges, every spare bit; also with nothing behind it, and with text that is no
+/// 7 of word one: sizes around their edges, every spare bit, every edition; also with nothing behind it, and with text that is no
 /// line.
 fn sizes() -> Vec<Vec<u8>> {
     let mut all: Vec<Vec<u8>> = recipe_edges::sizes().iter().map(sheet).collect();
     let recipe = holding(&[line(3, 3)], &[2.0, 3.0, 1.0], &[step(9, 0, 0, 0, 1)]);
     let first = 0x0101 << 48;
     all.extend((0..48).map(|bit| sheet_with(first | 1 << bit, &recipe)));
+    let idle = holding(&[line(3, 3)], &[2.0, 3.0, 1.0], &[step(6, 0, 0, 0, 0), step(7, 1, 0, 0, 1)]);
+    all.extend((0..16).flat_map(|edition| [&recipe, &idle].map(|r| sheet(&r.of_edition(edition)))));
     for word in
         ["0100000000000000", "1101000000000000", "1031000000000000", "0041000000000000", "ffff000000000000", "0101000000000001"]
     {
@@ -130,13 +132,14 @@ fn patterns() -> Vec<Vec<u8>> {
 
 /// Sheets of the recipes that the run is tried on: each kind, each field, operands, shifts, long chains.
 fn runs() -> Vec<Vec<u8>> {
-    let lists: [Vec<Recipe>; 6] = [
+    let lists: [Vec<Recipe>; 7] = [
         recipe_edges::kinds(),
         recipe_edges::shifts(),
         recipe_edges::chains(),
         recipe_edges::operands(),
         recipe_edges::fields(),
         recipe_edges::counts(),
+        recipe_edges::editions(),
     ];
     lists.iter().flatten().chain(&[many(16, 48)]).map(sheet).collect()
 }

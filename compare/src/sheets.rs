@@ -1,7 +1,7 @@
 //! A sheet of the program `recipe`: what it has to print for any bytes, and sheets from a seed (document 01, 'Examples
 //! to hold').
 
-use crate::recipes::{check, right_sizes, values, Recipe, Refused, Step};
+use crate::recipes::{check, is_known, right_sizes, values, Recipe, Refused, Step};
 use crate::refusals::PLACE;
 use crate::rng::Rng;
 use crate::words::{bits, Header};
@@ -34,7 +34,8 @@ fn read(sheet: &[u8]) -> Result<Recipe, Refused> {
     let mut lines = Lines(sheet);
     let first = lines.next()?;
     let (inputs, steps) = ((first >> 56) as usize, (first >> 48 & 255) as usize);
-    if !right_sizes(inputs, steps) || first << 16 != 0 {
+    let edition = first >> 44 & 15;
+    if !is_known(edition) || !right_sizes(inputs, steps) || first << 20 != 0 {
         return Err(Refused::at(7, PLACE));
     }
     let (mut headers, mut count) = (vec![], 0);
@@ -48,7 +49,7 @@ fn read(sheet: &[u8]) -> Result<Recipe, Refused> {
     if !lines.0.is_empty() {
         return Err(Refused::at(8, PLACE));
     }
-    Ok(Recipe { headers, coefficients, steps })
+    Ok(Recipe { headers, coefficients, steps, edition })
 }
 
 /// The program's own limits: 256 coefficients an input or step, 2,048 for all inputs, 2,048 a pool.
@@ -59,7 +60,7 @@ fn is_small(known: &[Header], inputs: usize) -> bool {
 
 fn answer(sheet: &[u8]) -> Result<String, Refused> {
     let recipe = read(sheet)?;
-    let known = check(&recipe.headers, &recipe.steps)?;
+    let known = check(&recipe.headers, &recipe.steps, recipe.edition)?;
     if !is_small(&known, recipe.headers.len()) {
         return Err(Refused::at(5, PLACE));
     }
@@ -87,17 +88,18 @@ pub fn recipe(rng: &mut Rng) -> Recipe {
     let mut headers: Vec<u64> = heads.iter().map(Header::word).collect();
     let long = rng.between(9, 64 - inputs);
     let count = rng.pick(&[1, 1, 2, 3, 4, 5, 8, long]);
-    let steps = steps(rng, &headers, count);
+    let edition = rng.pick(&[0, 0, 1]);
+    let steps = steps(rng, &headers, count, edition);
     if inputs > 0 && rng.chance(20) {
         let i = rng.below(inputs);
         headers[i] = shapes::bad(rng, &heads[i]);
     }
-    Recipe { headers, coefficients, steps }
+    Recipe { headers, coefficients, steps, edition }
 }
 
 /// The sheet of a recipe.
 pub fn sheet(recipe: &Recipe) -> Vec<u8> {
-    let first = (recipe.headers.len() as u64) << 56 | (recipe.steps.len() as u64) << 48;
+    let first = (recipe.headers.len() as u64) << 56 | (recipe.steps.len() as u64) << 48 | recipe.edition << 44;
     sheet_with(first, recipe)
 }
 
@@ -120,14 +122,14 @@ pub fn random(rng: &mut Rng) -> Vec<u8> {
 }
 
 /// Steps that the check mostly accepts: each of them is drawn again while it is refused, a few times.
-fn steps(rng: &mut Rng, headers: &[u64], count: usize) -> Vec<u64> {
+fn steps(rng: &mut Rng, headers: &[u64], count: usize, edition: u64) -> Vec<u64> {
     let mut steps: Vec<u64> = vec![];
     for _ in 0..count {
         let place = headers.len() + steps.len();
         for _ in 0..20 {
             steps.push(step(rng, place));
             let small = |known: Vec<Header>| is_small(&known, headers.len());
-            if check(headers, &steps).is_ok_and(small) || rng.chance(8) {
+            if check(headers, &steps, edition).is_ok_and(small) || rng.chance(8) {
                 break;
             }
             steps.pop();

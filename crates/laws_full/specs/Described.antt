@@ -44,7 +44,7 @@ true-not h = rw h
 
 module _ (s : Step) (a b : Value) where
   abbrev family : ℕ → Family
-  family k = getD (families s) k Constant
+  family k = getD (families 0 s) k Constant
 
   power-bounded : (needsFirst (family 6) ≡ true → Bounded a)
       → Bounds (at (powerLengths (s .n) (a .lengths))) (power (a .series) (s .n))

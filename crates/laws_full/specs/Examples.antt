@@ -19,7 +19,7 @@ use Rattle.model.specs.Places.{strides, offset, inside}
 use Rattle.model.specs.Word.{headerOf, faultOf, goodWord}
 use Rattle.model.specs.Announced.{single, paired, announced}
 use Rattle.model_recipes.specs.Steps.{stepOf, rows}
-use Rattle.model_recipes.specs.Recipe.{families, headAt, announcedStep, announcedPlaces}
+use Rattle.model_recipes.specs.Recipe.{recipeOf, families, headAt, announcedStep, announcedPlaces}
 use Rattle.model_recipes.specs.Check.{orElse, rightSizes, formed, stepRefusal, inputsRefusal, stepsRefusal}
 use Rattle.model_recipes.specs.Check.{checkRefusal}
 use Rattle.model_texts.specs.Full.{sumFull, productFull, quotientFull, powerFull, shiftFull, substitutionFull}
@@ -58,11 +58,11 @@ module _ (e : Example) where
 
   refusal : ℕ
   unfolding checkRefusal rightSizes orElse inputsRefusal stepsRefusal stepRefusal formed rows goodWord faultOf headerFault soundVar
-  refusal = checkRefusal (e .heads) (e .steps) .number
+  refusal = checkRefusal (recipeOf 0 (e .heads) (e .steps)) .number
 
   known : List Header
   unfolding announcedPlaces chain announcedStep announced single paired minDegreesP1 minLimit headerOf families stepOf span
-  known = announcedPlaces (e .heads) (e .steps)
+  known = announcedPlaces (recipeOf 0 (e .heads) (e .steps))
 
   full : List ℕ
   unfolding known fulls grow fullNext stepFull fullAfter sumFull productFull quotientFull powerFull shiftFull substitutionFull
@@ -71,7 +71,7 @@ module _ (e : Example) where
   -- what the last place is with no limits anywhere
   answer : Value
   unfolding unlimited stepResult results inputValues inputValue table
-  answer = valueAt (unlimited (e .heads) (λ i p. getD (getD (e .numbers) i []) p (pos 0)) (e .steps)) last
+  answer = valueAt (unlimited (recipeOf 0 (e .heads) (e .steps)) (λ i p. getD (getD (e .numbers) i []) p (pos 0))) last
 
   coefficient : ℤ
   unfolding answer seriesOf strides offset negative derivative expansion plus less times quotient power substitute shifted box sum

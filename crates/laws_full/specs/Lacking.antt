@@ -9,7 +9,7 @@ use lib.Seq.{getD-take}
 use borrow.Author.Tests.{ltb-true, ltb-false}
 use Rattle.lists.specs.Test.{decide}
 use Rattle.model.specs.Header.{limit, len, noHeader}
-use Rattle.model_recipes.specs.Recipe.{headAt, announcedStep}
+use Rattle.model_recipes.specs.Recipe.{Recipe, headAt, announcedStep}
 use Rattle.model_recipes.specs.Check.{checkRefusal}
 use Rattle.model_texts.specs.Full.{counted}
 use Rattle.shape_words.specs.Rules.{GoodVar, ruled-at}
@@ -20,49 +20,49 @@ use Rattle.laws_full.specs.Accepted.{accepted-ordered, accepted-known}
 use Rattle.laws_full.specs.Setting.{size, known, head, full, word, step}
 use Rattle.laws_full.specs.Chained.{head-step}
 
-module _ (hs ss : List ℕ) (z : checkRefusal hs ss .number ≡ 0) where
+module _ (it : Recipe) (z : checkRefusal it .number ≡ 0) where
   -- a variable of a place's header keeps the rules
-  pub good : (p w : ℕ) → w < 4 → GoodVar (head hs ss p .vars) w (limit (head hs ss p) w) (len (head hs ss p) w)
-  good p w l = ruled-at (accepted-known hs ss z .at p .rules) w l
+  pub good : (p w : ℕ) → w < 4 → GoodVar (head it p .vars) w (limit (head it p) w) (len (head it p) w)
+  good p w l = ruled-at (accepted-known it z .at p .rules) w l
 
   -- what the places before p announce
-  taken : (p x : ℕ) → x < p → headAt (take p (known hs ss)) x ≡ head hs ss x
-  taken p x l = getD-take p (known hs ss) x noHeader l
+  taken : (p x : ℕ) → x < p → headAt (take p (known it)) x ≡ head it x
+  taken p x l = getD-take p (known it) x noHeader l
 
   Lacks : ℕ → ℕ → Type 0
-  Lacks p w = head hs ss p .vars ≤ w → full hs ss p w ≡ 1
+  Lacks p w = head it p .vars ≤ w → full it p w ≡ 1
 
-  input-lacks : (p : ℕ) → p < length hs → p < size hs ss → (w : ℕ) → w < 4 → Lacks p w
+  input-lacks : (p : ℕ) → p < length (it .headers) → p < size it → (w : ℕ) → w < 4 → Lacks p w
   unfolding Lacks
   input-lacks p t l w m v =
       let g = good p w m in
-      full-input (known hs ss) ss (length hs) (size hs ss) p w t l m ∙ omega (arith, g .pos, g .fit, g .gone v)
+      full-input (known it) (it .steps) (length (it .headers)) (size it) p w t l m ∙ omega (arith, g .pos, g .fit, g .gone v)
 
-  step-lacks : (p : ℕ) → length hs ≤ p → p < size hs ss → ((x : ℕ) → x < p → (w : ℕ) → w < 4 → Lacks x w) → (w : ℕ)
+  step-lacks : (p : ℕ) → length (it .headers) ≤ p → p < size it → ((x : ℕ) → x < p → (w : ℕ) → w < 4 → Lacks x w) → (w : ℕ)
       → w < 4 → Lacks p w
   unfolding Lacks announcedStep
   step-lacks p i l ih w m v =
-      let s = step hs ss p in
-      let o = accepted-ordered hs ss z in
-      let before = take p (known hs ss) in
-      let f = full-step (known hs ss) ss (length hs) (size hs ss) p w i l m in
+      let s = step it p in
+      let o = accepted-ordered it z in
+      let before = take p (known it) in
+      let f = full-step (known it) (it .steps) (length (it .headers)) (size it) p w i l m in
       f .is
       ∙ ap counted
-      (missing-one s (headAt before (s .a)) (headAt before (s .b)) w _ _ _ (s .kind)
+      (missing-one (it .edition) s (headAt before (s .a)) (headAt before (s .b)) w _ _ _ (s .kind)
       (λ u k.
       let b = o .first p i l u in
-      f .in-variable b ∙ ih (s .a) b (s .variable) (small-variable (word hs ss p)) (rw (taken p (s .a) b) at k))
+      f .in-variable b ∙ ih (s .a) b (s .variable) (small-variable (word it p)) (rw (taken p (s .a) b) at k))
       (λ u k. let b = o .first p i l u in f .of-first b ∙ ih (s .a) b w m (rw (taken p (s .a) b) at k))
       (λ u k. let b = o .second p i l u in f .of-second b ∙ ih (s .b) b w m (rw (taken p (s .b) b) at k))
-      (rw (head-step hs ss p i l) at v))
+      (rw (head-step it p i l) at v))
 
-  below : (n p : ℕ) → p < n → p < size hs ss → (w : ℕ) → w < 4 → Lacks p w
+  below : (n p : ℕ) → p < n → p < size it → (w : ℕ) → w < 4 → Lacks p w
   below zero p h l = absurd (omega arith)
   below (suc n) p h l =
-      decide (ltb p (length hs))
+      decide (ltb p (length (it .headers)))
       (λ t. input-lacks p (ltb-true _ _ t) l)
       (λ t. step-lacks p (ltb-false _ _ t) l (λ x b. below n x (omega arith) (omega arith)))
 
-  pub lacking-one : (p : ℕ) → p < size hs ss → (w : ℕ) → w < 4 → head hs ss p .vars ≤ w → full hs ss p w ≡ 1
+  pub lacking-one : (p : ℕ) → p < size it → (w : ℕ) → w < 4 → head it p .vars ≤ w → full it p w ≡ 1
   unfolding Lacks
   lacking-one p l w m = below (suc p) p (omega arith) l w m

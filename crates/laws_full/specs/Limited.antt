@@ -8,7 +8,7 @@ use Rattle.lists.specs.Chain.{chain}
 use Rattle.lists.specs.Four.{at, four}
 use Rattle.model.specs.declared.Header.{Header}
 use Rattle.model.specs.Header.{limit}
-use Rattle.model_recipes.specs.Recipe.{headAt, announcedPlaces}
+use Rattle.model_recipes.specs.Recipe.{Recipe, headAt, announcedPlaces}
 use Rattle.model_textbook.specs.Textbook.{truncated}
 use Rattle.laws_full.specs.Unlimited.{Value, value, stepResult, inputValues}
 
@@ -20,6 +20,6 @@ cutTo h x = value (four (λ k. min (limit h k) (at (x .lengths) k))) (truncated 
 unfoldable pub limitedStep : List Header → ℕ → List Value → Value
 limitedStep known w vs = cutTo (headAt known (length vs)) (stepResult w vs)
 
--- all places: hs the inputs' header words, cs the numbers of each input, ss the step words
-unfoldable pub limited : List ℕ → (ℕ → ℕ → ℤ) → List ℕ → List Value
-limited hs cs ss = chain (limitedStep (announcedPlaces hs ss)) (inputValues hs cs) ss
+-- all places, cs the numbers of each input
+unfoldable pub limited : Recipe → (ℕ → ℕ → ℤ) → List Value
+limited it cs = chain (limitedStep (announcedPlaces it)) (inputValues (it .headers) cs) (it .steps)

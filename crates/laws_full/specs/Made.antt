@@ -7,7 +7,7 @@ use mathlib.Core.Path.{_≡_}
 use Rattle.model.specs.declared.Header.{Header}
 use Rattle.model.specs.declared.Family.{Family}
 use Rattle.model.specs.declared.Family.the-variants.{Constant, Same, Sum, Product, Quotient, Series, Power, Shift}
-use Rattle.model.specs.declared.Family.the-variants.{Substitution, Term, Order}
+use Rattle.model.specs.declared.Family.the-variants.{Substitution, Term, Order, One}
 use Rattle.model_recipes.specs.declared.Step.{Step}
 use Rattle.model_recipes.specs.Steps.{stepOf, usesOf}
 use Rattle.model_recipes.specs.Recipe.{familyOf}
@@ -28,13 +28,14 @@ isPolynomial (Shift v n) = true
 isPolynomial (Substitution v) = true
 isPolynomial (Term v) = true
 isPolynomial (Order v n) = true
+isPolynomial One = true
 
 module _ (ss : List ℕ) (inputs : ℕ) where
   abbrev pub stepAt : ℕ → Step
   stepAt p = stepOf (stepWord ss inputs p)
 
   abbrev pub familyAt : ℕ → Family
-  familyAt p = familyOf (stepAt p)
+  familyAt p = familyOf 0 (stepAt p)
 
   -- of the first n places: each operand that a step's kind uses stands before it
   pub record Ordered (n : ℕ) : Type 0 where

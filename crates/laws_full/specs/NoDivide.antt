@@ -11,7 +11,7 @@ use Rattle.recipes_laws.specs.EachKind.{by-kind}
 use Rattle.laws_full.specs.Made.{isPolynomial, stepAt, Made, Polynomial}
 
 -- of all kinds only 5, divide
-not-divided : (s : Step) (k : ℕ) → (k ≡ 5 → ⊥) → isPolynomial (getD (families s) k Constant) ≡ true
+not-divided : (s : Step) (k : ℕ) → (k ≡ 5 → ⊥) → isPolynomial (getD (families 0 s) k Constant) ≡ true
 unfolding isPolynomial families
 not-divided s =
     by-kind (record {

@@ -76,7 +76,7 @@ module _ (known : List Header) (ss : List ℕ) (inputs n : ℕ) where
 
   -- a step in the variable v: x, y, z what is known of its operands, which is right where they stand before it
   pub record Fulls (p v x y z : ℕ) : Type 0 where
-    pub is : fullAt fs p v ≡ counted (fullAfter (familyOf (stepAt ss inputs p)) v x y z)
+    pub is : fullAt fs p v ≡ counted (fullAfter (familyOf 0 (stepAt ss inputs p)) v x y z)
     pub in-variable : stepAt ss inputs p .a < p → x ≡ fullAt fs (stepAt ss inputs p .a) (stepAt ss inputs p .variable)
     pub of-first : stepAt ss inputs p .a < p → y ≡ fullAt fs (stepAt ss inputs p .a) v
     pub of-second : stepAt ss inputs p .b < p → z ≡ fullAt fs (stepAt ss inputs p .b) v

@@ -14,6 +14,7 @@ use Rattle.lists.specs.Four.{at}
 use Rattle.model.specs.declared.Header.{Header}
 use Rattle.model.specs.Header.{limit, len}
 use Rattle.model.specs.Word.{headerOf}
+use Rattle.model_recipes.specs.Recipe.{Recipe}
 use Rattle.model_recipes.specs.Check.{checkRefusal}
 use Rattle.shape_words.specs.Rules.{GoodVar}
 use Rattle.recipes_kinds.specs.Known.{small-variable}
@@ -32,90 +33,90 @@ use Rattle.laws_full.specs.Lacking.{good}
 
 -- ---- needed operands
 
-module _ (hs ss : List ℕ) {p : ℕ} (i : length hs ≤ p) where
-  pub a-polynomial : IsPolynomial hs ss p → Takes-a hs ss p → IsPolynomial hs ss (step hs ss p .a)
+module _ (it : Recipe) {p : ℕ} (i : length (it .headers) ≤ p) where
+  pub a-polynomial : IsPolynomial it p → Takes-a it p → IsPolynomial it (step it p .a)
   a-polynomial o t = record { each = λ q m. o .each q (by-first i t m) }
 
-  pub b-polynomial : IsPolynomial hs ss p → Takes-b hs ss p → IsPolynomial hs ss (step hs ss p .b)
+  pub b-polynomial : IsPolynomial it p → Takes-b it p → IsPolynomial it (step it p .b)
   b-polynomial o t = record { each = λ q m. o .each q (by-second i t m) }
 
-  module _ (z : checkRefusal hs ss .number ≡ 0) (l : p < size hs ss) where
-    pub a-before : Takes-a hs ss p → step hs ss p .a < p
-    a-before = first-before (accepted-ordered hs ss z) (lengths hs ss) p i l
+  module _ (z : checkRefusal it .number ≡ 0) (l : p < size it) where
+    pub a-before : Takes-a it p → step it p .a < p
+    a-before = first-before (accepted-ordered it z) (lengths it) p i l
 
-    pub b-before : Takes-b hs ss p → step hs ss p .b < p
-    b-before = second-before (accepted-ordered hs ss z) (lengths hs ss) p i l
+    pub b-before : Takes-b it p → step it p .b < p
+    b-before = second-before (accepted-ordered it z) (lengths it) p i l
 
-module _ (hs ss : List ℕ) (z : checkRefusal hs ss .number ≡ 0) (cs : ℕ → ℕ → ℤ) where
+module _ (it : Recipe) (z : checkRefusal it .number ≡ 0) (cs : ℕ → ℕ → ℤ) where
   -- what the place p is with no limits anywhere
   abbrev pub valueOf : ℕ → Value
-  valueOf = valueAt (unlimited hs cs ss)
+  valueOf = valueAt (unlimited it cs)
 
   pub record Described (p : ℕ) : Type 0 where
     pub bounded : Bounded (valueOf p)
-    pub counts : (w : ℕ) → w < 4 → Counts (full hs ss p w) (at (valueOf p .lengths) w)
+    pub counts : (w : ℕ) → w < 4 → Counts (full it p w) (at (valueOf p .lengths) w)
     pub four : length (valueOf p .lengths) ≡ 4
 
   -- an input
-  input-described : (p : ℕ) → p < length hs → p < size hs ss → Described p
+  input-described : (p : ℕ) → p < length (it .headers) → p < size it → Described p
   unfolding inputValue headerOf
   input-described p t l =
-      let h : Header = headerOf (getD hs p 0) in
-      let e : valueOf p ≡ inputValue (getD hs p 0) (cs p) = unlimited-input hs ss cs p t in
-      let k : head hs ss p ≡ h = head-input hs ss p t in
-      let g : (w : ℕ) → w < 4 → GoodVar (h .vars) w (limit h w) (len h w) = λ w m. rw k at (good hs ss z p w m) in
+      let h : Header = headerOf (getD (it .headers) p 0) in
+      let e : valueOf p ≡ inputValue (getD (it .headers) p 0) (cs p) = unlimited-input it cs p t in
+      let k : head it p ≡ h = head-input it p t in
+      let g : (w : ℕ) → w < 4 → GoodVar (h .vars) w (limit h w) (len h w) = λ w m. rw k at (good it z p w m) in
       record {
         bounded = rw e (bounds-stored (h .lengths) (cs p) (λ w m. g w m .pos));
         counts = λ w m.
-            rw (e, full-input (known hs ss) ss (length hs) (size hs ss) p w t l m, k)
+            rw (e, full-input (known it) (it .steps) (length (it .headers)) (size it) p w t l m, k)
             (counts-small _ (g w m .pos) (omega (arith, g w m .fit, g w m .most)));
         four = rw e;
       }
 
   -- a step, from the operands that it needs
-  module _ (p : ℕ) (i : length hs ≤ p) (l : p < size hs ss) (of-a : Takes-a hs ss p → Described (step hs ss p .a))
-      (of-b : Takes-b hs ss p → Described (step hs ss p .b)) where
+  module _ (p : ℕ) (i : length (it .headers) ≤ p) (l : p < size it) (of-a : Takes-a it p → Described (step it p .a))
+      (of-b : Takes-b it p → Described (step it p .b)) where
     abbrev pub operand : ℕ → Value
-    operand x = valueAt (take p (unlimited hs cs ss)) x
+    operand x = valueAt (take p (unlimited it cs)) x
 
     abbrev pub inVariable : ℕ
-    inVariable = full hs ss (step hs ss p .a) (step hs ss p .variable)
+    inVariable = full it (step it p .a) (step it p .variable)
 
-    pub a-is : Takes-a hs ss p → operand (step hs ss p .a) ≡ valueOf (step hs ss p .a)
-    a-is t = getD-take p (unlimited hs cs ss) (step hs ss p .a) noValue (a-before hs ss i z l t)
+    pub a-is : Takes-a it p → operand (step it p .a) ≡ valueOf (step it p .a)
+    a-is t = getD-take p (unlimited it cs) (step it p .a) noValue (a-before it i z l t)
 
-    pub b-is : Takes-b hs ss p → operand (step hs ss p .b) ≡ valueOf (step hs ss p .b)
-    b-is t = getD-take p (unlimited hs cs ss) (step hs ss p .b) noValue (b-before hs ss i z l t)
+    pub b-is : Takes-b it p → operand (step it p .b) ≡ valueOf (step it p .b)
+    b-is t = getD-take p (unlimited it cs) (step it p .b) noValue (b-before it i z l t)
 
-    pub result-is : valueOf p ≡ resultOf (step hs ss p) (operand (step hs ss p .a)) (operand (step hs ss p .b))
+    pub result-is : valueOf p ≡ resultOf (step it p) (operand (step it p .a)) (operand (step it p .b))
     unfolding stepResult
-    result-is = unlimited-step hs ss cs p i l
+    result-is = unlimited-step it cs p i l
 
-    in-counts : Takes-a hs ss p → Counts inVariable (at (valueOf (step hs ss p .a) .lengths) (step hs ss p .variable))
-    in-counts t = of-a t .counts (step hs ss p .variable) (small-variable (word hs ss p))
+    in-counts : Takes-a it p → Counts inVariable (at (valueOf (step it p .a) .lengths) (step it p .variable))
+    in-counts t = of-a t .counts (step it p .variable) (small-variable (word it p))
 
     -- where the full length of the variable is 1, so is the length
-    pub one-row : Takes-a hs ss p → inVariable ≡ 1
-        → at (operand (step hs ss p .a) .lengths) (step hs ss p .variable) ≡ 1
+    pub one-row : Takes-a it p → inVariable ≡ 1
+        → at (operand (step it p .a) .lengths) (step it p .variable) ≡ 1
     one-row t e = rw (a-is t) (sym (counts-is (in-counts t) (omega arith)) ∙ e)
 
-    step-counts : IsPolynomial hs ss p → (w : ℕ) → w < 4 → Counts (full hs ss p w) (at (valueOf p .lengths) w)
+    step-counts : IsPolynomial it p → (w : ℕ) → w < 4 → Counts (full it p w) (at (valueOf p .lengths) w)
     step-counts o w m =
-        let s = step hs ss p in
-        let f = full-step (known hs ss) ss (length hs) (size hs ss) p w i l m in
-        let early : Takes-a hs ss p → s .a < p = a-before hs ss i z l in
+        let s = step it p in
+        let f = full-step (known it) (it .steps) (length (it .headers)) (size it) p w i l m in
+        let early : Takes-a it p → s .a < p = a-before it i z l in
         rw (f .is, result-is)
         (counts-counted
         (result-counts s (operand (s .a)) (operand (s .b)) w m _ _ _ (s .kind) (o .each p itself i)
         (λ t. rw (f .in-variable (early t), a-is t) (in-counts t))
         (λ t. rw (f .of-first (early t), a-is t) (of-a t .counts w m))
         (λ t.
-        let u : Takes-b hs ss p = rw (f .in-variable (early (second-first s _ (s .kind) t))) at t in
-        rw (f .of-second (b-before hs ss i z l u), b-is u) (of-b u .counts w m))))
+        let u : Takes-b it p = rw (f .in-variable (early (second-first s _ (s .kind) t))) at t in
+        rw (f .of-second (b-before it i z l u), b-is u) (of-b u .counts w m))))
 
-    step-described : IsPolynomial hs ss p → Described p
+    step-described : IsPolynomial it p → Described p
     step-described o =
-        let s = step hs ss p in
+        let s = step it p in
         record {
           bounded =
               rw result-is
@@ -127,21 +128,21 @@ module _ (hs ss : List ℕ) (z : checkRefusal hs ss .number ≡ 0) (cs : ℕ →
               (result-four s (operand (s .a)) (operand (s .b)) (s .kind) (λ t. rw (a-is t) (of-a t .four)));
         }
 
-  below : (n p : ℕ) → p < n → p < size hs ss → IsPolynomial hs ss p → Described p
+  below : (n p : ℕ) → p < n → p < size it → IsPolynomial it p → Described p
   below zero p h l o = absurd (omega arith)
   below (suc n) p h l o =
-      decide (ltb p (length hs))
+      decide (ltb p (length (it .headers)))
       (λ t. input-described p (ltb-true _ _ t) l)
       (λ t.
-      let i = ltb-false p (length hs) t in
+      let i = ltb-false p (length (it .headers)) t in
       step-described p i l
       (λ u.
-      let b = a-before hs ss i z l u in
-      below n (step hs ss p .a) (omega arith) (omega arith) (a-polynomial hs ss i o u))
+      let b = a-before it i z l u in
+      below n (step it p .a) (omega arith) (omega arith) (a-polynomial it i o u))
       (λ u.
-      let b = b-before hs ss i z l u in
-      below n (step hs ss p .b) (omega arith) (omega arith) (b-polynomial hs ss i o u))
+      let b = b-before it i z l u in
+      below n (step it p .b) (omega arith) (omega arith) (b-polynomial it i o u))
       o)
 
-  pub described : (p : ℕ) → p < size hs ss → IsPolynomial hs ss p → Described p
+  pub described : (p : ℕ) → p < size it → IsPolynomial it p → Described p
   described p l = below (suc p) p (omega arith) l

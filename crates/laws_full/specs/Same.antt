@@ -43,7 +43,7 @@ kept-same A B D v = refl
 
 module _ (s : Step) (a b c d : Value) where
   abbrev family : ℕ → Family
-  family k = getD (families s) k Constant
+  family k = getD (families 0 s) k Constant
 
   of-both-same : (k : ℕ) → a ≡ c → b ≡ d → row s k a b ≡ row s k c d
   of-both-same k p q = ap₂ (row s k) p q
@@ -89,7 +89,7 @@ module _ (s : Step) (a b c d : Value) where
 -- ---- four lengths
 
 pub result-four : (s : Step) (a b : Value) (k : ℕ)
-    → (needsFirst (getD (families s) k Constant) ≡ true → length (a .lengths) ≡ 4)
+    → (needsFirst (getD (families 0 s) k Constant) ≡ true → length (a .lengths) ≡ 4)
     → length (getD (results s a b) k noValue .lengths) ≡ 4
 unfolding results needsFirst families sumLengths productLengths powerLengths shiftLengths substitutionLengths
 result-four s a b =

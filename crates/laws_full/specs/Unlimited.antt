@@ -13,6 +13,7 @@ use Rattle.lists.specs.Four.{at, four}
 use Rattle.model_recipes.specs.declared.Step.{Step}
 use Rattle.model.specs.Header.{ones}
 use Rattle.model.specs.Word.{headerOf}
+use Rattle.model_recipes.specs.Recipe.{Recipe}
 use Rattle.model_recipes.specs.Steps.{stepOf}
 use Rattle.model_textbook.specs.Box.{degree}
 use Rattle.model_textbook.specs.Textbook.{Series, seriesOf, plus, less, times, quotient, power, substitute, shifted}
@@ -115,9 +116,9 @@ stepResult w vs = let s = stepOf w in resultOf s (valueAt vs (s .a)) (valueAt vs
 unfoldable pub inputValue : ℕ → (ℕ → ℤ) → Value
 inputValue w a = value (headerOf w .lengths) (seriesOf (headerOf w .lengths) a)
 
--- hs the inputs' header words, cs the numbers of each input, ss the step words
+-- cs the numbers of each input
 unfoldable pub inputValues : List ℕ → (ℕ → ℕ → ℤ) → List Value
 inputValues hs cs = table (length hs) (λ i. inputValue (getD hs i 0) (cs i))
 
-unfoldable pub unlimited : List ℕ → (ℕ → ℕ → ℤ) → List ℕ → List Value
-unlimited hs cs ss = chain stepResult (inputValues hs cs) ss
+unfoldable pub unlimited : Recipe → (ℕ → ℕ → ℤ) → List Value
+unlimited it cs = chain stepResult (inputValues (it .headers) cs) (it .steps)

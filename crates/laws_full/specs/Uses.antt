@@ -14,7 +14,7 @@ use Rattle.recipes_laws.specs.EachKind.{by-kind}
 use Rattle.laws_full.specs.Made.{stepAt, Ordered, takesFirst, takesSecond, Made, itself, by-first, by-second}
 
 module _ (s : Step) where
-  pub first-used : (k : ℕ) → needsFirst (getD (families s) k Constant) ≡ true → usesOf k .a ≡ true
+  pub first-used : (k : ℕ) → needsFirst (getD (families 0 s) k Constant) ≡ true → usesOf k .a ≡ true
   unfolding needsFirst families rows
   first-used =
       by-kind (record {
@@ -32,7 +32,7 @@ module _ (s : Step) where
         past = λ k h. absurd (false≢true h);
       })
 
-  pub second-used : (p k : ℕ) → needsSecond (getD (families s) k Constant) p ≡ true → usesOf k .b ≡ true
+  pub second-used : (p k : ℕ) → needsSecond (getD (families 0 s) k Constant) p ≡ true → usesOf k .b ≡ true
   unfolding needsSecond families rows
   second-used p =
       by-kind (record {
@@ -51,8 +51,8 @@ module _ (s : Step) where
       })
 
   -- a second operand comes with a first
-  pub second-first : (p k : ℕ) → needsSecond (getD (families s) k Constant) p ≡ true
-      → needsFirst (getD (families s) k Constant) ≡ true
+  pub second-first : (p k : ℕ) → needsSecond (getD (families 0 s) k Constant) p ≡ true
+      → needsFirst (getD (families 0 s) k Constant) ≡ true
   unfolding needsFirst needsSecond families
   second-first p =
       by-kind (record {

@@ -15,6 +15,7 @@ use Rattle.lists.specs.Test.{decide}
 use Rattle.lists.specs.Four.{at}
 use Rattle.model.specs.Header.{limit}
 use Rattle.model.specs.Places.{inside}
+use Rattle.model_recipes.specs.Recipe.{Recipe}
 use Rattle.model_recipes.specs.Check.{checkRefusal}
 use Rattle.laws_full.specs.Unlimited.{Value, noValue, valueAt, stepResult, inputValue, unlimited}
 use Rattle.laws_full.specs.Limited.{cutTo, limited}
@@ -29,94 +30,94 @@ use Rattle.laws_full.specs.Fits.{out-fits}
 use Rattle.laws_full.specs.Polynomials.{a-polynomial, b-polynomial, a-before, b-before, valueOf, Described}
 use Rattle.laws_full.specs.Polynomials.{operand, inVariable, a-is, b-is, result-is, one-row, described}
 
-module _ (hs ss : List ℕ) (z : checkRefusal hs ss .number ≡ 0) where
-  not-out : (p : ℕ) → length hs ≤ p → Clear hs ss p → out hs ss p ≡ false
-  not-out p i c = decide (out hs ss p) (λ t. absurd (c p itself (record { step = i; out = t }))) (λ t. t)
+module _ (it : Recipe) (z : checkRefusal it .number ≡ 0) where
+  not-out : (p : ℕ) → length (it .headers) ≤ p → Clear it p → out it p ≡ false
+  not-out p i c = decide (out it p) (λ t. absurd (c p itself (record { step = i; out = t }))) (λ t. t)
 
   module _ (cs : ℕ → ℕ → ℤ) where
     -- ---- lengths keep to the limits
 
-    fits : (p : ℕ) → p < size hs ss → IsPolynomial hs ss p → Clear hs ss p → (w : ℕ) → w < 4
-        → at (valueOf hs ss z cs p .lengths) w ≤ limit (head hs ss p) w
+    fits : (p : ℕ) → p < size it → IsPolynomial it p → Clear it p → (w : ℕ) → w < 4
+        → at (valueOf it z cs p .lengths) w ≤ limit (head it p) w
     unfolding inputValue
     fits p l o c w m =
-        let g = good hs ss z p w m in
-        decide (ltb p (length hs))
-        (λ t. rw (unlimited-input hs ss cs p (ltb-true _ _ t), ← head-input hs ss p (ltb-true _ _ t)) (g .fit))
+        let g = good it z p w m in
+        decide (ltb p (length (it .headers)))
+        (λ t. rw (unlimited-input it cs p (ltb-true _ _ t), ← head-input it p (ltb-true _ _ t)) (g .fit))
         (λ t.
-        let f = out-fits hs ss z p l (not-out p (ltb-false _ _ t) c) w m .most in
-        let e = counts-is (described hs ss z cs p l o .counts w m) (omega (arith, g .most)) in
+        let f = out-fits it z p l (not-out p (ltb-false _ _ t) c) w m .most in
+        let e = counts-is (described it z cs p l o .counts w m) (omega (arith, g .most)) in
         omega arith)
 
     -- with no limits anywhere nothing lies outside the limits
-    pub nothing-outside : (p : ℕ) → p < size hs ss → Whole hs ss p → IsPolynomial hs ss p
-        → (k : List ℕ) → inside (head hs ss p .limits) k ≡ false → valueAt (unlimited hs cs ss) p .series k ≡ pos 0
+    pub nothing-outside : (p : ℕ) → p < size it → Whole it p → IsPolynomial it p
+        → (k : List ℕ) → inside (head it p .limits) k ≡ false → valueAt (unlimited it cs) p .series k ≡ pos 0
     nothing-outside p l e o =
-        outside-zero (head hs ss p) (valueOf hs ss z cs p) (described hs ss z cs p l o .bounded)
-        (fits p l o (whole-exactly hs ss z p l .0 e))
+        outside-zero (head it p) (valueOf it z cs p) (described it z cs p l o .bounded)
+        (fits p l o (whole-exactly it z p l .0 e))
 
     -- ---- cutting every step to its limits changes nothing
 
     Same : ℕ → Type 0
-    Same p = valueAt (limited hs cs ss) p ≡ valueOf hs ss z cs p
+    Same p = valueAt (limited it cs) p ≡ valueOf it z cs p
 
     -- a step, from the operands that it needs
-    module _ (p : ℕ) (i : length hs ≤ p) (l : p < size hs ss) (o : IsPolynomial hs ss p) (c : Clear hs ss p)
-        (same-a : Takes-a hs ss p → Same (step hs ss p .a)) (same-b : Takes-b hs ss p → Same (step hs ss p .b)) where
+    module _ (p : ℕ) (i : length (it .headers) ≤ p) (l : p < size it) (o : IsPolynomial it p) (c : Clear it p)
+        (same-a : Takes-a it p → Same (step it p .a)) (same-b : Takes-b it p → Same (step it p .b)) where
       abbrev cutAt : ℕ → Value
-      cutAt x = valueAt (take p (limited hs cs ss)) x
+      cutAt x = valueAt (take p (limited it cs)) x
 
-      of-a : Takes-a hs ss p → Described hs ss z cs (step hs ss p .a)
-      of-a u = let b = a-before hs ss i z l u in described hs ss z cs _ (omega arith) (a-polynomial hs ss i o u)
+      of-a : Takes-a it p → Described it z cs (step it p .a)
+      of-a u = let b = a-before it i z l u in described it z cs _ (omega arith) (a-polynomial it i o u)
 
-      of-b : Takes-b hs ss p → Described hs ss z cs (step hs ss p .b)
-      of-b u = let b = b-before hs ss i z l u in described hs ss z cs _ (omega arith) (b-polynomial hs ss i o u)
+      of-b : Takes-b it p → Described it z cs (step it p .b)
+      of-b u = let b = b-before it i z l u in described it z cs _ (omega arith) (b-polynomial it i o u)
 
       abbrev whole : ℕ → Value
-      whole = operand hs ss z cs p i l of-a of-b
+      whole = operand it z cs p i l of-a of-b
 
-      a-same : Takes-a hs ss p → cutAt (step hs ss p .a) ≡ whole (step hs ss p .a)
+      a-same : Takes-a it p → cutAt (step it p .a) ≡ whole (step it p .a)
       unfolding Same
       a-same u =
-          getD-take p (limited hs cs ss) (step hs ss p .a) noValue (a-before hs ss i z l u) ∙ same-a u
-          ∙ sym (a-is hs ss z cs p i l of-a of-b u)
+          getD-take p (limited it cs) (step it p .a) noValue (a-before it i z l u) ∙ same-a u
+          ∙ sym (a-is it z cs p i l of-a of-b u)
 
-      b-same : Takes-b hs ss p → cutAt (step hs ss p .b) ≡ whole (step hs ss p .b)
+      b-same : Takes-b it p → cutAt (step it p .b) ≡ whole (step it p .b)
       unfolding Same
       b-same u =
-          getD-take p (limited hs cs ss) (step hs ss p .b) noValue (b-before hs ss i z l u) ∙ same-b u
-          ∙ sym (b-is hs ss z cs p i l of-a of-b u)
+          getD-take p (limited it cs) (step it p .b) noValue (b-before it i z l u) ∙ same-b u
+          ∙ sym (b-is it z cs p i l of-a of-b u)
 
       step-same : Same p
       unfolding Same stepResult
       step-same =
-          let s = step hs ss p in
-          let d = described hs ss z cs p l o in
-          limited-step hs ss cs p i l
-          ∙ ap (cutTo (head hs ss p))
+          let s = step it p in
+          let d = described it z cs p l o in
+          limited-step it cs p i l
+          ∙ ap (cutTo (head it p))
           (result-same s (cutAt (s .a)) (cutAt (s .b)) (whole (s .a)) (whole (s .b))
-          (inVariable hs ss z cs p i l of-a of-b) (s .kind)
-          (one-row hs ss z cs p i l of-a of-b) a-same b-same
-          ∙ sym (result-is hs ss z cs p i l of-a of-b))
-          ∙ cut-none (head hs ss p) (valueOf hs ss z cs p) (d .bounded) (fits p l o c) (d .four)
+          (inVariable it z cs p i l of-a of-b) (s .kind)
+          (one-row it z cs p i l of-a of-b) a-same b-same
+          ∙ sym (result-is it z cs p i l of-a of-b))
+          ∙ cut-none (head it p) (valueOf it z cs p) (d .bounded) (fits p l o c) (d .four)
 
-    below : (n p : ℕ) → p < n → p < size hs ss → IsPolynomial hs ss p → Clear hs ss p → Same p
+    below : (n p : ℕ) → p < n → p < size it → IsPolynomial it p → Clear it p → Same p
     unfolding Same
     below zero p h l o c = absurd (omega arith)
     below (suc n) p h l o c =
-        decide (ltb p (length hs))
-        (λ t. limited-input hs ss cs p (ltb-true _ _ t) ∙ sym (unlimited-input hs ss cs p (ltb-true _ _ t)))
+        decide (ltb p (length (it .headers)))
+        (λ t. limited-input it cs p (ltb-true _ _ t) ∙ sym (unlimited-input it cs p (ltb-true _ _ t)))
         (λ t.
-        let i = ltb-false p (length hs) t in
+        let i = ltb-false p (length (it .headers)) t in
         step-same p i l o c
         (λ u.
-        let b = a-before hs ss i z l u in
-        below n _ (omega arith) (omega arith) (a-polynomial hs ss i o u) (λ q m. c q (by-first i u m)))
+        let b = a-before it i z l u in
+        below n _ (omega arith) (omega arith) (a-polynomial it i o u) (λ q m. c q (by-first i u m)))
         (λ u.
-        let b = b-before hs ss i z l u in
-        below n _ (omega arith) (omega arith) (b-polynomial hs ss i o u) (λ q m. c q (by-second i u m))))
+        let b = b-before it i z l u in
+        below n _ (omega arith) (omega arith) (b-polynomial it i o u) (λ q m. c q (by-second i u m))))
 
-    pub limits-change-nothing : (p : ℕ) → p < size hs ss → Whole hs ss p → IsPolynomial hs ss p
-        → valueAt (limited hs cs ss) p ≡ valueAt (unlimited hs cs ss) p
+    pub limits-change-nothing : (p : ℕ) → p < size it → Whole it p → IsPolynomial it p
+        → valueAt (limited it cs) p ≡ valueAt (unlimited it cs) p
     unfolding Same
-    limits-change-nothing p l e o = below (suc p) p (omega arith) l o (whole-exactly hs ss z p l .0 e)
+    limits-change-nothing p l e o = below (suc p) p (omega arith) l o (whole-exactly it z p l .0 e)

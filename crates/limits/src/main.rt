@@ -3,6 +3,8 @@
 // read here decides (told-front), and it is printed whole (told-whole).
 use libc::STDIN_FILENO;
 use libc::STDOUT_FILENO;
+use model_forecast::Asked;
+use model_forecast::Given;
 use sheet_text::line::sheet_memory;
 ghost use mathlib.Core.Path.{_≡_};
 ghost use lib.ListN.{replicate};
@@ -18,6 +20,10 @@ fn main() {
     let mut text = sheet_memory();
     let mut output = answer_memory();
     let got = io::read_full(STDIN_FILENO, &mut text);
-    let n = report::answer(&text[..got], &mut output);
+    let asked = Asked {
+        chance: Given::Nothing,
+        total: Given::Nothing,
+    };
+    let n = report::answer(&text[..got], asked, &mut output);
     io::write_all(STDOUT_FILENO, &output[..n]);
 }

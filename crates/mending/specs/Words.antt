@@ -9,13 +9,13 @@ use Rattle.model_recipes.specs.declared.Step.{Step}
 use Rattle.model_recipes.specs.declared.Uses.{Uses}
 use Rattle.model_recipes.specs.Steps.{stepOf, wordOfStep, usesOf}
 use Rattle.recipes_kinds.specs.Packed.{Fields, step-fields}
-use Rattle.model_mending.specs.Words.{mendedOne, mendedHeader, ifUsed, usedFields, mendedStep, mendedWord}
+use Rattle.model_mending.specs.Words.{wordOneSpare, headerSpare, mendedOne, mendedHeader, ifUsed, usedFields, mendedStep, mendedWord}
 
-pub one-is : (w : ℕ) → w - w % 281474976710656 ≡ mendedOne w
+pub one-is : (w : ℕ) → w - w % 2 ^ wordOneSpare ≡ mendedOne w
 unfolding mendedOne
 one-is w = omega arith
 
-pub header-is : (w : ℕ) → w - w % 8192 ≡ mendedHeader w
+pub header-is : (w : ℕ) → w - w % 2 ^ headerSpare ≡ mendedHeader w
 unfolding mendedHeader
 header-is w = omega arith
 

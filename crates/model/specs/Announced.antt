@@ -8,7 +8,7 @@ use lib.Dec.{ltb, eqb}
 use Rattle.lists.specs.Four.{at, four}
 use Rattle.model.specs.declared.Header.{Header}
 use Rattle.model.specs.declared.Family.{Family}
-use Rattle.model.specs.declared.Family.the-variants.{Constant, Same, Sum, Product, Quotient, Series, Power, Shift, Substitution, Term, Order}
+use Rattle.model.specs.declared.Family.the-variants.{Constant, Same, Sum, Product, Quotient, Series, Power, Shift, Substitution, Term, Order, One}
 use Rattle.model.specs.Header.{header, limit, len, noHeader}
 use Rattle.model.specs.Limits.{minDegreesP1}
 
@@ -29,6 +29,7 @@ limitAfter (Shift v n) k l = lessIn v n k l
 limitAfter (Substitution v) k l = l
 limitAfter (Term v) k l = l
 limitAfter (Order v n) k l = l
+limitAfter One k l = l
 
 -- The length of variable k of the result: l its limit, a and b the operands' lengths (after cutting, where there are
 -- two operands), p the uncut length of v in the polynomial, which a substitution alone asks for.
@@ -44,6 +45,7 @@ lengthAfter (Shift v n) k l p a b = lessIn v n k a
 lengthAfter (Substitution v) k l p a b = cond (eqb k v) (min l (1 + (p - 1) * (b - 1))) (min l (a + (p - 1) * (b - 1)))
 lengthAfter (Term v) k l p a b = cond (eqb k v) 1 a
 lengthAfter (Order v n) k l p a b = cond (eqb k v) (min a (n + 1)) a
+lengthAfter One k l p a b = 1
 
 -- one operand; for what it lacks, p and b, stands 1
 unfoldable pub single : Family → Header → Header
@@ -70,3 +72,5 @@ announced (Shift v n) a b = single (Shift v n) a
 announced (Substitution v) a b = cond (ltb v (a .vars)) (paired (Substitution v) (len a v) a b) a
 announced (Term v) a b = single (Term v) a
 announced (Order v n) a b = single (Order v n) a
+-- document 02, W7: the operand's limits, lengths of 1
+announced One a b = single One a

@@ -91,6 +91,8 @@ pub enum Family {
     Term(usize),
     // `taylor_polynomial`: variable and order.
     Order(usize, usize),
+    // One, with the operand's limits: a power of zero in recipe edition 1.
+    One,
 }
 
 impl Header {

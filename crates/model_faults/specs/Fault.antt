@@ -6,23 +6,19 @@ use mathlib.Core.Bool.{cond}
 use mathlib.Core.List.{List, [], _++_}
 use lib.Dec.{ltb, eqb}
 use lib.ListN.{take}
-use Rattle.lists.specs.Bytes.{bytes}
 use Rattle.model.specs.declared.Header.{Header}
 use Rattle.model.specs.declared.Refusal.{Refusal}
 use Rattle.model.specs.Refusals.{isNone}
 use Rattle.model_recipes.specs.Recipe.{announcedPlaces}
+use Rattle.model_texts.specs.Cause.{causeText}
 use Rattle.model_texts.specs.Printed.{refusedText}
 use Rattle.model_texts.specs.Trace.{stepWord}
-use Rattle.model_texts.specs.Sheet.{wordOn, inputCount, coefficientCount, sheetHeaders, sheetSteps, readRefusal, sheetRefusal}
+use Rattle.model_texts.specs.Sheet.{inputCount, coefficientCount, sheetHeaders, sheetSteps, readRefusal, sheetRefusal}
 use Rattle.model_faults.specs.Broken.{brokenText}
 use Rattle.model_faults.specs.WordOne.{sizesFault}
 use Rattle.model_faults.specs.StepWord.{formedCause}
 use Rattle.model_faults.specs.StepCount.{variableCause, limitCause, countCause}
 use Rattle.model_faults.specs.Own.{whereText, lineOf, ownFault}
-
--- the header word w of an input is refused by 1
-unfoldable pub headerCause : ℕ → List ℕ
-headerCause w = bytes "its header breaks a rule; write limits and lengths anew.\n"
 
 -- the step w is refused by n, known what the places before it announce
 unfoldable pub stepCause : ℕ → ℕ → ℕ → List Header → List ℕ
@@ -34,12 +30,12 @@ stepCause n w p known =
 
 -- t: the bytes of the sheet
 module _ (t : List ℕ) where
-  -- refused while it is read: by 8, by 7 or by 1
+  -- refused while it is read: by 8, by 7, or by 1, with the fault of an input's header (document 02, W5)
   unfoldable pub readFault : Refusal → List ℕ
   readFault r =
       cond (eqb (r .number) 8) (brokenText t)
       (cond (eqb (r .number) 7) (sizesFault t)
-      (whereText (2 + r .place) (inputCount t) (r .place) ++ headerCause (wordOn t (1 + r .place))))
+      (whereText (2 + r .place) (inputCount t) (r .place) ++ causeText (r .variable) (r .cause)))
 
   -- refused once it is read: the step at the place p, by n
   unfoldable pub placeFault : ℕ → ℕ → List ℕ
@@ -51,7 +47,7 @@ module _ (t : List ℕ) where
   -- at a step, or by the program's own limits
   unfoldable pub recipeFault : Refusal → List ℕ
   recipeFault r =
-      cond (ltb (r .place) 64) (placeFault (r .place) (r .number)) (ownFault (announcedPlaces (sheetHeaders t) (sheetSteps t)) (inputCount t))
+      cond (ltb (r .place) 64) (placeFault (r .place) (r .number)) (ownFault (announcedPlaces (sheetRecipe t)) (inputCount t))
 
   -- the sentence; none where the sheet is not refused
   unfoldable pub faultText : List ℕ

@@ -1,22 +1,22 @@
 -- REFERENCE 9. What the program `limits` prints for a sheet: where it is refused what `recipe` prints and a sentence;
--- else all that is said of limits, what was put in, the verdict, and then the figures of the last value.
+-- else all that is said of limits, what was put in, the verdict, and then the total and the figures of the last value.
 use Prim.Native.Nat.{ℕ, _+_, _-_}
-use mathlib.Core.Bool.{true, cond}
+use mathlib.Core.Bool.{cond}
 use mathlib.Core.List.{List, _++_}
 use lib.Ieee.{Float}
 use lib.ListN.{length}
 use Rattle.lists.specs.Bytes.{bytes}
 use Rattle.model.specs.declared.Header.{Header}
-use Rattle.model.specs.Word.{headerOf, wordOf}
-use Rattle.model.specs.Readings.{oneF}
+use Rattle.model.specs.Word.{wordOf}
 use Rattle.model.specs.Refusals.{isNone}
 use Rattle.model_recipes.specs.Recipe.{announcedPlaces}
 use Rattle.model_texts.specs.Full.{fulls}
 use Rattle.model_texts.specs.Report.{joined, placeText, cutsText, endText, verdictText}
-use Rattle.model_texts.specs.Sentence.{refusalReport}
 use Rattle.model_texts.specs.Sheet.{sheetHeaders, sheetCoefficients, sheetSteps, sheetRefusal, lastValue}
 use Rattle.model_figures.specs.Inputs.{inputsText}
-use Rattle.model_figures.specs.Figures.{figuresText}
+use Rattle.model_faults.specs.Fault.{faultReport}
+use Rattle.model_forecast.specs.declared.Asked.{Asked}
+use Rattle.model_forecast.specs.Reckoned.{reckonedText}
 
 -- known what all n places announce, fs their full lengths, ss the step words
 unfoldable pub limitLines : List Header → List ℕ → ℕ → List ℕ → ℕ → List ℕ
@@ -35,21 +35,21 @@ module _ (known : List Header) (hs : List ℕ) (cs : List Float) (ss : List ℕ)
   abbrev pub fullLengths : List ℕ
   fullLengths = fulls known ss (length hs) placeCount
 
-  -- w the header word of the answer, xs its coefficients
-  unfoldable pub forecastText : ℕ → List Float → List ℕ
-  forecastText w xs =
+  -- w the header word of the answer, xs its coefficients, asked what the program's arguments ask for
+  unfoldable pub forecastText : ℕ → List Float → Asked → List ℕ
+  forecastText w xs asked =
       limitLines known ss (length hs) fullLengths placeCount
       ++ (inputsText hs cs
       ++ (verdictText known ss (length hs) fullLengths (placeCount - 1)
-      ++ figuresText (headerOf w) xs oneF true))
+      ++ reckonedText known hs cs ss fullLengths w xs asked))
 
 -- t: the bytes of the sheet
 module _ (t : List ℕ) where
   abbrev pub sheetKnown : List Header
-  sheetKnown = announcedPlaces (sheetHeaders t) (sheetSteps t)
+  sheetKnown = announcedPlaces (sheetRecipe t)
 
-  unfoldable pub toldText : List ℕ
-  toldText =
+  unfoldable pub toldText : Asked → List ℕ
+  toldText asked =
       cond (isNone (sheetRefusal t))
-      (forecastText sheetKnown (sheetHeaders t) (sheetCoefficients t) (sheetSteps t) (wordOf (lastValue t .head)) (lastValue t .coeffs))
-      (refusalReport (sheetRefusal t))
+      (forecastText sheetKnown (sheetHeaders t) (sheetCoefficients t) (sheetSteps t) (wordOf (lastValue t .head)) (lastValue t .coeffs) asked)
+      (faultReport t)

@@ -16,7 +16,7 @@ use Rattle.model.specs.Word.{goodWord}
 use Rattle.model.specs.Refusals.{askFor, refusedAt, noRefusal, isNone}
 use Rattle.model.specs.Gates.{badWord}
 use Rattle.model_recipes.specs.Steps.{stepOf, spareOf, usesOf}
-use Rattle.model_recipes.specs.Recipe.{headAt, announcedStep, inputHeads, announcedSteps, total, largest}
+use Rattle.model_recipes.specs.Recipe.{Recipe, headAt, announcedStep, inputHeads, announcedSteps, total, largest}
 
 -- what follows where the test holds, else a refusal at the place p
 abbrev pub askAt : Bool → ℕ → ℕ → Refusal → Refusal
@@ -26,6 +26,10 @@ askAt false k p next = refusedAt k p
 -- the first refusal; what follows where it is none
 unfoldable pub orElse : Refusal → Refusal → Refusal
 orElse r next = cond (isNone r) next r
+
+-- editions 0 and 1 (document 02, W7)
+abbrev pub knownEdition : ℕ → Bool
+knownEdition e = leb e 1
 
 -- k inputs and n steps
 unfoldable pub rightSizes : ℕ → ℕ → Bool
@@ -51,16 +55,16 @@ formed w p =
 abbrev pub lowers : Step → Bool
 lowers s = leb 7 (s .kind) && leb (s .kind) 9
 
--- the step w, known what the places before it announce
-unfoldable pub stepRefusal : ℕ → List Header → Refusal
-stepRefusal w known =
+-- the step w in the edition e, known what the places before it announce
+unfoldable pub stepRefusal : ℕ → ℕ → List Header → Refusal
+stepRefusal e w known =
     let s = stepOf w in
     let p = length known in
     let a = headAt known (s .a) in
     askAt (formed w p) 7 p
     (askAt (cond (lowers s) (ltb (s .variable) (a .vars)) true) 3 p
     (askAt (cond (lowers s) (ltb (s .n) (limit a (s .variable))) true) 4 p
-    (askAt (leb (stored (announcedStep w known)) 4096) 5 p
+    (askAt (leb (stored (announcedStep e w known)) 4096) 5 p
     noRefusal)))
 
 -- the inputs from the place p on
@@ -69,20 +73,19 @@ inputsRefusal p [] = noRefusal
 inputsRefusal p (w ∷ ws) = askFor (goodWord w) (badWord w p) (inputsRefusal (suc p) ws)
 
 -- the steps after the places known
-unfoldable pub stepsRefusal : List Header → List ℕ → Refusal
-stepsRefusal known [] = noRefusal
-stepsRefusal known (w ∷ ws) = orElse (stepRefusal w known) (stepsRefusal (known ++ (announcedStep w known ∷ [])) ws)
+unfoldable pub stepsRefusal : ℕ → List Header → List ℕ → Refusal
+stepsRefusal e known [] = noRefusal
+stepsRefusal e known (w ∷ ws) = orElse (stepRefusal e w known) (stepsRefusal e (known ++ (announcedStep e w known ∷ [])) ws)
 
--- hs the inputs' header words, ss the step words
-unfoldable pub checkRefusal : List ℕ → List ℕ → Refusal
-checkRefusal hs ss =
-    askAt (rightSizes (length hs) (length ss)) 7 64
-    (orElse (inputsRefusal 0 hs)
-    (stepsRefusal (inputHeads hs) ss))
+unfoldable pub checkRefusal : Recipe → Refusal
+checkRefusal it =
+    askAt (knownEdition (it .edition) && rightSizes (length (it .headers)) (length (it .steps))) 7 64
+    (orElse (inputsRefusal 0 (it .headers))
+    (stepsRefusal (it .edition) (inputHeads (it .headers)) (it .steps)))
 
 -- which case of the enum stands for which numbers
 unfoldable pub checkBy : Refusal → ℕ → ℕ → ℕ → CheckAnswer
 checkBy r pool most inputs = cond (isNone r) (Accepted pool most inputs) (Refused r)
 
-unfoldable pub checkAnswer : List ℕ → List ℕ → CheckAnswer
-checkAnswer hs ss = checkBy (checkRefusal hs ss) (total (announcedSteps hs ss)) (largest (announcedSteps hs ss)) (total (inputHeads hs))
+unfoldable pub checkAnswer : Recipe → CheckAnswer
+checkAnswer it = checkBy (checkRefusal it) (total (announcedSteps it)) (largest (announcedSteps it)) (total (inputHeads (it .headers)))

@@ -1,18 +1,21 @@
--- REFERENCE 6.2. Document 01, 'Recipes': the table of kinds, a row each. What a kind is called, which fields of the
+-- REFERENCE 6.2. Document 01, 'Recipes', and document 02, W7: the table of kinds, a row each. What a kind is called, which fields of the
 -- step word it uses, the family by which it announces, its operation on the operands' values, and that operation's own
 -- gate.
 use Prim.Native.Nat.{ℕ}
 use Prim.Native.String.{String}
 use mathlib.Core.List.{List, [], _∷_}
-use mathlib.Core.Bool.{Bool, true, false}
+use mathlib.Core.Bool.{Bool, true, false, _&&_, cond}
+use lib.Dec.{eqb}
 use lib.ListN.{length}
 use Rattle.model.specs.declared.Refusal.{Refusal}
 use Rattle.model.specs.declared.Family.{Family}
-use Rattle.model.specs.declared.Family.the-variants.{Constant, Same, Sum, Product, Quotient, Power, Shift, Substitution}
+use Rattle.model.specs.declared.Family.the-variants.{Constant, Same, Sum, Product, Quotient, Power, Shift, Substitution, One}
 use Rattle.model.specs.Header.{noHeader, ones}
 use Rattle.model.specs.Word.{wordOf}
 use Rattle.model.specs.Gates.{oneGate, workGate, inGate, pairGate, withGate}
 use Rattle.model.specs.Poly.{Poly}
+use Rattle.model.specs.Announced.{announced}
+use Rattle.model.specs.Readings.{oneF}
 use Rattle.model.specs.Constructed.{constant, wholeF}
 use Rattle.model.specs.Negate.{negated}
 use Rattle.model.specs.Add.{combined}
@@ -81,26 +84,37 @@ negateRow =
       gate = λ s a b n m. oneGate Same (wordOf (a .head)) (length (a .coeffs)) n;
     }
 
-abbrev powerRow : Kind
-powerRow =
+-- Document 02, W7: a power of zero, n, in edition 1 is one with the operand's limits and lengths of 1; in edition 0, the
+-- source's, it has no variables.
+abbrev pub idle : ℕ → ℕ → Bool
+idle e n = eqb e 1 && eqb n 0
+
+unfoldable pub oneLike : Poly → Poly
+oneLike a = constant (announced One (a .head) noHeader) oneF
+
+abbrev pub powerFamily : ℕ → ℕ → Family
+powerFamily e n = cond (idle e n) One (Power n)
+
+abbrev powerRow : ℕ → Kind
+powerRow e =
     record {
       name = "power";
       uses = uses true false false true;
-      family = λ s. Power (s .n);
-      value = λ s a b. powerPoly (s .n) a;
-      gate = λ s a b n m. workGate (Power (s .n)) (wordOf (a .head)) (length (a .coeffs)) n m;
+      family = λ s. powerFamily e (s .n);
+      value = λ s a b. cond (idle e (s .n)) (oneLike a) (powerPoly (s .n) a);
+      gate = λ s a b n m. workGate (powerFamily e (s .n)) (wordOf (a .head)) (length (a .coeffs)) n m;
     }
 
--- 0 to 10; there is no other kind
-abbrev pub kinds : List Kind
-kinds =
+-- 0 to 10 in the edition e; there is no other kind
+abbrev pub kinds : ℕ → List Kind
+kinds e =
     constantRow
     ∷ negateRow
     ∷ pair "add" false (λ s. Sum) (λ s. combined false)
     ∷ pair "subtract" false (λ s. Sum) (λ s. combined true)
     ∷ pair "multiply" false (λ s. Product) (λ s. productPoly)
     ∷ pair "divide" false (λ s. Quotient) (λ s. quotientPoly)
-    ∷ powerRow
+    ∷ powerRow e
     ∷ shift "derivative" derivativePoly
     ∷ shift "taylor_expansion_of_coeff" expansionPoly
     ∷ shift "shift_down" shiftDownPoly

@@ -8,20 +8,22 @@ use mathlib.Core.List.{List}
 use mathlib.Core.Bool.{true, false, cond}
 use mathlib.Core.Path.{_≡_}
 use lib.Dec.{eqb}
-use lib.ListN.{length, take, getD}
+use lib.ListN.{length, getD}
 use Rattle.model.specs.declared.Header.{Header}
 use Rattle.model.specs.declared.Refusal.{Refusal}
 use Rattle.model.specs.Header.{limit, stored}
 use Rattle.model.specs.Causes.{HeaderReason, FirstHeaderReason}
 use Rattle.model.specs.Refusals.{refusedBy}
 use Rattle.model_recipes.specs.Steps.{stepOf, spareOf, usesOf}
-use Rattle.model_recipes.specs.Recipe.{headAt, announcedStep, inputHeads, announcedPlaces, announcedSteps, total, largest}
+use Rattle.model_recipes.specs.Recipe.{Recipe, upTo, headAt, announcedStep, inputHeads, announcedPlaces, announcedSteps, total, largest}
 
--- 7: 0 to 16 inputs, 1 or more steps, together at most 64 places; hs the inputs' header words, ss the step words
-pub data WrongSizes (hs ss : List ℕ) : Type 0 where
-  many-inputs : 16 < length hs → WrongSizes hs ss
-  no-step : length ss ≡ 0 → WrongSizes hs ss
-  many-places : 64 < length hs + length ss → WrongSizes hs ss
+-- 7: 0 to 16 inputs, 1 or more steps, together at most 64 places
+pub data WrongSizes (it : Recipe) : Type 0 where
+  -- document 02, W7
+  no-edition : 1 < it .edition → WrongSizes it
+  many-inputs : 16 < length (it .headers) → WrongSizes it
+  no-step : length (it .steps) ≡ 0 → WrongSizes it
+  many-places : 64 < length (it .headers) + length (it .steps) → WrongSizes it
 
 -- 7, in the step word w at the place p: no such kind; an operand that names no earlier place; a field that its kind
 -- does not use; the last bits
@@ -40,21 +42,21 @@ pub record Shifts (w : ℕ) : Type 0 where
   pub from : 7 ≤ stepOf w .kind
   pub to : stepOf w .kind ≤ 9
 
--- the numbers of a step's reasons, known what the places before it announce
-pub data StepReason (w : ℕ) (known : List Header) : ℕ → Type 0 where
-  wrong-word : WrongWord w (length known) → StepReason w known 7
+-- the numbers of a step's reasons in the edition e, known what the places before it announce
+pub data StepReason (e w : ℕ) (known : List Header) : ℕ → Type 0 where
+  wrong-word : WrongWord w (length known) → StepReason e w known 7
   -- the variable is not below the number of variables
-  no-variable : (WrongWord w (length known) → ⊥) → Shifts w → headAt known (stepOf w .a) .vars ≤ stepOf w .variable → StepReason w known 3
+  no-variable : (WrongWord w (length known) → ⊥) → Shifts w → headAt known (stepOf w .a) .vars ≤ stepOf w .variable → StepReason e w known 3
   -- n is not below the limit
-  large-n : (WrongWord w (length known) → ⊥) → Shifts w → limit (headAt known (stepOf w .a)) (stepOf w .variable) ≤ stepOf w .n → StepReason w known 4
-  large-count : (WrongWord w (length known) → ⊥) → 4096 < stored (announcedStep w known) → StepReason w known 5
+  large-n : (WrongWord w (length known) → ⊥) → Shifts w → limit (headAt known (stepOf w .a)) (stepOf w .variable) ≤ stepOf w .n → StepReason e w known 4
+  large-count : (WrongWord w (length known) → ⊥) → 4096 < stored (announcedStep e w known) → StepReason e w known 5
 
 -- place and number
-pub data Reason (hs ss : List ℕ) : ℕ → ℕ → Type 0 where
-  sizes : WrongSizes hs ss → Reason hs ss 64 7
+pub data Reason (it : Recipe) : ℕ → ℕ → Type 0 where
+  sizes : WrongSizes it → Reason it 64 7
   -- a header that breaks the rules: something is wrong with variable v of it, or with none, by the cause c
-  input : (i v c : ℕ) → i < length hs → i < 64 → HeaderReason (getD hs i 0) v c → Reason hs ss i 1
-  step : (i n : ℕ) → i < length ss → length hs + i < 64 → StepReason (getD ss i 0) (announcedPlaces hs (take i ss)) n → Reason hs ss (length hs + i) n
+  input : (i v c : ℕ) → i < length (it .headers) → i < 64 → HeaderReason (getD (it .headers) i 0) v c → Reason it i 1
+  step : (i n : ℕ) → i < length (it .steps) → length (it .headers) + i < 64 → StepReason (it .edition) (getD (it .steps) i 0) (announcedPlaces (upTo it i)) n → Reason it (length (it .headers) + i) n
 
 -- sizes come first, then the places in order
 abbrev pub turn : ℕ → ℕ
@@ -62,23 +64,23 @@ turn p = cond (eqb p 64) 0 (suc p)
 
 -- the first place that has a reason, with its lowest number; with 1 the first variable and cause of that header, with
 -- any other number 0 and 0 (document 02, W5)
-pub record FirstReason (hs ss : List ℕ) (r : Refusal) : Type 0 where
-  pub reason : Reason hs ss (r .place) (r .number)
-  pub first : (p n : ℕ) → Reason hs ss p n → turn (r .place) ≤ turn p
-  pub lowest : (n : ℕ) → Reason hs ss (r .place) n → r .number ≤ n
-  pub fault : r .number ≡ 1 → FirstHeaderReason (getD hs (r .place) 0) (r .variable) (r .cause)
+pub record FirstReason (it : Recipe) (r : Refusal) : Type 0 where
+  pub reason : Reason it (r .place) (r .number)
+  pub first : (p n : ℕ) → Reason it p n → turn (r .place) ≤ turn p
+  pub lowest : (n : ℕ) → Reason it (r .place) n → r .number ≤ n
+  pub fault : r .number ≡ 1 → FirstHeaderReason (getD (it .headers) (r .place) 0) (r .variable) (r .cause)
   pub no-fault : (r .number ≡ 1 → ⊥) → (r .variable ≡ 0) × (r .cause ≡ 0)
 
 -- ---- a run, c, p, w and s the lengths of coefficients, pool, words and scratch
 
-abbrev pub NoReason : List ℕ → List ℕ → Type 0
-NoReason hs ss = (p n : ℕ) → Reason hs ss p n → ⊥
+abbrev pub NoReason : Recipe → Type 0
+NoReason it = (p n : ℕ) → Reason it p n → ⊥
 
 -- the check's refusal; where there is none, 2, 5, 6, each where those before it do not apply
-pub data RunReason (hs ss : List ℕ) (c p w s : ℕ) : Refusal → Type 0 where
-  of-check : (r : Refusal) → FirstReason hs ss r → RunReason hs ss c p w s r
-  few-coefficients : NoReason hs ss → c < total (inputHeads hs) → RunReason hs ss c p w s (refusedBy 2)
-  short-pool : NoReason hs ss → total (inputHeads hs) ≤ c → p < total (announcedSteps hs ss) → RunReason hs ss c p w s (refusedBy 5)
-  few-words : NoReason hs ss → total (inputHeads hs) ≤ c → w < length ss → RunReason hs ss c p w s (refusedBy 5)
-  short-scratch : NoReason hs ss → total (inputHeads hs) ≤ c → total (announcedSteps hs ss) ≤ p → length ss ≤ w
-      → s < 8 * largest (announcedSteps hs ss) → RunReason hs ss c p w s (refusedBy 6)
+pub data RunReason (it : Recipe) (c p w s : ℕ) : Refusal → Type 0 where
+  of-check : (r : Refusal) → FirstReason it r → RunReason it c p w s r
+  few-coefficients : NoReason it → c < total (inputHeads (it .headers)) → RunReason it c p w s (refusedBy 2)
+  short-pool : NoReason it → total (inputHeads (it .headers)) ≤ c → p < total (announcedSteps it) → RunReason it c p w s (refusedBy 5)
+  few-words : NoReason it → total (inputHeads (it .headers)) ≤ c → w < length (it .steps) → RunReason it c p w s (refusedBy 5)
+  short-scratch : NoReason it → total (inputHeads (it .headers)) ≤ c → total (announcedSteps it) ≤ p → length (it .steps) ≤ w
+      → s < 8 * largest (announcedSteps it) → RunReason it c p w s (refusedBy 6)

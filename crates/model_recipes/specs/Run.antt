@@ -22,7 +22,7 @@ use Rattle.model.specs.Poly.{Poly, held}
 use Rattle.model.specs.Constructed.{constant}
 use Rattle.model_recipes.specs.Kinds.{kinds}
 use Rattle.model_recipes.specs.Steps.{stepOf}
-use Rattle.model_recipes.specs.Recipe.{inputHeads, announcedSteps, total, largest}
+use Rattle.model_recipes.specs.Recipe.{Recipe, inputHeads, announcedSteps, total, largest}
 use Rattle.model_recipes.specs.Check.{orElse, checkRefusal}
 
 -- the inputs, whose coefficients lie end to end
@@ -30,9 +30,9 @@ unfoldable pub inputValues : List ℕ → List Float → List Poly
 inputValues [] cs = []
 inputValues (w ∷ ws) cs = held w cs ∷ inputValues ws (drop (stored (headerOf w)) cs)
 
--- what each kind computes
-unfoldable pub operations : Step → Poly → Poly → List Poly
-operations s a b = map (λ k. k .value s a b) kinds
+-- what each kind computes in the edition e
+unfoldable pub operations : ℕ → Step → Poly → Poly → List Poly
+operations e s a b = map (λ k. k .value s a b) (kinds e)
 
 abbrev pub noValue : Poly
 noValue = constant noHeader zeroF
@@ -40,31 +40,31 @@ noValue = constant noHeader zeroF
 abbrev pub valueAt : List Poly → ℕ → Poly
 valueAt vs p = getD vs p noValue
 
--- the step w, vs the values of the places before it
-unfoldable pub stepValue : ℕ → List Poly → Poly
-stepValue w vs = let s = stepOf w in getD (operations s (valueAt vs (s .a)) (valueAt vs (s .b))) (s .kind) noValue
+-- the step w in the edition e, vs the values of the places before it
+unfoldable pub stepValue : ℕ → ℕ → List Poly → Poly
+stepValue e w vs = let s = stepOf w in getD (operations e s (valueAt vs (s .a)) (valueAt vs (s .b))) (s .kind) noValue
 
 -- all places, and the steps
-unfoldable pub values : List ℕ → List Float → List ℕ → List Poly
-values hs cs ss = chain stepValue (inputValues hs cs) ss
+unfoldable pub values : Recipe → List Float → List Poly
+values it cs = chain (stepValue (it .edition)) (inputValues (it .headers) cs) (it .steps)
 
-unfoldable pub stepValues : List ℕ → List Float → List ℕ → List Poly
-stepValues hs cs ss = drop (length hs) (values hs cs ss)
+unfoldable pub stepValues : Recipe → List Float → List Poly
+stepValues it cs = drop (length (it .headers)) (values it cs)
 
 -- whether an operation would refuse its operands, with n places for the result and m of scratch; no run asks it
 -- (`none-refuses`, recipes_laws)
-unfoldable pub gates : Step → Poly → Poly → ℕ → ℕ → List Refusal
-gates s a b n m = map (λ k. k .gate s a b n m) kinds
+unfoldable pub gates : ℕ → Step → Poly → Poly → ℕ → ℕ → List Refusal
+gates e s a b n m = map (λ k. k .gate s a b n m) (kinds e)
 
-unfoldable pub stepGate : ℕ → List Poly → ℕ → ℕ → Refusal
-stepGate w vs n m = let s = stepOf w in getD (gates s (valueAt vs (s .a)) (valueAt vs (s .b)) n m) (s .kind) noRefusal
+unfoldable pub stepGate : ℕ → ℕ → List Poly → ℕ → ℕ → Refusal
+stepGate e w vs n m = let s = stepOf w in getD (gates e s (valueAt vs (s .a)) (valueAt vs (s .b)) n m) (s .kind) noRefusal
 
 -- 2, 5, 6: by the lengths of coefficients, pool, words and scratch
-unfoldable pub lentRefusal : List ℕ → List ℕ → ℕ → ℕ → ℕ → ℕ → Refusal
-lentRefusal hs ss c p w s =
-    ask (leb (total (inputHeads hs)) c) 2
-    (ask (leb (total (announcedSteps hs ss)) p && leb (length ss) w) 5
-    (ask (leb (8 * largest (announcedSteps hs ss)) s) 6
+unfoldable pub lentRefusal : Recipe → ℕ → ℕ → ℕ → ℕ → Refusal
+lentRefusal it c p w s =
+    ask (leb (total (inputHeads (it .headers))) c) 2
+    (ask (leb (total (announcedSteps it)) p && leb (length (it .steps)) w) 5
+    (ask (leb (8 * largest (announcedSteps it)) s) 6
     noRefusal))
 
 -- values end to end at announced counts
@@ -91,13 +91,12 @@ abbrev pub afterRun : {A : Type 0} → RunEnd → List A → List A → List A
 afterRun (refused r) made old = old
 afterRun done made old = made
 
--- hs the inputs' header words, cs their coefficients, ss the step words, pool, words and scratch the buffers as they
--- came
-module _ (hs : List ℕ) (cs : List Float) (ss : List ℕ) (pool : List Float) (words : List ℕ) (scratch : List Float) where
+-- cs the inputs' coefficients, pool, words and scratch the buffers as they came
+module _ (it : Recipe) (cs : List Float) (pool : List Float) (words : List ℕ) (scratch : List Float) where
   unfoldable pub runRefusal : Refusal
   runRefusal =
-      orElse (checkRefusal hs ss)
-      (lentRefusal hs ss (length cs) (length pool) (length words) (length scratch))
+      orElse (checkRefusal it)
+      (lentRefusal it (length cs) (length pool) (length words) (length scratch))
 
   unfoldable pub runEnd : RunEnd
   runEnd = endBy runRefusal
@@ -106,10 +105,10 @@ module _ (hs : List ℕ) (cs : List Float) (ss : List ℕ) (pool : List Float) (
   runAnswer = endAnswer runEnd
 
   unfoldable pub runPool : List Float
-  runPool = afterRun runEnd (laid (announcedSteps hs ss) (stepValues hs cs ss) ++ drop (total (announcedSteps hs ss)) pool) pool
+  runPool = afterRun runEnd (laid (announcedSteps it) (stepValues it cs) ++ drop (total (announcedSteps it)) pool) pool
 
   unfoldable pub runWords : List ℕ
-  runWords = afterRun runEnd (map (λ v. wordOf (v .head)) (stepValues hs cs ss) ++ drop (length ss) words) words
+  runWords = afterRun runEnd (map (λ v. wordOf (v .head)) (stepValues it cs) ++ drop (length (it .steps)) words) words
 
   unfoldable pub runScratch : List Float
-  runScratch = afterRun runEnd (cleared (largest (announcedSteps hs ss)) scratch) scratch
+  runScratch = afterRun runEnd (cleared (largest (announcedSteps it)) scratch) scratch

@@ -10,7 +10,7 @@ use lib.ListN.{length, getD}
 use Rattle.lists.specs.Grow.{grow}
 use Rattle.model.specs.declared.Header.{Header}
 use Rattle.model.specs.declared.Family.{Family}
-use Rattle.model.specs.declared.Family.the-variants.{Constant, Same, Sum, Product, Quotient, Series, Power, Shift, Substitution, Term, Order}
+use Rattle.model.specs.declared.Family.the-variants.{Constant, Same, Sum, Product, Quotient, Series, Power, Shift, Substitution, Term, Order, One}
 use Rattle.model.specs.Header.{len}
 use Rattle.model_recipes.specs.Steps.{stepOf}
 use Rattle.model_recipes.specs.Recipe.{familyOf, headAt}
@@ -67,6 +67,7 @@ fullAfter (Substitution v) k p a b = substitutionFull p (cond (eqb k v) 1 a) b
 -- no step is of these
 fullAfter (Term v) k p a b = a
 fullAfter (Order v n) k p a b = a
+fullAfter One k p a b = 1
 
 -- ---- of all places, four numbers a place
 
@@ -74,11 +75,11 @@ fullAfter (Order v n) k p a b = a
 abbrev pub fullAt : List ℕ → ℕ → ℕ → ℕ
 fullAt fs x v = counted (getD fs (4 * x + v) 1)
 
--- the step w, in the variable v
+-- the step w, in the variable v; a power of zero is one in every edition, so edition 0's families serve for all
 unfoldable pub stepFull : List ℕ → ℕ → ℕ → ℕ
 stepFull fs w v =
     let s = stepOf w in
-    fullAfter (familyOf s) v (fullAt fs (s .a) (s .variable)) (fullAt fs (s .a) v) (fullAt fs (s .b) v)
+    fullAfter (familyOf 0 s) v (fullAt fs (s .a) (s .variable)) (fullAt fs (s .a) v) (fullAt fs (s .b) v)
 
 module _ (known : List Header) (ss : List ℕ) (inputs : ℕ) where
   -- the next one

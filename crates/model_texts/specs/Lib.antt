@@ -8,5 +8,3 @@ pub mod Report
 pub mod Cause
 pub mod Sentence
 pub mod Number
-pub mod Figures
-pub mod Told

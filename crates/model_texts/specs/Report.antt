@@ -40,8 +40,9 @@ pairText h v = when (ltb v (h .vars)) (tell " " (limit h v) ++ tell "/" (len h v
 unfoldable pub shapeText : Header → List ℕ
 shapeText h = tell "; vars " (h .vars) ++ (when (ltb 0 (h .vars)) (bytes ":") ++ (joined (pairText h) 4 ++ bytes "\n"))
 
+-- the same in every edition
 unfoldable pub kindNames : List String
-kindNames = map (λ k. k .name) kinds
+kindNames = map (λ k. k .name) (kinds 0)
 
 unfoldable pub kindText : ℕ → List ℕ
 kindText k = bytes (getD kindNames k "")

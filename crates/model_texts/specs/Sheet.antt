@@ -18,24 +18,24 @@ use Rattle.model.specs.Word.{goodWord, wordOf}
 use Rattle.model.specs.Refusals.{askFor, noRefusal, isNone, zeros}
 use Rattle.model.specs.Gates.{badWord}
 use Rattle.model.specs.Poly.{Poly}
-use Rattle.model_recipes.specs.Recipe.{inputHeads, announcedPlaces, announcedSteps, total, largest}
-use Rattle.model_recipes.specs.Check.{askAt, orElse, rightSizes, checkRefusal}
+use Rattle.model_recipes.specs.Recipe.{Recipe, recipeOf, inputHeads, announcedPlaces, announcedSteps, total, largest}
+use Rattle.model_recipes.specs.Check.{askAt, orElse, knownEdition, rightSizes, checkRefusal}
 use Rattle.model_recipes.specs.Run.{stepValues, noValue, runRefusal}
 use Rattle.model_texts.specs.Hex.{isLine, wordAt}
 use Rattle.model_texts.specs.Printed.{doneText, refusedText}
 
 -- the program's own limits
-unfoldable pub ownRefusal : List ℕ → List ℕ → Refusal
-ownRefusal hs ss =
-    askAt ((leb (largest (announcedPlaces hs ss)) 256 && leb (total (inputHeads hs)) 2048) && leb (total (announcedSteps hs ss)) 2048) 5 64
+unfoldable pub ownRefusal : Recipe → Refusal
+ownRefusal it =
+    askAt ((leb (largest (announcedPlaces it)) 256 && leb (total (inputHeads (it .headers))) 2048) && leb (total (announcedSteps it)) 2048) 5 64
     noRefusal
 
 -- what a recipe on a sheet is refused by once it is read
-unfoldable pub recipeRefusal : List ℕ → List Float → List ℕ → Refusal
-recipeRefusal hs cs ss =
-    orElse (checkRefusal hs ss)
-    (orElse (ownRefusal hs ss)
-    (runRefusal hs cs ss (zeros (total (announcedSteps hs ss))) (table (length ss) (λ k. 0)) (zeros (8 * largest (announcedSteps hs ss)))))
+unfoldable pub recipeRefusal : Recipe → List Float → Refusal
+recipeRefusal it cs =
+    orElse (checkRefusal it)
+    (orElse (ownRefusal it)
+    (runRefusal it cs (zeros (total (announcedSteps it))) (table (length (it .steps)) (λ k. 0)) (zeros (8 * largest (announcedSteps it)))))
 
 -- t: the bytes of the sheet
 module _ (t : List ℕ) where
@@ -53,8 +53,11 @@ module _ (t : List ℕ) where
   unfoldable pub stepCount : ℕ
   stepCount = wordOn 0 / 2 ^ 48 % 2 ^ 8
 
+  unfoldable pub sheetEdition : ℕ
+  sheetEdition = wordOn 0 / 2 ^ 44 % 2 ^ 4
+
   unfoldable pub spare : ℕ
-  spare = wordOn 0 % 2 ^ 48
+  spare = wordOn 0 % 2 ^ 44
 
   unfoldable pub sheetHeaders : List ℕ
   sheetHeaders = table inputCount (λ i. wordOn (1 + i))
@@ -68,6 +71,9 @@ module _ (t : List ℕ) where
   unfoldable pub sheetSteps : List ℕ
   sheetSteps = table stepCount (λ j. wordOn (1 + inputCount + coefficientCount + j))
 
+  unfoldable pub sheetRecipe : Recipe
+  sheetRecipe = recipeOf sheetEdition sheetHeaders sheetSteps
+
   -- n headers, the first of them input i's
   unfoldable pub headersRefusal : ℕ → ℕ → Refusal
   headersRefusal zero i = noRefusal
@@ -80,17 +86,17 @@ module _ (t : List ℕ) where
   unfoldable pub readRefusal : Refusal
   readRefusal =
       askAt (lined 0) 8 64
-      (askAt (rightSizes inputCount stepCount && eqb spare 0) 7 64
+      (askAt (knownEdition sheetEdition && (rightSizes inputCount stepCount && eqb spare 0)) 7 64
       (orElse (headersRefusal inputCount 0)
       (askAt (every lined restCount (1 + inputCount)) 8 64
       (askAt (leb (length t) (17 * (1 + inputCount + restCount))) 8 64
       noRefusal))))
 
   unfoldable pub sheetRefusal : Refusal
-  sheetRefusal = orElse readRefusal (recipeRefusal sheetHeaders sheetCoefficients sheetSteps)
+  sheetRefusal = orElse readRefusal (recipeRefusal sheetRecipe sheetCoefficients)
 
   unfoldable pub lastValue : Poly
-  lastValue = getD (stepValues sheetHeaders sheetCoefficients sheetSteps) (stepCount - 1) noValue
+  lastValue = getD (stepValues sheetRecipe sheetCoefficients) (stepCount - 1) noValue
 
   -- all that is printed
   unfoldable pub sheetOutput : List ℕ

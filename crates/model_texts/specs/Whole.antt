@@ -9,7 +9,7 @@ use lib.ListN.{length, getD}
 use Rattle.lists.specs.Grow.{grow}
 use Rattle.model.specs.declared.Header.{Header}
 use Rattle.model.specs.declared.Family.{Family}
-use Rattle.model.specs.declared.Family.the-variants.{Constant, Same, Sum, Product, Quotient, Series, Power, Shift, Substitution, Term, Order}
+use Rattle.model.specs.declared.Family.the-variants.{Constant, Same, Sum, Product, Quotient, Series, Power, Shift, Substitution, Term, Order, One}
 use Rattle.model_recipes.specs.Steps.{stepOf}
 use Rattle.model_recipes.specs.Recipe.{familyOf}
 use Rattle.model_texts.specs.Trace.{stepWord, has, limitAt}
@@ -30,6 +30,7 @@ needsFirst (Shift v n) = true
 needsFirst (Substitution v) = true
 needsFirst (Term v) = true
 needsFirst (Order v n) = true
+needsFirst One = false
 
 unfoldable pub needsSecond : Family → ℕ → Bool
 needsSecond Sum p = true
@@ -43,6 +44,7 @@ needsSecond (Power e) p = false
 needsSecond (Shift v n) p = false
 needsSecond (Term v) p = false
 needsSecond (Order v n) p = false
+needsSecond One p = false
 
 module _ (known : List Header) (fs : List ℕ) where
   -- the full length of the place p passes its limit in the variable v
@@ -60,7 +62,7 @@ module _ (known : List Header) (ss : List ℕ) (inputs : ℕ) (fs : List ℕ) wh
   firstNext ls =
       let p = length ls in
       let s = stepOf (stepWord ss inputs p) in
-      let f = familyOf s in
+      let f = familyOf 0 s in
       cond (ltb p inputs) 64
       (min (cond (leavesOut known fs p) p 64)
       (min (cond (needsFirst f) (getD ls (s .a) 64) 64)

@@ -15,7 +15,7 @@ use Rattle.model.specs.declared.Header.{Header}
 use Rattle.model.specs.declared.Refusal.{Refusal}
 use Rattle.model.specs.Word.{headerOf}
 use Rattle.model.specs.Refusals.{refusedBy, noRefusal, zeros, cleared}
-use Rattle.model_recipes.specs.Recipe.{inputHeads, announcedPlaces, announcedSteps, total, largest}
+use Rattle.model_recipes.specs.Recipe.{Recipe, inputHeads, announcedPlaces, announcedSteps, total, largest}
 use Rattle.model_recipes.specs.Check.{orElse, checkRefusal}
 use Rattle.model_recipes.specs.Run.{lentRefusal}
 use Rattle.shape_words.specs.Lengths.{lengths-of, count-most}
@@ -29,38 +29,38 @@ use Rattle.recipes.specs.Standing.{Placing}
 use Rattle.recipes.specs.Running.{Admitted}
 
 -- c, p, w and s the lengths of coefficients, pool, words and scratch
-pub record Admits (hs ss : List ℕ) (c p w s : ℕ) (old new : List ℕ) (r : Refusal) : Type 0 where
-  pub answer : r ≡ orElse (checkRefusal hs ss) (lentRefusal hs ss c p w s)
+pub record Admits (it : Recipe) (c p w s : ℕ) (old new : List ℕ) (r : Refusal) : Type 0 where
+  pub answer : r ≡ orElse (checkRefusal it) (lentRefusal it c p w s)
   pub len : length new ≡ length old
-  pub noted : r .number ≡ 0 → heads (length hs + length ss) new ≡ announcedPlaces hs ss
+  pub noted : r .number ≡ 0 → heads (length (it .headers) + length (it .steps)) new ≡ announcedPlaces it
 
-module _ (hs ss : List ℕ) (c p w s : ℕ) {old new : List ℕ} {r : Refusal} (j : Judged hs ss old new r) where
-  pub admit-check : (r .number ≡ 0 → ⊥) → Admits hs ss c p w s old new r
-  admit-check n = record { answer = sym (rw (← j .answer) (or-first {r = r} (lentRefusal hs ss c p w s) n)); len = j .len; noted = j .noted }
+module _ (it : Recipe) (c p w s : ℕ) {old new : List ℕ} {r : Refusal} (j : Judged it old new r) where
+  pub admit-check : (r .number ≡ 0 → ⊥) → Admits it c p w s old new r
+  admit-check n = record { answer = sym (rw (← j .answer) (or-first {r = r} (lentRefusal it c p w s) n)); len = j .len; noted = j .noted }
 
   module _ (z : r .number ≡ 0) where
-    past-check : orElse (checkRefusal hs ss) (lentRefusal hs ss c p w s) ≡ lentRefusal hs ss c p w s
-    past-check = or-next (checkRefusal hs ss) (lentRefusal hs ss c p w s) (ap (λ (x : Refusal). x .number) (sym (j .answer)) ∙ z)
+    past-check : orElse (checkRefusal it) (lentRefusal it c p w s) ≡ lentRefusal it c p w s
+    past-check = or-next (checkRefusal it) (lentRefusal it c p w s) (ap (λ (x : Refusal). x .number) (sym (j .answer)) ∙ z)
 
-    lent : {q : Refusal} → q ≡ lentRefusal hs ss c p w s → Admits hs ss c p w s old new q
+    lent : {q : Refusal} → q ≡ lentRefusal it c p w s → Admits it c p w s old new q
     lent e = record { answer = e ∙ sym past-check; len = j .len; noted = λ y. j .noted z }
 
-    module _ {a : ℕ} (ea : a ≡ total (inputHeads hs)) where
-      pub admit-2 : c < a → Admits hs ss c p w s old new (refusedBy 2)
+    module _ {a : ℕ} (ea : a ≡ total (inputHeads (it .headers))) where
+      pub admit-2 : c < a → Admits it c p w s old new (refusedBy 2)
       unfolding lentRefusal
       admit-2 l = lent (rw (← ea) (simp (lt-leb _ _ l)))
 
-      module _ (la : a ≤ c) {b : ℕ} (eb : b ≡ total (announcedSteps hs ss)) where
-        pub admit-5 : (leb b p && leb (length ss) w) ≡ false → Admits hs ss c p w s old new (refusedBy 5)
+      module _ (la : a ≤ c) {b : ℕ} (eb : b ≡ total (announcedSteps it)) where
+        pub admit-5 : (leb b p && leb (length (it .steps)) w) ≡ false → Admits it c p w s old new (refusedBy 5)
         unfolding lentRefusal
         admit-5 l = lent (rw (← ea, ← eb) (simp (le-leb _ _ la, l)))
 
-        module _ (lb : (leb b p && leb (length ss) w) ≡ true) {m : ℕ} (em : m ≡ largest (announcedSteps hs ss)) where
-          pub admit-6 : s < 8 * m → Admits hs ss c p w s old new (refusedBy 6)
+        module _ (lb : (leb b p && leb (length (it .steps)) w) ≡ true) {m : ℕ} (em : m ≡ largest (announcedSteps it)) where
+          pub admit-6 : s < 8 * m → Admits it c p w s old new (refusedBy 6)
           unfolding lentRefusal
           admit-6 l = lent (rw (← ea, ← eb, ← em) (simp (le-leb _ _ la, lb, lt-leb _ _ l)))
 
-          pub admit-none : 8 * m ≤ s → Admits hs ss c p w s old new noRefusal
+          pub admit-none : 8 * m ≤ s → Admits it c p w s old new noRefusal
           unfolding lentRefusal
           admit-none l = lent (rw (← ea, ← eb, ← em) (simp (le-leb _ _ la, lb, le-leb _ _ l)))
 
@@ -72,22 +72,22 @@ largest-most (h ∷ known) g = omega (arith, count-most (lengths-of (g .at 0 .ru
 
 -- ---- a run that is admitted
 
-module _ {hs : List ℕ} {cs : List Float} {ss known : List ℕ} {mp ms : ℕ} (g : Admitted hs cs ss known mp ms) where
-  pub run-passed : Passed hs ss known
-  run-passed = let j : Judged hs ss known known (checkRefusal hs ss) = record { answer = refl; len = refl; noted = λ z. g .noted } in passed j (g .none)
+module _ {it : Recipe} {cs : List Float} {known : List ℕ} {mp ms : ℕ} (g : Admitted it cs known mp ms) where
+  pub run-passed : Passed it known
+  run-passed = let j : Judged it known known (checkRefusal it) = record { answer = refl; len = refl; noted = λ z. g .noted } in passed j (g .none)
 
-  pub run-some : 1 ≤ length ss
-  run-some = accepts hs ss (g .none) .sizes .some
+  pub run-some : 1 ≤ length (it .steps)
+  run-some = accepts it (g .none) .sizes .some
 
   -- where the last value begins
-  pub last-start : {starts : List ℕ} → Placing (inputHeads hs) (announcedSteps hs ss) starts
-      → getD starts (length hs + length ss - 1) 0 ≡ total (take (length ss - 1) (announcedSteps hs ss))
+  pub last-start : {starts : List ℕ} → Placing (inputHeads (it .headers)) (announcedSteps it) starts
+      → getD starts (length (it .headers) + length (it .steps) - 1) 0 ≡ total (take (length (it .steps) - 1) (announcedSteps it))
   last-start {starts} p =
-      let e : length hs + length ss - 1 ≡ length (inputHeads hs) + (length ss - 1) = omega (arith, length-map hs headerOf, run-some) in
-      ap (λ (x : ℕ). getD starts x 0) e ∙ p .steps (length ss - 1) (omega (arith, length-announced hs ss, run-some))
+      let e : length (it .headers) + length (it .steps) - 1 ≡ length (inputHeads (it .headers)) + (length (it .steps) - 1) = omega (arith, length-map (it .headers) headerOf, run-some) in
+      ap (λ (x : ℕ). getD starts x 0) e ∙ p .steps (length (it .steps) - 1) (omega (arith, length-announced it, run-some))
 
   -- it needs no more scratch than the largest count asks for
-  pub admitted-exactly : {m : ℕ} → m ≡ 8 * largest (announcedSteps hs ss) → Admitted hs cs ss known mp m
+  pub admitted-exactly : {m : ℕ} → m ≡ 8 * largest (announcedSteps it) → Admitted it cs known mp m
   admitted-exactly e = record { none = g .none; full = g .full; pool = g .pool; room = omega (arith, e); noted = g .noted; many = g .many }
 
 -- the words of the steps, then what was there

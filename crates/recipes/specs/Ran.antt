@@ -9,7 +9,7 @@ use Rattle.model.specs.declared.Refusal.{Refusal}
 use Rattle.model_recipes.specs.declared.RunAnswer.the-variants.{Done, Refused}
 use Rattle.model.specs.Word.{wordOf}
 use Rattle.model.specs.Refusals.{cleared}
-use Rattle.model_recipes.specs.Recipe.{announcedSteps, total, largest}
+use Rattle.model_recipes.specs.Recipe.{Recipe, announcedSteps, total, largest}
 use Rattle.model_recipes.specs.Check.{checkRefusal}
 use Rattle.model_recipes.specs.Run.{stepValues, laid, lentRefusal, runRefusal, runEnd, runAnswer, runPool, runWords, runScratch}
 use Rattle.recipes_check.specs.Asks.{or-none}
@@ -18,55 +18,55 @@ use Rattle.recipes_laws.specs.Refuses.{Lent, lent-enough}
 use Rattle.recipes.specs.Running.{Admitted}
 use Rattle.recipes.specs.Admission.{Admits}
 
-module _ (hs : List ℕ) (cs : List Float) (ss : List ℕ) (pool : List Float) (words : List ℕ) (scratch : List Float) {old new : List ℕ} {r : Refusal}
-    (a : Admits hs ss (length cs) (length pool) (length words) (length scratch) old new r) where
-  refusal : r ≡ runRefusal hs cs ss pool words scratch
+module _ (it : Recipe) (cs : List Float) (pool : List Float) (words : List ℕ) (scratch : List Float) {old new : List ℕ} {r : Refusal}
+    (a : Admits it (length cs) (length pool) (length words) (length scratch) old new r) where
+  refusal : r ≡ runRefusal it cs pool words scratch
   unfolding runRefusal
   refusal = a .answer
 
   module _ (n : r .number ≡ 0 → ⊥) where
-    pub no-answer : Refused r ≡ runAnswer hs cs ss pool words scratch
+    pub no-answer : Refused r ≡ runAnswer it cs pool words scratch
     unfolding runAnswer runEnd
     no-answer = rw (← refusal, end-refused r n)
 
-    pub no-pool : pool ≡ runPool hs cs ss pool words scratch
+    pub no-pool : pool ≡ runPool it cs pool words scratch
     unfolding runPool runEnd
     no-pool = rw (← refusal, end-refused r n)
 
-    pub no-words : words ≡ runWords hs cs ss pool words scratch
+    pub no-words : words ≡ runWords it cs pool words scratch
     unfolding runWords runEnd
     no-words = rw (← refusal, end-refused r n)
 
-    pub no-scratch : scratch ≡ runScratch hs cs ss pool words scratch
+    pub no-scratch : scratch ≡ runScratch it cs pool words scratch
     unfolding runScratch runEnd
     no-scratch = rw (← refusal, end-refused r n)
 
   module _ (z : r .number ≡ 0) where
-    both : (checkRefusal hs ss .number ≡ 0) × (lentRefusal hs ss (length cs) (length pool) (length words) (length scratch) .number ≡ 0)
+    both : (checkRefusal it .number ≡ 0) × (lentRefusal it (length cs) (length pool) (length words) (length scratch) .number ≡ 0)
     both = or-none _ _ (ap (λ (q : Refusal). q .number) (sym (a .answer)) ∙ z)
 
-    lent : Lent hs ss (length cs) (length pool) (length words) (length scratch)
-    lent = lent-enough hs ss (length cs) (length pool) (length words) (length scratch) (both .1)
+    lent : Lent it (length cs) (length pool) (length words) (length scratch)
+    lent = lent-enough it (length cs) (length pool) (length words) (length scratch) (both .1)
 
-    pub admitted : 64 ≤ length new → Admitted hs cs ss new (length pool) (length scratch)
+    pub admitted : 64 ≤ length new → Admitted it cs new (length pool) (length scratch)
     admitted m = record { none = both .0; full = lent .coeffs; pool = lent .pool; room = lent .scratch; noted = a .noted z; many = m }
 
-    pub enough-words : length ss ≤ length words
+    pub enough-words : length (it .steps) ≤ length words
     enough-words = lent .words
 
-    pub yes-answer : Done ≡ runAnswer hs cs ss pool words scratch
+    pub yes-answer : Done ≡ runAnswer it cs pool words scratch
     unfolding runAnswer runEnd
     yes-answer = rw (← refusal, end-done r z)
 
-    pub yes-pool : {p : List Float} → p ≡ laid (announcedSteps hs ss) (stepValues hs cs ss)
-        ++ drop (total (announcedSteps hs ss)) pool → p ≡ runPool hs cs ss pool words scratch
+    pub yes-pool : {p : List Float} → p ≡ laid (announcedSteps it) (stepValues it cs)
+        ++ drop (total (announcedSteps it)) pool → p ≡ runPool it cs pool words scratch
     unfolding runPool runEnd
     yes-pool e = rw (← refusal, end-done r z) e
 
-    pub yes-words : {w : List ℕ} → w ≡ map (λ v. wordOf (v .head)) (stepValues hs cs ss) ++ drop (length ss) words → w ≡ runWords hs cs ss pool words scratch
+    pub yes-words : {w : List ℕ} → w ≡ map (λ v. wordOf (v .head)) (stepValues it cs) ++ drop (length (it .steps)) words → w ≡ runWords it cs pool words scratch
     unfolding runWords runEnd
     yes-words e = rw (← refusal, end-done r z) e
 
-    pub yes-scratch : {s : List Float} → s ≡ cleared (largest (announcedSteps hs ss)) scratch → s ≡ runScratch hs cs ss pool words scratch
+    pub yes-scratch : {s : List Float} → s ≡ cleared (largest (announcedSteps it)) scratch → s ≡ runScratch it cs pool words scratch
     unfolding runScratch runEnd
     yes-scratch e = rw (← refusal, end-done r z) e

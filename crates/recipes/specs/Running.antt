@@ -21,7 +21,7 @@ use Rattle.model.specs.Word.{headerOf, wordOf}
 use Rattle.model.specs.Refusals.{padded}
 use Rattle.model.specs.Poly.{Poly}
 use Rattle.model_recipes.specs.Steps.{stepOf, rows, usesOf}
-use Rattle.model_recipes.specs.Recipe.{headAt, announcedStep, inputHeads, announcedPlaces, announcedSteps, total, largest}
+use Rattle.model_recipes.specs.Recipe.{recipeOf, Recipe, upTo, headAt, announcedStep, inputHeads, announcedPlaces, announcedSteps, total, largest}
 use Rattle.model_recipes.specs.Check.{namedBefore, formed, checkRefusal}
 use Rattle.model_recipes.specs.Reasons.{no-kind}
 use Rattle.model_recipes.specs.Run.{inputValues, noValue, valueAt, stepValue, values, stepValues, laid}
@@ -32,7 +32,6 @@ use Rattle.shape.specs.Keeps.{Keeps}
 use Rattle.shape.specs.Under.{count-under}
 use Rattle.recipes_kinds.specs.Known.{head-at, small-variable, step-regular}
 use Rattle.shape_operands.specs.Lent.{Lent}
-use Rattle.recipes_steps.specs.Ready.{valueOf}
 use Rattle.recipes_check.specs.Judging.{heads}
 use Rattle.recipes_check.specs.Judged.{accepts}
 use Rattle.recipes_laws.specs.Formed.{formed-tests, formed-right}
@@ -41,7 +40,7 @@ use Rattle.recipes_laws.specs.EachKind.{by-kind}
 use Rattle.recipes_laws.specs.Follows.{length-inputs, follows-known}
 use Rattle.recipes_laws.specs.Ahead.{Clear, ahead-at, clear-at, ready-at, keeps-at, announced-at, length-announced, step-largest}
 use Rattle.recipes_laws.specs.Passed.{StepReady}
-use Rattle.recipes.specs.Standing.{lyingAt, Named, StepIn, constant-value, Placing, total-more, At, at-lying, at-lies, at-later, at-new, input-at}
+use Rattle.recipes.specs.Standing.{valueIn, plain-fits, lyingAt, Named, StepIn, constant-value, Placing, total-more, At, at-lying, at-lies, at-later, at-new, input-at}
 
 -- ---- operands of a step that is right
 
@@ -117,64 +116,67 @@ input-head (w ∷ ws) cs (suc q) = input-head ws (drop (stored (headerOf w)) cs)
 -- ---- the run
 
 -- the check accepts, the buffers are as long as it says, and the words that the places announce are known
-pub record Admitted (hs : List ℕ) (cs : List Float) (ss : List ℕ) (known : List ℕ) (mp ms : ℕ) : Type 0 where
-  pub none : checkRefusal hs ss .number ≡ 0
-  pub full : total (inputHeads hs) ≤ length cs
-  pub pool : total (announcedSteps hs ss) ≤ mp
-  pub room : 8 * largest (announcedSteps hs ss) ≤ ms
-  pub noted : heads (length hs + length ss) known ≡ announcedPlaces hs ss
+pub record Admitted (it : Recipe) (cs : List Float) (known : List ℕ) (mp ms : ℕ) : Type 0 where
+  pub none : checkRefusal it .number ≡ 0
+  pub full : total (inputHeads (it .headers)) ≤ length cs
+  pub pool : total (announcedSteps it) ≤ mp
+  pub room : 8 * largest (announcedSteps it) ≤ ms
+  pub noted : heads (length (it .headers) + length (it .steps)) known ≡ announcedPlaces it
   pub many : 64 ≤ length known
 
 -- old the words and the pool as they came
-pub record Running (hs : List ℕ) (cs : List Float) (ss old-known : List ℕ) (old-pool : List Float) (i at : ℕ)
+pub record Running (it : Recipe) (cs : List Float) (old-known : List ℕ) (old-pool : List Float) (i at : ℕ)
     (known starts : List ℕ) (pool : List Float) : Type 0 where
-  pub most : i ≤ length ss
-  pub offset : at ≡ total (take i (announcedSteps hs ss))
+  pub most : i ≤ length (it .steps)
+  pub offset : at ≡ total (take i (announcedSteps it))
   pub len-known : length known ≡ length old-known
   pub len-starts : 64 ≤ length starts
   pub len-pool : length pool ≡ length old-pool
-  pub true-heads : (q : ℕ) → q < length hs + i → headerOf (getD known q 0) ≡ valueAt (values hs cs (take i ss)) q .head
-  pub written : (j : ℕ) → j < i → getD known (length hs + j) 0 ≡ wordOf (valueAt (values hs cs (take i ss)) (length hs + j) .head)
-  pub later : (q : ℕ) → length hs + i ≤ q → getD known q 0 ≡ getD old-known q 0
-  pub placed : (j : ℕ) → j < length ss → getD starts (length hs + j) 0 ≡ total (take j (announcedSteps hs ss))
-  pub stands : (q : ℕ) → q < length hs + i → At (ltb q (length hs)) (getD starts q 0) cs (take at pool) (valueAt (values hs cs (take i ss)) q)
-  pub lies : take at pool ≡ laid (take i (announcedSteps hs ss)) (drop (length hs) (values hs cs (take i ss)))
+  pub true-heads : (q : ℕ) → q < length (it .headers) + i → headerOf (getD known q 0) ≡ valueAt (values (upTo it i) cs) q .head
+  pub written : (j : ℕ) → j < i → getD known (length (it .headers) + j) 0 ≡ wordOf (valueAt (values (upTo it i) cs) (length (it .headers) + j) .head)
+  pub later : (q : ℕ) → length (it .headers) + i ≤ q → getD known q 0 ≡ getD old-known q 0
+  pub placed : (j : ℕ) → j < length (it .steps) → getD starts (length (it .headers) + j) 0 ≡ total (take j (announcedSteps it))
+  pub stands : (q : ℕ) → q < length (it .headers) + i → At (ltb q (length (it .headers))) (getD starts q 0) cs (take at pool) (valueAt (values (upTo it i) cs) q)
+  pub lies : take at pool ≡ laid (take i (announcedSteps it)) (drop (length (it .headers)) (values (upTo it i) cs))
   pub rest : drop at pool ≡ drop at old-pool
 
-module _ {hs : List ℕ} {cs : List Float} {ss old-known : List ℕ} {mp ms : ℕ} (g : Admitted hs cs ss old-known mp ms) where
+module _ {it : Recipe} {cs : List Float} {old-known : List ℕ} {mp ms : ℕ} (g : Admitted it cs old-known mp ms) where
   abbrev k : ℕ
-  k = length hs
+  k = length (it .headers)
 
-  pub fit : k + length ss ≤ 64
-  fit = accepts hs ss (g .none) .sizes .fit
+  abbrev ed : ℕ
+  ed = it .edition
 
-  count-inputs : length (inputValues hs cs) ≡ k
-  count-inputs = length-inputs hs cs ∙ length-map hs headerOf
+  pub fit : k + length (it .steps) ≤ 64
+  fit = accepts it (g .none) .sizes .fit
 
-  length-values : (i : ℕ) → i ≤ length ss → length (values hs cs (take i ss)) ≡ k + i
+  count-inputs : length (inputValues (it .headers) cs) ≡ k
+  count-inputs = length-inputs (it .headers) cs ∙ length-map (it .headers) headerOf
+
+  length-values : (i : ℕ) → i ≤ length (it .steps) → length (values (upTo it i) cs) ≡ k + i
   unfolding values
-  length-values i l = omega (arith, length-chain stepValue (inputValues hs cs) (take i ss), count-inputs, length-take-le i ss l)
+  length-values i l = omega (arith, length-chain (stepValue (it .edition)) (inputValues (it .headers) cs) (take i (it .steps)), count-inputs, length-take-le i (it .steps) l)
 
   -- what the word of a place that has no value yet announces
-  noted-at : (q : ℕ) → q < k + length ss → headerOf (getD old-known q 0) ≡ headAt (announcedPlaces hs ss) q
+  noted-at : (q : ℕ) → q < k + length (it .steps) → headerOf (getD old-known q 0) ≡ headAt (announcedPlaces it) q
   noted-at q l =
-      ap headerOf (sym (getD-take (k + length ss) old-known q 0 l))
-      ∙ (sym (head-at (take (k + length ss) old-known) q) ∙ ap (λ (x : List Header). headAt x q) (g .noted))
+      ap headerOf (sym (getD-take (k + length (it .steps)) old-known q 0 l))
+      ∙ (sym (head-at (take (k + length (it .steps)) old-known) q) ∙ ap (λ (x : List Header). headAt x q) (g .noted))
 
-  first-head : (q : ℕ) → q < k → headAt (announcedPlaces hs ss) q ≡ valueAt (inputValues hs cs) q .head
+  first-head : (q : ℕ) → q < k → headAt (announcedPlaces it) q ≡ valueAt (inputValues (it .headers) cs) q .head
   unfolding announcedPlaces
   first-head q l =
-      let e : take k (chain announcedStep (inputHeads hs) ss) ≡ inputHeads hs =
-      chain-keeps announcedStep (inputHeads hs) ss k (omega (arith, length-map hs headerOf))
-      ∙ take-all k (inputHeads hs) (omega (arith, length-map hs headerOf)) in
-      sym (getD-take k (chain announcedStep (inputHeads hs) ss) q noHeader l) ∙ (ap (λ (x : List Header). headAt x q) e ∙ input-head hs cs q)
+      let e : take k (chain (announcedStep (it .edition)) (inputHeads (it .headers)) (it .steps)) ≡ inputHeads (it .headers) =
+      chain-keeps (announcedStep (it .edition)) (inputHeads (it .headers)) (it .steps) k (omega (arith, length-map (it .headers) headerOf))
+      ∙ take-all k (inputHeads (it .headers)) (omega (arith, length-map (it .headers) headerOf)) in
+      sym (getD-take k (chain (announcedStep (it .edition)) (inputHeads (it .headers)) (it .steps)) q noHeader l) ∙ (ap (λ (x : List Header). headAt x q) e ∙ input-head (it .headers) cs q)
 
   -- ---- at the beginning
-  pub running-none : {starts : List ℕ} (pool : List Float) → Placing (inputHeads hs) (announcedSteps hs ss) starts → 64 ≤ length starts
-      → Running hs cs ss old-known pool 0 (total (take 0 (announcedSteps hs ss))) old-known starts pool
+  pub running-none : {starts : List ℕ} (pool : List Float) → Placing (inputHeads (it .headers)) (announcedSteps it) starts → 64 ≤ length starts
+      → Running it cs old-known pool 0 (total (take 0 (announcedSteps it))) old-known starts pool
   unfolding total values chain laid
   running-none {starts} pool p l =
-      let n : length (inputHeads hs) ≡ k = length-map hs headerOf in
+      let n : length (inputHeads (it .headers)) ≡ k = length-map (it .headers) headerOf in
       record {
         most = omega arith;
         offset = refl;
@@ -184,82 +186,82 @@ module _ {hs : List ℕ} {cs : List Float} {ss old-known : List ℕ} {mp ms : �
         true-heads = λ q h. noted-at q (omega arith) ∙ first-head q (omega arith);
         written = λ j h. absurd (omega arith);
         later = λ q h. refl;
-        placed = λ j h. rw (← n) (p .steps j (omega (arith, length-announced hs ss)));
-        stands = λ q h. rw (lt-ltb q k (omega arith), p .inputs q (omega (arith, n))) (input-at hs cs q (omega arith) (g .full));
+        placed = λ j h. rw (← n) (p .steps j (omega (arith, length-announced it)));
+        stands = λ q h. rw (lt-ltb q k (omega arith), p .inputs q (omega (arith, n))) (input-at (it .headers) cs q (omega arith) (g .full));
         lies = refl;
         rest = refl;
       }
 
   -- where the next value begins: as it is placed, and as it lies
   pub running-from : {old-pool : List Float} {i : ℕ} {known starts : List ℕ} {pool : List Float}
-      → Running hs cs ss old-known old-pool i (total (take i (announcedSteps hs ss))) known starts pool → i < length ss
-      → Running hs cs ss old-known old-pool i (getD starts (k + i) 0) known starts pool
+      → Running it cs old-known old-pool i (total (take i (announcedSteps it))) known starts pool → i < length (it .steps)
+      → Running it cs old-known old-pool i (getD starts (k + i) 0) known starts pool
   running-from {i = i} r l = rw (r .placed i l) r
 
   pub running-at : {old-pool : List Float} {i at : ℕ} {known starts : List ℕ} {pool : List Float}
-      → Running hs cs ss old-known old-pool i at known starts pool
-      → Running hs cs ss old-known old-pool i (total (take i (announcedSteps hs ss))) known starts pool
+      → Running it cs old-known old-pool i at known starts pool
+      → Running it cs old-known old-pool i (total (take i (announcedSteps it))) known starts pool
   running-at r = rw (r .offset) at r
 
   -- ---- one step more
   module _ {old-pool : List Float} {i at : ℕ} {known starts : List ℕ} {pool : List Float}
-      (r : Running hs cs ss old-known old-pool i at known starts pool) (l : i < length ss) where
+      (r : Running it cs old-known old-pool i at known starts pool) (l : i < length (it .steps)) where
     abbrev w : ℕ
-    w = getD ss i 0
+    w = getD (it .steps) i 0
 
     abbrev before : List Header
-    before = announcedPlaces hs (take i ss)
+    before = announcedPlaces (upTo it i)
 
     abbrev vs : List Poly
-    vs = values hs cs (take i ss)
+    vs = values (upTo it i) cs
 
     abbrev step : Step
     step = stepOf w
 
-    next : headAt (announcedSteps hs ss) i ≡ announcedStep w before
+    next : headAt (announcedSteps it) i ≡ announcedStep ed w before
     unfolding announcedSteps
-    next = getD-drop k (announcedPlaces hs ss) i noHeader ∙ announced-at hs ss i l
+    next = getD-drop k (announcedPlaces it) i noHeader ∙ announced-at it i l
 
-    announced-rules : Regular (announcedStep w before)
-    announced-rules = step-regular w (follows-known (ahead-at hs cs ss (g .none) (g .full) (g .room) i .now))
+    announced-rules : Regular (announcedStep ed w before)
+    announced-rules = step-regular ed w (follows-known (ahead-at it cs (g .none) (g .full) (g .room) i .now))
 
-    head-is : headerOf (getD known (k + i) 0) ≡ announcedStep w before
-    head-is = ap headerOf (r .later (k + i) (omega arith)) ∙ (noted-at (k + i) (omega arith) ∙ announced-at hs ss i l)
+    head-is : headerOf (getD known (k + i) 0) ≡ announcedStep ed w before
+    head-is = ap headerOf (r .later (k + i) (omega arith)) ∙ (noted-at (k + i) (omega arith) ∙ announced-at it i l)
 
     pub room-ruled : Ruled (headerOf (getD known (k + i) 0))
     room-ruled = rw head-is (announced-rules .rules)
 
     -- its announced count
-    pub room-is : stored (headerOf (getD known (k + i) 0)) ≡ stored (announcedStep w before)
+    pub room-is : stored (headerOf (getD known (k + i) 0)) ≡ stored (announcedStep ed w before)
     room-is = ap stored head-is
 
-    clear-now : Clear w before
-    clear-now = clear-at hs cs ss (g .none) (g .full) (g .room) i l
+    clear-now : Clear ed w before
+    clear-now = clear-at it cs (g .none) (g .full) (g .room) i l
 
-    ready-now : StepReady w vs (stored (announcedStep w before)) ms
-    ready-now = ready-at hs cs ss (g .none) (g .full) (g .room) i l
+    ready-now : StepReady ed w vs (stored (announcedStep ed w before)) ms
+    ready-now = ready-at it cs (g .none) (g .full) (g .room) i l
 
-    keeps-now : Keeps (announcedStep w before) (stepValue w vs)
-    keeps-now = keeps-at hs cs ss (g .none) (g .full) (g .room) i l
+    keeps-now : Keeps (announcedStep ed w before) (stepValue ed w vs)
+    keeps-now = keeps-at it cs (g .none) (g .full) (g .room) i l
 
     formed-at : formed w (k + i) ≡ true
     unfolding announcedPlaces
-    formed-at = rw (length-known hs ss i l) at (clear-now .formed)
+    formed-at = rw (length-known it i l) at (clear-now .formed)
 
-    same-value : valueOf step (valueAt vs (step .a)) (valueAt vs (step .b)) ≡ stepValue w vs
-    unfolding valueOf stepValue
+    same-value : valueIn ed step (valueAt vs (step .a)) (valueAt vs (step .b)) ≡ stepValue ed w vs
+    unfolding valueIn stepValue
     same-value = refl
 
-    sum-next : total (take (i + 1) (announcedSteps hs ss)) ≡ at + stored (announcedStep w before)
-    sum-next = rw (add-one i) (total-more (announcedSteps hs ss) i (omega (arith, length-announced hs ss)) ∙ omega (arith, r .offset, ap stored next))
+    sum-next : total (take (i + 1) (announcedSteps it)) ≡ at + stored (announcedStep ed w before)
+    sum-next = rw (add-one i) (total-more (announcedSteps it) i (omega (arith, length-announced it)) ∙ omega (arith, r .offset, ap stored next))
 
-    module _ {room : ℕ} (er : room ≡ stored (announcedStep w before)) where
+    module _ {room : ℕ} (er : room ≡ stored (announcedStep ed w before)) where
       fits : at + room ≤ mp
-      fits = omega (arith, sum-next, total-front (announcedSteps hs ss) (i + 1), g .pool)
+      fits = omega (arith, sum-next, total-front (announcedSteps it) (i + 1), g .pool)
 
       pub step-lent : length pool ≡ mp → Lent room at (length pool) ms
       unfolding announcedPlaces
-      step-lent e = record { room = omega (arith, fits); spare = omega (arith, step-largest hs ss i l, g .room); small = omega (arith, clear-now .most) }
+      step-lent e = record { room = omega (arith, fits); spare = omega (arith, step-largest it i l, g .room); small = omega (arith, clear-now .most) }
 
       length-before : length pool ≡ mp → length (take at pool) ≡ at
       length-before e = length-take-le at pool (omega (arith, fits))
@@ -287,7 +289,7 @@ module _ {hs : List ℕ} {cs : List Float} {ss old-known : List ℕ} {mp ms : �
               left = ready-now .a .good;
               right = ready-now .b .good;
               known = record { some = omega arith; most = few-kinds w (k + i) formed-at; var = λ h t. small-variable w; below = number-below };
-              fits = rw er (ready-now .room .fits);
+              fits = plain-fits ed step _ _ (rw er (count-pos (lengths-of (announced-rules .rules)))) (rw er (ready-now .room .fits));
             });
             placed =
                 rw (
@@ -302,36 +304,36 @@ module _ {hs : List ℕ} {cs : List Float} {ss old-known : List ℕ} {mp ms : �
       -- ---- after it
 
       -- its value is the operation's
-      value-is : valueOf step (lyingAt k known starts cs (take at pool) (step .a)) (lyingAt k known starts cs (take at pool) (step .b)) ≡ stepValue w vs
+      value-is : valueIn ed step (lyingAt k known starts cs (take at pool) (step .a)) (lyingAt k known starts cs (take at pool) (step .b)) ≡ stepValue ed w vs
       value-is =
           decide (eqb (step .kind) 0)
           (λ t. let e = eqb-true (step .kind) 0 t in
-          sym (constant-value step _ _ e)
-          ∙ (constant-value step (valueAt vs (step .a)) (valueAt vs (step .b)) e ∙ same-value))
+          sym (constant-value ed step _ _ e)
+          ∙ (constant-value ed step (valueAt vs (step .a)) (valueAt vs (step .b)) e ∙ same-value))
           (λ t. let o = operands-early w (k + i) formed-at (eqb-false (step .kind) 0 t) in
-          ap (λ (v : Poly). valueOf step v (lyingAt k known starts cs (take at pool) (step .b))) (place-is (step .a) (o .0))
-          ∙ (ap (valueOf step (valueAt vs (step .a))) (place-is (step .b) (o .1)) ∙ same-value))
+          ap (λ (v : Poly). valueIn ed step v (lyingAt k known starts cs (take at pool) (step .b))) (place-is (step .a) (o .0))
+          ∙ (ap (valueIn ed step (valueAt vs (step .a))) (place-is (step .b) (o .1)) ∙ same-value))
 
-      next-values : values hs cs (take (i + 1) ss) ≡ vs ++ (stepValue w vs ∷ [])
+      next-values : values (upTo it (i + 1)) cs ≡ vs ++ (stepValue ed w vs ∷ [])
       unfolding values
       next-values =
-          rw (add-one i) (ap (chain stepValue (inputValues hs cs)) (take-suc ss i 0 l)
-          ∙ (chain-append stepValue (inputValues hs cs) (take i ss) (w ∷ [])
-          ∙ (chain-cons stepValue vs w [] ∙ chain-none stepValue (vs ++ (stepValue w vs ∷ [])))))
+          rw (add-one i) (ap (chain (stepValue (it .edition)) (inputValues (it .headers) cs)) (take-suc (it .steps) i 0 l)
+          ∙ (chain-append (stepValue (it .edition)) (inputValues (it .headers) cs) (take i (it .steps)) (w ∷ [])
+          ∙ (chain-cons (stepValue (it .edition)) vs w [] ∙ chain-none (stepValue (it .edition)) (vs ++ (stepValue ed w vs ∷ [])))))
 
-      old-value : (q : ℕ) → q < k + i → valueAt (vs ++ (stepValue w vs ∷ [])) q ≡ valueAt vs q
-      old-value q h = List·getD-append vs (stepValue w vs ∷ []) noValue q (omega (arith, length-values i (r .most)))
+      old-value : (q : ℕ) → q < k + i → valueAt (vs ++ (stepValue ed w vs ∷ [])) q ≡ valueAt vs q
+      old-value q h = List·getD-append vs (stepValue ed w vs ∷ []) noValue q (omega (arith, length-values i (r .most)))
 
-      new-value : valueAt (vs ++ (stepValue w vs ∷ [])) (k + i) ≡ stepValue w vs
-      new-value = getD-at vs (stepValue w vs) [] noValue (k + i) (length-values i (r .most))
+      new-value : valueAt (vs ++ (stepValue ed w vs ∷ [])) (k + i) ≡ stepValue ed w vs
+      new-value = getD-at vs (stepValue ed w vs) [] noValue (k + i) (length-values i (r .most))
 
       module _ {word : ℕ} {pool' : List Float} (e : length pool ≡ mp)
-          (ew : word ≡ wordOf (valueOf step (lyingAt k known starts cs (take at pool) (step .a)) (lyingAt k known starts cs (take at pool) (step .b)) .head))
+          (ew : word ≡ wordOf (valueIn ed step (lyingAt k known starts cs (take at pool) (step .a)) (lyingAt k known starts cs (take at pool) (step .b)) .head))
           (ek : Kept at (at + room)
-          (padded room (valueOf step (lyingAt k known starts cs (take at pool) (step .a))
+          (padded room (valueIn ed step (lyingAt k known starts cs (take at pool) (step .a))
           (lyingAt k known starts cs (take at pool) (step .b)) .coeffs)) pool pool') where
         abbrev v : Poly
-        v = stepValue w vs
+        v = stepValue ed w vs
 
         word-is : word ≡ wordOf (v .head)
         word-is = ew ∙ ap (λ (p : Poly). wordOf (p .head)) value-is
@@ -394,28 +396,28 @@ module _ {hs : List ℕ} {cs : List Float} {ss old-known : List ℕ} {mp ms : �
             rw (old-value q o)
             (at-later (ltb q k) (r .stands q o) (length-before e) front-same (omega (arith, length-take-le (at + room) pool' longer))))
 
-        lies-more : after ≡ laid (take (i + 1) (announcedSteps hs ss)) (drop k (vs ++ (v ∷ [])))
+        lies-more : after ≡ laid (take (i + 1) (announcedSteps it)) (drop k (vs ++ (v ∷ [])))
         lies-more =
-            let len : length (take i (announcedSteps hs ss)) ≡ i = length-take-le i (announcedSteps hs ss) (omega (arith, length-announced hs ss)) in
+            let len : length (take i (announcedSteps it)) ≡ i = length-take-le i (announcedSteps it) (omega (arith, length-announced it)) in
             let z : at + room - at ≡ room = omega arith in
-            let d : drop k (vs ++ (stepValue w vs ∷ [])) ≡ drop k vs ++ (stepValue w vs ∷ []) =
-            drop-append-le k vs (stepValue w vs ∷ []) (omega (arith, length-values i (r .most))) in
-            let t : take (i + 1) (announcedSteps hs ss) ≡ take i (announcedSteps hs ss) ++ (announcedStep w before ∷ []) =
-            rw (add-one i) (take-suc (announcedSteps hs ss) i noHeader (omega (arith, length-announced hs ss))
-            ∙ ap (λ (h : Header). take i (announcedSteps hs ss) ++ (h ∷ [])) next) in
+            let d : drop k (vs ++ (stepValue ed w vs ∷ [])) ≡ drop k vs ++ (stepValue ed w vs ∷ []) =
+            drop-append-le k vs (stepValue ed w vs ∷ []) (omega (arith, length-values i (r .most))) in
+            let t : take (i + 1) (announcedSteps it) ≡ take i (announcedSteps it) ++ (announcedStep ed w before ∷ []) =
+            rw (add-one i) (take-suc (announcedSteps it) i noHeader (omega (arith, length-announced it))
+            ∙ ap (λ (h : Header). take i (announcedSteps it) ++ (h ∷ [])) next) in
             take-add at room pool'
             ∙ (ap (λ (x : List Float). x ++ take room (drop at pool')) (kept .below .head ∙ r .lies)
-            ∙ (ap (λ (x : List Float). laid (take i (announcedSteps hs ss)) (drop k vs) ++ x)
+            ∙ (ap (λ (x : List Float). laid (take i (announcedSteps it)) (drop k vs) ++ x)
             (ap (λ (n : ℕ). take n (drop at pool')) (sym z)
-            ∙ (kept .holds ∙ ap (λ (n : ℕ). padded n (stepValue w vs .coeffs)) er))
-            ∙ (sym (laid-snoc (take i (announcedSteps hs ss)) (drop k vs) (announcedStep w before) (stepValue w vs)
+            ∙ (kept .holds ∙ ap (λ (n : ℕ). padded n (stepValue ed w vs .coeffs)) er))
+            ∙ (sym (laid-snoc (take i (announcedSteps it)) (drop k vs) (announcedStep ed w before) (stepValue ed w vs)
             (omega (arith, len, length-drop k vs, length-values i (r .most))))
             ∙ rw (t, d))))
 
         rest-more : drop (at + room) pool' ≡ drop (at + room) old-pool
         rest-more = kept .above ∙ (sym (drop-drop room at pool) ∙ (ap (drop room) (r .rest) ∙ drop-drop room at old-pool))
 
-        pub running-more : Running hs cs ss old-known old-pool (i + 1) (at + room) (set known (k + i) word) starts pool'
+        pub running-more : Running it cs old-known old-pool (i + 1) (at + room) (set known (k + i) word) starts pool'
         running-more =
             record {
               most = omega arith;
@@ -434,38 +436,38 @@ module _ {hs : List ℕ} {cs : List Float} {ss old-known : List ℕ} {mp ms : �
 
   -- ---- at the end
   module _ {old-pool : List Float} {i at : ℕ} {known starts : List ℕ} {pool : List Float}
-      (r : Running hs cs ss old-known old-pool i at known starts pool) (l : length ss ≤ i) where
-    all-done : i ≡ length ss
+      (r : Running it cs old-known old-pool i at known starts pool) (l : length (it .steps) ≤ i) where
+    all-done : i ≡ length (it .steps)
     all-done = omega (arith, r .most)
 
-    all-steps : take i ss ≡ ss
-    all-steps = take-all i ss l
+    all-steps : take i (it .steps) ≡ it .steps
+    all-steps = take-all i (it .steps) l
 
-    pub end-pool : pool ≡ laid (announcedSteps hs ss) (stepValues hs cs ss) ++ drop (total (announcedSteps hs ss)) old-pool
+    pub end-pool : pool ≡ laid (announcedSteps it) (stepValues it cs) ++ drop (total (announcedSteps it)) old-pool
     unfolding stepValues
     end-pool =
-        let t : take i (announcedSteps hs ss) ≡ announcedSteps hs ss = take-all i (announcedSteps hs ss) (omega (arith, length-announced hs ss)) in
-        let o : at ≡ total (announcedSteps hs ss) = r .offset ∙ ap total t in
-        let f : take at pool ≡ laid (announcedSteps hs ss) (drop k (values hs cs ss)) = r .lies ∙ rw (t, all-steps) in
+        let t : take i (announcedSteps it) ≡ announcedSteps it = take-all i (announcedSteps it) (omega (arith, length-announced it)) in
+        let o : at ≡ total (announcedSteps it) = r .offset ∙ ap total t in
+        let f : take at pool ≡ laid (announcedSteps it) (drop k (values it cs)) = r .lies ∙ rw (t, all-steps) in
         sym (take-append-drop at pool)
         ∙ (ap (λ (x : List Float). x ++ drop at pool) f
-        ∙ ap (λ (x : List Float). laid (announcedSteps hs ss) (drop k (values hs cs ss)) ++ x) (r .rest ∙ ap (λ (n : ℕ). drop n old-pool) o))
+        ∙ ap (λ (x : List Float). laid (announcedSteps it) (drop k (values it cs)) ++ x) (r .rest ∙ ap (λ (n : ℕ). drop n old-pool) o))
 
-    pub end-words : take (length ss) (drop k known) ≡ map (λ v. wordOf (v .head)) (stepValues hs cs ss)
+    pub end-words : take (length (it .steps)) (drop k known) ≡ map (λ v. wordOf (v .head)) (stepValues it cs)
     unfolding stepValues
     end-words =
         let word : Poly → ℕ = λ v. wordOf (v .head) in
-        let m : length (values hs cs (take i ss)) ≡ k + length ss = omega (arith, length-values i (r .most), all-done) in
-        let n : length (values hs cs ss) ≡ k + length ss = ap (λ (x : List ℕ). length (values hs cs x)) (sym all-steps) ∙ m in
-        let d : length (drop k (values hs cs ss)) ≡ length ss = omega (arith, length-drop k (values hs cs ss)) in
-        let len : length (take (length ss) (drop k known)) ≡ length ss =
-        length-take-le (length ss) (drop k known)
+        let m : length (values (upTo it i) cs) ≡ k + length (it .steps) = omega (arith, length-values i (r .most), all-done) in
+        let n : length (values it cs) ≡ k + length (it .steps) = ap (λ (x : List ℕ). length (values (recipeOf ed (it .headers) x) cs)) (sym all-steps) ∙ m in
+        let d : length (drop k (values it cs)) ≡ length (it .steps) = omega (arith, length-drop k (values it cs)) in
+        let len : length (take (length (it .steps)) (drop k known)) ≡ length (it .steps) =
+        length-take-le (length (it .steps)) (drop k known)
         (omega (arith, length-drop k known, r .len-known, g .many, fit)) in
-        ext-getD 0 (take (length ss) (drop k known)) (map word (drop k (values hs cs ss))) (len ∙ sym (length-map (drop k (values hs cs ss)) word ∙ d))
+        ext-getD 0 (take (length (it .steps)) (drop k known)) (map word (drop k (values it cs))) (len ∙ sym (length-map (drop k (values it cs)) word ∙ d))
         (λ j h.
-        let m : j < length ss = omega (arith, len) in
-        getD-take (length ss) (drop k known) j 0 m
+        let m : j < length (it .steps) = omega (arith, len) in
+        getD-take (length (it .steps)) (drop k known) j 0 m
         ∙ (getD-drop k known j 0
         ∙ (r .written j (omega arith)
-        ∙ (ap (λ (x : List ℕ). word (valueAt (values hs cs x) (k + j))) all-steps
-        ∙ (ap word (sym (getD-drop k (values hs cs ss) j noValue)) ∙ sym (map-at word (drop k (values hs cs ss)) j (omega (arith, d))))))))
+        ∙ (ap (λ (x : List ℕ). word (valueAt (values (recipeOf ed (it .headers) x) cs) (k + j))) all-steps
+        ∙ (ap word (sym (getD-drop k (values it cs) j noValue)) ∙ sym (map-at word (drop k (values it cs)) j (omega (arith, d))))))))

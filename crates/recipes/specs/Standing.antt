@@ -11,22 +11,50 @@ use lib.ListN.{length, getD, set, take, drop, length-append, length-drop, length
 use lib.Seq.{take-at, take-take, drop-at, drop-drop, length-take-le, getD-drop, getD-take, getD-set-same, getD-set-other, take-suc}
 use lib.Ieee.{Float}
 use borrow.Author.Tests.{eqb-true, eqb-false}
-use Rattle.lists.specs.Test.{decide}
+use Rattle.lists.specs.Test.{decide, and-left, and-right}
 use Rattle.lists.specs.Part.{Kept, drop-take}
 use Rattle.model.specs.declared.Header.{Header}
 use Rattle.model_recipes.specs.declared.Step.{Step}
-use Rattle.model.specs.Header.{stored, noHeader}
+use Rattle.model.specs.Header.{stored, noHeader, span}
+use Rattle.model.specs.Announced.{announced}
 use Rattle.model.specs.Word.{headerOf}
 use Rattle.model.specs.Refusals.{zeros, padded}
 use Rattle.model.specs.Constructed.{constant, wholeF}
 use Rattle.model.specs.Poly.{Poly, poly}
-use Rattle.model_recipes.specs.Recipe.{inputHeads, headAt, total}
-use Rattle.model_recipes.specs.Run.{inputValues, operations, valueAt}
+use Rattle.model_recipes.specs.Kinds.{idle, oneLike}
+use Rattle.model_recipes.specs.Recipe.{families, familyOf, inputHeads, headAt, total}
+use Rattle.model_recipes.specs.Run.{inputValues, operations, noValue, valueAt}
 use Rattle.shape_words.specs.Lengths.{lengths-of, count-most}
 use Rattle.recipes_kinds.specs.Known.{Known, head-at}
 use Rattle.recipes_check.specs.Counts.{word-ruled}
 use Rattle.shape_operands.specs.Lent.{source, lying, Lies, length-source}
+use Rattle.recipes_laws.specs.Editions.{idleStep, same-family, same-value, idle-value}
 use Rattle.recipes_steps.specs.Ready.{valueOf, Placed, Ready}
+
+-- the kind's operation in the edition e
+unfoldable pub valueIn : ℕ → Step → Poly → Poly → Poly
+valueIn e s a b = getD (operations e s a b) (s .kind) noValue
+
+-- it is edition 0's, but for a power of zero
+pub plain-value : (e : ℕ) (s : Step) (a b : Poly) → idleStep e s ≡ false → valueOf s a b ≡ valueIn e s a b
+unfolding valueOf valueIn
+plain-value e s a b t = sym (same-value e s a b t)
+
+pub one-value : (e : ℕ) (s : Step) (a b : Poly) → idleStep e s ≡ true → oneLike a ≡ valueIn e s a b
+unfolding valueIn
+one-value e s a b t = sym (idle-value e s a b t)
+
+zero-fits : (e : ℕ) (s : Step) (x y : Header) {room : ℕ} → idleStep e s ≡ true → 1 ≤ room → stored (announced (familyOf 0 s) x y) ≤ room
+unfolding families announced span
+zero-fits e s x y t o =
+    let k : s .kind ≡ 6 = eqb-true (s .kind) 6 (and-left (eqb (s .kind) 6) (idle e (s .n)) t) in
+    let n : eqb (s .n) 0 ≡ true = and-right (eqb e 1) (eqb (s .n) 0) (and-right (eqb (s .kind) 6) (idle e (s .n)) t) in
+    rw (k, n) o
+
+-- where what a step announces fits, what it announces in edition 0 does
+pub plain-fits : (e : ℕ) (s : Step) (x y : Header) {room : ℕ} → 1 ≤ room → stored (announced (familyOf e s) x y) ≤ room
+    → stored (announced (familyOf 0 s) x y) ≤ room
+plain-fits e s x y {room} o f = decide (idleStep e s) (λ t. zero-fits e s x y t o) (λ t. rw (← same-family e s t) f)
 
 -- the value of the place q, by its word and its start; k inputs
 abbrev pub lyingAt : ℕ → List ℕ → List ℕ → List Float → List Float → ℕ → Poly
@@ -47,9 +75,13 @@ pub record StepIn (s : Step) (k : ℕ) (known starts : List ℕ) (mc at room : �
   pub named : (s .kind ≡ 0 → ⊥) → Named s k known starts mc at room
 
 -- a constant asks for no operand
-pub constant-value : (s : Step) (a b : Poly) → s .kind ≡ 0 → constant noHeader (wholeF (s .n)) ≡ valueOf s a b
+pub plain-constant : (s : Step) (a b : Poly) → s .kind ≡ 0 → constant noHeader (wholeF (s .n)) ≡ valueOf s a b
 unfolding valueOf operations
-constant-value s a b e = rw e
+plain-constant s a b z = rw z
+
+pub constant-value : (e : ℕ) (s : Step) (a b : Poly) → s .kind ≡ 0 → constant noHeader (wholeF (s .n)) ≡ valueIn e s a b
+unfolding valueIn operations
+constant-value e s a b z = rw z
 
 -- ---- the starts of the inputs
 

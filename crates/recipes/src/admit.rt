@@ -12,7 +12,7 @@ ghost use Prim.Native.Nat.{_-_, _≤_};
 ghost use lib.ListN.{length, take, drop};
 ghost use Rattle.model.specs.Word.{wordOf};
 ghost use Rattle.model.specs.Refusals.{cleared};
-ghost use Rattle.model_recipes.specs.Recipe.{announcedSteps, total, largest};
+ghost use Rattle.model_recipes.specs.Recipe.{recipeOf, announcedSteps, total, largest};
 ghost use Rattle.model_recipes.specs.Run.{stepValues, laid};
 ghost use Rattle.recipes.specs.Running.{Admitted};
 ghost use Rattle.recipes.specs.Admission.{Admits};
@@ -22,6 +22,7 @@ ghost use Rattle.recipes.specs.Admission.{Admits};
 pub fn admit(
     headers: &[u64],
     steps: &[u64],
+    edition: u64,
     coefficients: usize,
     pool: usize,
     words: usize,
@@ -29,9 +30,9 @@ pub fn admit(
     known: &mut [u64],
 ) -> Refusal
     requires { ⌜ 64 ≤ length (now known) ⌝ }
-    ensures { λ r. ⌜ Admits (now (headers .entry)) (now (steps .entry)) coefficients pool words scratch (now (known .entry)) (now (known .exit)) r ⌝ }
+    ensures { λ r. ⌜ Admits (recipeOf edition (now (headers .entry)) (now (steps .entry))) coefficients pool words scratch (now (known .entry)) (now (known .exit)) r ⌝ }
 {
-    let refusal = judge(headers, steps, known);
+    let refusal = judge(headers, steps, edition, known);
     if refusal.number != 0 {
         return refusal;
     }
@@ -57,21 +58,22 @@ pub fn run_admitted(
     headers: &[u64],
     coefficients: &[f64],
     steps: &[u64],
+    edition: u64,
     known: &mut [u64],
     pool: &mut [f64],
     words: &mut [u64],
     scratch: &mut [f64],
 ) -> usize
-    requires { ⌜ Admitted (now headers) (now coefficients) (now steps) (now known) (length (now pool))
+    requires { ⌜ Admitted (recipeOf edition (now headers) (now steps)) (now coefficients) (now known) (length (now pool))
         (length (now scratch)) ⌝ ∗ ⌜ length (now steps) ≤ length (now words) ⌝ }
-    ensures values { λ _. ⌜ now (pool .exit) ≡ laid (announcedSteps (now (headers .entry)) (now (steps .entry)))
-        (stepValues (now (headers .entry)) (now (coefficients .entry)) (now (steps .entry)))
-        ++ drop (total (announcedSteps (now (headers .entry)) (now (steps .entry)))) (now (pool .entry)) ⌝ }
+    ensures values { λ _. ⌜ now (pool .exit) ≡ laid (announcedSteps (recipeOf edition (now (headers .entry)) (now (steps .entry))))
+        (stepValues (recipeOf edition (now (headers .entry)) (now (steps .entry))) (now (coefficients .entry)))
+        ++ drop (total (announcedSteps (recipeOf edition (now (headers .entry)) (now (steps .entry))))) (now (pool .entry)) ⌝ }
     ensures words { λ _. ⌜ now (words .exit) ≡ map (λ v. wordOf (v .head))
-        (stepValues (now (headers .entry)) (now (coefficients .entry)) (now (steps .entry)))
+        (stepValues (recipeOf edition (now (headers .entry)) (now (steps .entry))) (now (coefficients .entry)))
         ++ drop (length (now (steps .entry))) (now (words .entry)) ⌝ }
-    ensures cleared { λ _. ⌜ now (scratch .exit) ≡ cleared (largest (announcedSteps (now (headers .entry)) (now (steps .entry)))) (now (scratch .entry)) ⌝ }
-    ensures last { λ r. ⌜ r ≡ total (take (length (now (steps .entry)) - 1) (announcedSteps (now (headers .entry)) (now (steps .entry)))) ⌝ }
+    ensures cleared { λ _. ⌜ now (scratch .exit) ≡ cleared (largest (announcedSteps (recipeOf edition (now (headers .entry)) (now (steps .entry))))) (now (scratch .entry)) ⌝ }
+    ensures last { λ r. ⌜ r ≡ total (take (length (now (steps .entry)) - 1) (announcedSteps (recipeOf edition (now (headers .entry)) (now (steps .entry))))) ⌝ }
     ensures spent { λ _. ⌜ length (now (known .exit)) ≡ length (now (known .entry)) ⌝ }
 {
     let from = headers.len();
@@ -83,6 +85,7 @@ pub fn run_admitted(
         headers,
         coefficients,
         steps,
+        edition,
         known,
         &starts,
         pool,

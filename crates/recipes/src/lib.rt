@@ -9,14 +9,15 @@ use model_recipes::RunAnswer;
 use recipes_check::judge;
 use recipes_check::largest_of;
 use recipes_check::total_of;
+ghost use Rattle.model_recipes.specs.Recipe.{recipeOf};
 ghost use Rattle.model_recipes.specs.Promises.{CheckPromise, RunPromise};
 
-// What a run of the recipe takes, or why there is none: refusals 7, 1, 3, 4, 5.
-pub fn check(headers: &[u64], steps: &[u64]) -> CheckAnswer
-    ensures { λ r. ⌜ CheckPromise (now (headers .entry)) (now (steps .entry)) r ⌝ }
+// What a run of the recipe in an edition takes, or why there is none: refusals 7, 1, 3, 4, 5.
+pub fn check(headers: &[u64], steps: &[u64], edition: u64) -> CheckAnswer
+    ensures { λ r. ⌜ CheckPromise (recipeOf edition (now (headers .entry)) (now (steps .entry))) r ⌝ }
 {
     let mut known = [0u64; 64];
-    let refusal = judge(headers, steps, &mut known);
+    let refusal = judge(headers, steps, edition, &mut known);
     if refusal.number != 0 {
         return CheckAnswer::Refused(refusal);
     }
@@ -38,11 +39,12 @@ pub fn run(
     headers: &[u64],
     coefficients: &[f64],
     steps: &[u64],
+    edition: u64,
     pool: &mut [f64],
     words: &mut [u64],
     scratch: &mut [f64],
 ) -> RunAnswer
-    ensures { λ r. ⌜ RunPromise (now (headers .entry)) (now (coefficients .entry)) (now (steps .entry))
+    ensures { λ r. ⌜ RunPromise (recipeOf edition (now (headers .entry)) (now (steps .entry))) (now (coefficients .entry))
         (now (pool .entry)) (now (words .entry)) (now (scratch .entry)) r (now (pool .exit)) (now (words .exit))
         (now (scratch .exit)) ⌝ }
 {
@@ -50,6 +52,7 @@ pub fn run(
     let refused = admit(
         headers,
         steps,
+        edition,
         coefficients.len(),
         pool.len(),
         words.len(),
@@ -63,6 +66,7 @@ pub fn run(
         headers,
         coefficients,
         steps,
+        edition,
         &mut known,
         pool,
         words,

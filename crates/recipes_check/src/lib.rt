@@ -14,7 +14,7 @@ ghost use Prim.Native.Nat.{_≤_};
 ghost use lib.ListN.{length, take};
 ghost use Rattle.lists.specs.Grow.{over};
 ghost use Rattle.model.specs.Word.{headerOf};
-ghost use Rattle.model_recipes.specs.Recipe.{total, largest};
+ghost use Rattle.model_recipes.specs.Recipe.{recipeOf, total, largest};
 ghost use Rattle.model_recipes.specs.Check.{inputsRefusal};
 ghost use Rattle.recipes_kinds.specs.Known.{Known};
 ghost use Rattle.recipes_check.specs.Judging.{Ready, StepsJudged};
@@ -50,32 +50,32 @@ pub fn note_inputs(headers: &[u64], known: &mut [u64])
 
 // The first step that is refused, after `inputs` places whose words stand in `known`; the words announced before it
 // follow them.
-fn steps_refusal(steps: &[u64], inputs: usize, known: &mut [u64]) -> Refusal
+fn steps_refusal(edition: u64, steps: &[u64], inputs: usize, known: &mut [u64]) -> Refusal
     requires { ⌜ Ready (now steps) inputs (now known) ⌝ }
-    ensures { λ r. ⌜ StepsJudged (now (steps .entry)) (map headerOf (take inputs (now (known .entry)))) inputs (now (known .entry)) (now (known .exit)) r ⌝ }
+    ensures { λ r. ⌜ StepsJudged edition (now (steps .entry)) (map headerOf (take inputs (now (known .entry)))) inputs (now (known .entry)) (now (known .exit)) r ⌝ }
 {
     let mut i = 0;
     while i < steps.len() {
         let word = steps[i];
         let at = inputs + i;
-        let refusal = gate(word, &known[..at]);
+        let refusal = gate(edition, word, &known[..at]);
         if refusal.number != 0 {
             return refusal;
         }
-        known[at] = pack(announce(word, &known[..at]));
+        known[at] = pack(announce(edition, word, &known[..at]));
         i += 1;
     }
     Refusal::none()
 }
 
-// The check's refusal; where there is none, the words that all places announce stand in `known`.
-pub fn judge(headers: &[u64], steps: &[u64], known: &mut [u64]) -> Refusal
+// The check's refusal in an edition; where there is none, the words that all places announce stand in `known`.
+pub fn judge(headers: &[u64], steps: &[u64], edition: u64, known: &mut [u64]) -> Refusal
     requires { ⌜ 64 ≤ length (now known) ⌝ }
-    ensures { λ r. ⌜ Judged (now (headers .entry)) (now (steps .entry)) (now (known .entry)) (now (known .exit)) r ⌝ }
+    ensures { λ r. ⌜ Judged (recipeOf edition (now (headers .entry)) (now (steps .entry))) (now (known .entry)) (now (known .exit)) r ⌝ }
 {
     let inputs = headers.len();
     let count = steps.len();
-    if !((inputs <= 16) & (1 <= count) & (inputs + count <= 64)) {
+    if !((edition <= 1) & ((inputs <= 16) & (1 <= count) & (inputs + count <= 64))) {
         return Refusal::at(7, Refusal::NOWHERE);
     }
     let first = inputs_refusal(headers);
@@ -83,7 +83,7 @@ pub fn judge(headers: &[u64], steps: &[u64], known: &mut [u64]) -> Refusal
         return first;
     }
     note_inputs(headers, known);
-    steps_refusal(steps, inputs, known)
+    steps_refusal(edition, steps, inputs, known)
 }
 
 // The sum of the announced counts.

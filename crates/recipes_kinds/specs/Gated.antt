@@ -1,4 +1,4 @@
--- The answers of a step's gate, by the tests that led to each. ws: the words that the places before the step announce.
+-- The answers of a step's gate in the edition ed, by the tests that led to each. ws: the words that the places before the step announce.
 use mathlib.Core.Bool.{Bool, true, false, _&&_, cond}
 use mathlib.Core.List.{List, map}
 use mathlib.Core.Path.{_≡_, sym, ap, _∙_}
@@ -23,11 +23,11 @@ pub formed-is : (w p : ℕ) {s : Step} {u : Uses} {a b v n : Bool} → s ≡ ste
 unfolding formed
 formed-is w p p0 p1 p2 p3 p4 p5 = simp (p5, p4, p3, p2, p1, p0, and-mask w 14)
 
-module _ (w p : ℕ) (ws : List ℕ) {f : Bool} (e : p ≡ length ws) (t : f ≡ formed w p) where
+module _ (ed w p : ℕ) (ws : List ℕ) {f : Bool} (e : p ≡ length ws) (t : f ≡ formed w p) where
   place : length (map headerOf ws) ≡ p
   place = length-map ws headerOf ∙ sym e
 
-  pub gate-7 : f ≡ false → refusedAt 7 p ≡ stepRefusal w (map headerOf ws)
+  pub gate-7 : f ≡ false → refusedAt 7 p ≡ stepRefusal ed w (map headerOf ws)
   unfolding stepRefusal
   gate-7 h = simp (place, sym t ∙ h)
 
@@ -36,7 +36,7 @@ module _ (w p : ℕ) (ws : List ℕ) {f : Bool} (e : p ≡ length ws) (t : f ≡
     variable : v ≡ cond (lowers (stepOf w)) (ltb (stepOf w .variable) (headAt (map headerOf ws) (stepOf w .a) .vars)) true
     variable = simp (tv, ea, es)
 
-    pub gate-3 : v ≡ false → refusedAt 3 p ≡ stepRefusal w (map headerOf ws)
+    pub gate-3 : v ≡ false → refusedAt 3 p ≡ stepRefusal ed w (map headerOf ws)
     unfolding stepRefusal
     gate-3 hv = simp (place, sym t ∙ h, sym variable ∙ hv)
 
@@ -44,18 +44,18 @@ module _ (w p : ℕ) (ws : List ℕ) {f : Bool} (e : p ≡ length ws) (t : f ≡
       number : n ≡ cond (lowers (stepOf w)) (ltb (stepOf w .n) (limit (headAt (map headerOf ws) (stepOf w .a)) (stepOf w .variable))) true
       number = simp (tn, ea, es)
 
-      pub gate-4 : n ≡ false → refusedAt 4 p ≡ stepRefusal w (map headerOf ws)
+      pub gate-4 : n ≡ false → refusedAt 4 p ≡ stepRefusal ed w (map headerOf ws)
       unfolding stepRefusal
       gate-4 hn = simp (place, sym t ∙ h, sym variable ∙ hv, sym number ∙ hn)
 
-      module _ (hn : n ≡ true) {g : Header} {k : ℕ} (eg : g ≡ announcedStep w (map headerOf ws)) (ek : k ≡ stored g) where
-        counted : stored (announcedStep w (map headerOf ws)) ≡ k
+      module _ (hn : n ≡ true) {g : Header} {k : ℕ} (eg : g ≡ announcedStep ed w (map headerOf ws)) (ek : k ≡ stored g) where
+        counted : stored (announcedStep ed w (map headerOf ws)) ≡ k
         counted = sym (ek ∙ ap stored eg)
 
-        pub gate-5 : 4096 < k → refusedAt 5 p ≡ stepRefusal w (map headerOf ws)
+        pub gate-5 : 4096 < k → refusedAt 5 p ≡ stepRefusal ed w (map headerOf ws)
         unfolding stepRefusal
         gate-5 l = simp (place, sym t ∙ h, sym variable ∙ hv, sym number ∙ hn, counted, lt-leb _ _ l)
 
-        pub gate-none : k ≤ 4096 → noRefusal ≡ stepRefusal w (map headerOf ws)
+        pub gate-none : k ≤ 4096 → noRefusal ≡ stepRefusal ed w (map headerOf ws)
         unfolding stepRefusal
         gate-none l = simp (place, sym t ∙ h, sym variable ∙ hv, sym number ∙ hn, counted, le-leb _ _ l)

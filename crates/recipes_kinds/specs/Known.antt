@@ -20,9 +20,9 @@ use Rattle.shape.specs.Announced.{announced-regular}
 abbrev pub Known : List Header → Type 0
 Known known = All Regular noHeader known
 
-pub step-regular : (w : ℕ) {known : List Header} → Known known → Regular (announcedStep w known)
+pub step-regular : (ed w : ℕ) {known : List Header} → Known known → Regular (announcedStep ed w known)
 unfolding announcedStep
-step-regular w k = announced-regular (familyOf (stepOf w)) (k .at (stepOf w .a)) (k .at (stepOf w .b))
+step-regular ed w k = announced-regular (familyOf ed (stepOf w)) (k .at (stepOf w .a)) (k .at (stepOf w .b))
 
 -- the header of a place, by its word
 pub head-at : (ws : List ℕ) (p : ℕ) → headAt (map headerOf ws) p ≡ headerOf (getD ws p 0)
@@ -32,10 +32,10 @@ head-at ws p = List·getD-map headerOf ws p 0
 pub head-past : (ws : List ℕ) (p : ℕ) → length ws ≤ p → headAt (map headerOf ws) p ≡ noHeader
 head-past ws p h = List·getD-eq-default (map headerOf ws) noHeader (omega (arith, length-map ws headerOf))
 
-pub announced-is : (w : ℕ) (known : List Header) {s : Step} {f : Family} {a b r : Header} → s ≡ stepOf w → f ≡ familyOf s → a ≡ headAt known (s .a)
-    → b ≡ headAt known (s .b) → r ≡ announced f a b → r ≡ announcedStep w known
+pub announced-is : (ed w : ℕ) (known : List Header) {s : Step} {f : Family} {a b r : Header} → s ≡ stepOf w → f ≡ familyOf ed s → a ≡ headAt known (s .a)
+    → b ≡ headAt known (s .b) → r ≡ announced f a b → r ≡ announcedStep ed w known
 unfolding announcedStep
-announced-is w known p q x y z = simp (z, q, x, y, p)
+announced-is ed w known p q x y z = simp (z, q, x, y, p)
 
 -- how large the fields are
 pub small-kind : (w : ℕ) → stepOf w .kind < 16

@@ -28,14 +28,14 @@ pub fn head_at(known: &[u64], p: usize) -> Header
     }
 }
 
-// The header that a step announces.
-pub fn announce(word: u64, known: &[u64]) -> Header
+// The header that a step announces in an edition.
+pub fn announce(edition: u64, word: u64, known: &[u64]) -> Header
     requires { ⌜ Known (map headerOf (now known)) ⌝ }
-    ensures { λ r. ⌜ r ≡ announcedStep word (map headerOf (now (known .entry))) ⌝ }
+    ensures { λ r. ⌜ r ≡ announcedStep edition word (map headerOf (now (known .entry))) ⌝ }
 {
     let s = crate::step::step_of(word);
     announced_of(
-        crate::step::family_of(s),
+        crate::step::family_of(edition, s),
         head_at(known, s.a),
         head_at(known, s.b),
     )
@@ -73,10 +73,10 @@ fn below_limit(s: Step, a: Header) -> bool
     }
 }
 
-// Why a step is refused: 7, 3, 4, 5. Its place is the number of places before it.
-pub fn gate(word: u64, known: &[u64]) -> Refusal
+// Why a step is refused in an edition: 7, 3, 4, 5. Its place is the number of places before it.
+pub fn gate(edition: u64, word: u64, known: &[u64]) -> Refusal
     requires { ⌜ Known (map headerOf (now known)) ⌝ ∗ ⌜ length (now known) ≤ 64 ⌝ }
-    ensures { λ r. ⌜ r ≡ stepRefusal word (map headerOf (now (known .entry))) ⌝ }
+    ensures { λ r. ⌜ r ≡ stepRefusal edition word (map headerOf (now (known .entry))) ⌝ }
 {
     let at = known.len();
     let place = at as u8;
@@ -91,7 +91,7 @@ pub fn gate(word: u64, known: &[u64]) -> Refusal
     if !below_limit(s, a) {
         return Refusal::at(4, place);
     }
-    if Header::COUNT < stored_of(announce(word, known)) {
+    if Header::COUNT < stored_of(announce(edition, word, known)) {
         return Refusal::at(5, place);
     }
     Refusal::none()

@@ -4,6 +4,7 @@ use model_recipes::Step;
 use model_recipes::Uses;
 ghost use mathlib.Core.Path.{_≡_};
 ghost use Prim.Native.Nat.{_<_};
+ghost use Rattle.model_recipes.specs.Kinds.{idle, powerFamily};
 ghost use Rattle.model_recipes.specs.Steps.{stepOf, wordOfStep, usesOf};
 ghost use Rattle.model_recipes.specs.Recipe.{familyOf};
 ghost use Rattle.model_recipes.specs.Check.{namedBefore, zeroUnless, formed};
@@ -153,9 +154,26 @@ pub fn is_formed(word: u64, at: usize) -> bool
         & (word & 16383 == 0)
 }
 
-// The family by which a step announces.
-pub fn family_of(s: Step) -> Family
-    ensures { λ r. ⌜ r ≡ familyOf s ⌝ }
+// Whether a power n is one with its operand's limits: a power of zero in edition 1.
+pub fn is_idle(edition: u64, n: u32) -> bool
+    ensures { λ r. ⌜ r ≡ idle edition n ⌝ }
+{
+    (edition == 1) & (n == 0)
+}
+
+fn power_family(edition: u64, n: u32) -> Family
+    ensures { λ r. ⌜ r ≡ powerFamily edition n ⌝ }
+{
+    if is_idle(edition, n) {
+        Family::One
+    } else {
+        Family::Power(n)
+    }
+}
+
+// The family by which a step announces in an edition.
+pub fn family_of(edition: u64, s: Step) -> Family
+    ensures { λ r. ⌜ r ≡ familyOf edition s ⌝ }
 {
     let kind = s.kind;
     match kind {
@@ -164,7 +182,7 @@ pub fn family_of(s: Step) -> Family
         Step::SUBTRACT => Family::Sum,
         Step::MULTIPLY => Family::Product,
         Step::DIVIDE => Family::Quotient,
-        Step::POWER => Family::Power(s.n),
+        Step::POWER => power_family(edition, s.n),
         Step::DERIVATIVE => Family::Shift(s.variable, s.n as usize),
         Step::EXPANSION => Family::Shift(s.variable, s.n as usize),
         Step::SHIFT_DOWN => Family::Shift(s.variable, s.n as usize),

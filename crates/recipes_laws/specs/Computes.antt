@@ -1,7 +1,7 @@
 -- The value of a step is its operation's, of the values of earlier places: what the table of operations says, row by
 -- row, where the step's word is right.
 use Prim.Native.Nat.{ℕ, _<_}
-use mathlib.Core.Bool.{true, false}
+use mathlib.Core.Bool.{Bool, true, false, cond}
 use mathlib.Core.List.{List}
 use mathlib.Core.Path.{_≡_, refl, ap, _∙_}
 use lib.Dec.{ltb, leb}
@@ -17,6 +17,7 @@ use Rattle.model.specs.Quotient.{quotientPoly}
 use Rattle.model.specs.Power.{powerPoly}
 use Rattle.model.specs.Shifts.{derivativePoly, expansionPoly, shiftDownPoly}
 use Rattle.model.specs.Substitute.{substitutePoly}
+use Rattle.model_recipes.specs.Kinds.{oneLike}
 use Rattle.model_recipes.specs.Steps.{stepOf, rows, usesOf}
 use Rattle.model_recipes.specs.Check.{formed}
 use Rattle.model_recipes.specs.Reasons.{no-kind, late-a, late-b}
@@ -24,8 +25,8 @@ use Rattle.model_recipes.specs.Run.{operations, noValue, valueAt, stepValue}
 use Rattle.recipes_laws.specs.Formed.{formed-right}
 use Rattle.recipes_laws.specs.Demand.{Computed}
 
--- before: the values of the p places before the step w; all: of these and others
-module _ (w p : ℕ) (before all : List Poly) (f : formed w p ≡ true) (same : (q : ℕ) → q < p → valueAt before q ≡ valueAt all q) where
+-- before: the values of the p places before the step w in the edition ed; all: of these and others
+module _ (ed w p : ℕ) (before all : List Poly) (f : formed w p ≡ true) (same : (q : ℕ) → q < p → valueAt before q ≡ valueAt all q) where
   abbrev s : Step
   s = stepOf w
 
@@ -36,7 +37,7 @@ module _ (w p : ℕ) (before all : List Poly) (f : formed w p ≡ true) (same : 
   early-b u = decide (ltb (s .b) p) (ltb-true _ _) (λ t. absurd (formed-right w p f (late-b u (ltb-false _ _ t))))
 
   -- the row k of the table of operations
-  row : (k : ℕ) → s .kind ≡ k → stepValue w before ≡ getD (operations s (valueAt before (s .a)) (valueAt before (s .b))) k noValue
+  row : (k : ℕ) → s .kind ≡ k → stepValue ed w before ≡ getD (operations ed s (valueAt before (s .a)) (valueAt before (s .b))) k noValue
   unfolding stepValue
   row k e = rw e
 
@@ -47,7 +48,7 @@ module _ (w p : ℕ) (before all : List Poly) (f : formed w p ≡ true) (same : 
       → g (valueAt before (s .a)) (valueAt before (s .b)) ≡ g (valueAt all (s .a)) (valueAt all (s .b))
   two k g e u v = one k (λ x. g x (valueAt before (s .b))) e u ∙ ap (g (valueAt all (s .a))) (same (s .b) (early-b (rw e v)))
 
-  pub computed : Computed s p (valueAt all) (stepValue w before)
+  pub computed : Computed ed s p (valueAt all) (stepValue ed w before)
   unfolding operations rows
   computed =
       record {
@@ -60,7 +61,12 @@ module _ (w p : ℕ) (before all : List Poly) (f : formed w p ≡ true) (same : 
         subtracts = λ e. row 3 e ∙ two 3 (combined true) e refl refl;
         multiplies = λ e. row 4 e ∙ two 4 productPoly e refl refl;
         divides = λ e. row 5 e ∙ two 5 quotientPoly e refl refl;
-        powers = λ e. row 6 e ∙ one 6 (powerPoly (s .n)) e refl;
+        powers = λ e t.
+            row 6 e ∙ (ap (λ (b : Bool). cond b (oneLike (valueAt before (s .a))) (powerPoly (s .n) (valueAt before (s .a)))) t
+            ∙ one 6 (powerPoly (s .n)) e refl);
+        idles = λ e t.
+            row 6 e ∙ (ap (λ (b : Bool). cond b (oneLike (valueAt before (s .a))) (powerPoly (s .n) (valueAt before (s .a)))) t
+            ∙ one 6 oneLike e refl);
         derives = λ e. row 7 e ∙ one 7 (derivativePoly (s .variable) (s .n)) e refl;
         expands = λ e. row 8 e ∙ one 8 (expansionPoly (s .variable) (s .n)) e refl;
         shifts = λ e. row 9 e ∙ one 9 (shiftDownPoly (s .variable) (s .n)) e refl;

@@ -25,8 +25,9 @@ use Rattle.model.specs.Quotient.{quotientPoly}
 use Rattle.model.specs.Power.{powerPoly}
 use Rattle.model.specs.Shifts.{derivativePoly, expansionPoly, shiftDownPoly}
 use Rattle.model.specs.Substitute.{substitutePoly}
+use Rattle.model_recipes.specs.Kinds.{idle, oneLike}
 use Rattle.model_recipes.specs.Steps.{stepOf, usesOf}
-use Rattle.model_recipes.specs.Recipe.{headAt, announcedPlaces, announcedSteps, total}
+use Rattle.model_recipes.specs.Recipe.{Recipe, headAt, announcedPlaces, announcedSteps, total}
 use Rattle.model_recipes.specs.Check.{checkAnswer}
 use Rattle.model_recipes.specs.Run.{inputValues, valueAt, values, runAnswer, runPool, runWords}
 
@@ -41,9 +42,9 @@ pub record AsAnnounced (h : Header) (v : Poly) : Type 0 where
   pub rules : goodHeader (v .head) ≡ true
   pub full : length (v .coeffs) ≡ stored (v .head)
 
--- the value v of the step s at the place p is its operation's of its operands' values, by its kind; they stand at
+-- the value v of the step s in the edition ed at the place p is its operation's of its operands' values, by its kind; they stand at
 -- earlier places
-pub record Computed (s : Step) (p : ℕ) (value : ℕ → Poly) (v : Poly) : Type 0 where
+pub record Computed (ed : ℕ) (s : Step) (p : ℕ) (value : ℕ → Poly) (v : Poly) : Type 0 where
   pub kinds : s .kind ≤ 10
   pub a-earlier : usesOf (s .kind) .a ≡ true → s .a < p
   pub b-earlier : usesOf (s .kind) .b ≡ true → s .b < p
@@ -53,42 +54,43 @@ pub record Computed (s : Step) (p : ℕ) (value : ℕ → Poly) (v : Poly) : Typ
   pub subtracts : s .kind ≡ 3 → v ≡ combined true (value (s .a)) (value (s .b))
   pub multiplies : s .kind ≡ 4 → v ≡ productPoly (value (s .a)) (value (s .b))
   pub divides : s .kind ≡ 5 → v ≡ quotientPoly (value (s .a)) (value (s .b))
-  pub powers : s .kind ≡ 6 → v ≡ powerPoly (s .n) (value (s .a))
+  -- a power of zero in edition 1 apart (document 02, W7)
+  pub powers : s .kind ≡ 6 → idle ed (s .n) ≡ false → v ≡ powerPoly (s .n) (value (s .a))
+  pub idles : s .kind ≡ 6 → idle ed (s .n) ≡ true → v ≡ oneLike (value (s .a))
   pub derives : s .kind ≡ 7 → v ≡ derivativePoly (s .variable) (s .n) (value (s .a))
   pub expands : s .kind ≡ 8 → v ≡ expansionPoly (s .variable) (s .n) (value (s .a))
   pub shifts : s .kind ≡ 9 → v ≡ shiftDownPoly (s .variable) (s .n) (value (s .a))
   pub substitutes : s .kind ≡ 10 → v ≡ substitutePoly (s .variable) (value (s .a)) (value (s .b))
 
--- hs the inputs' header words, cs their coefficients, ss the step words, pool, words and scratch the buffers as they
--- came
-module _ (hs : List ℕ) (cs : List Float) (ss : List ℕ) (pool : List Float) (words : List ℕ) (scratch : List Float) where
+-- cs the inputs' coefficients, pool, words and scratch the buffers as they came
+module _ (it : Recipe) (cs : List Float) (pool : List Float) (words : List ℕ) (scratch : List Float) where
   -- the value of a place, inputs first, and what it announces
   abbrev pub value : ℕ → Poly
-  value p = valueAt (values hs cs ss) p
+  value p = valueAt (values it cs) p
 
   abbrev pub head : ℕ → Header
-  head p = headAt (announcedPlaces hs ss) p
+  head p = headAt (announcedPlaces it) p
 
   -- the place of the step number i
   abbrev pub stepPlace : ℕ → ℕ
-  stepPlace i = length hs + i
+  stepPlace i = length (it .headers) + i
 
   pub record StepDone (i : ℕ) : Type 0 where
     pub announced : AsAnnounced (head (stepPlace i)) (value (stepPlace i))
-    pub computed : Computed (stepOf (getD ss i 0)) (stepPlace i) value (value (stepPlace i))
+    pub computed : Computed (it .edition) (stepOf (getD (it .steps) i 0)) (stepPlace i) value (value (stepPlace i))
     -- the buffers hold it: its true header, and its coefficients, then +0.0, at the announced places
-    pub word : getD (runWords hs cs ss pool words scratch) i 0 ≡ wordOf (value (stepPlace i) .head)
-    pub coeffs : take (stored (head (stepPlace i))) (drop (total (take i (announcedSteps hs ss))) (runPool hs cs ss pool words scratch))
+    pub word : getD (runWords it cs pool words scratch) i 0 ≡ wordOf (value (stepPlace i) .head)
+    pub coeffs : take (stored (head (stepPlace i))) (drop (total (take i (announcedSteps it))) (runPool it cs pool words scratch))
         ≡ padded (stored (head (stepPlace i))) (value (stepPlace i) .coeffs)
 
   pub record Finished : Type 0 where
-    pub done : runAnswer hs cs ss pool words scratch ≡ Done
+    pub done : runAnswer it cs pool words scratch ≡ Done
     -- the first places hold the inputs
-    pub inputs : take (length hs) (values hs cs ss) ≡ inputValues hs cs
-    pub steps : (i : ℕ) → i < length ss → StepDone i
+    pub inputs : take (length (it .headers)) (values it cs) ≡ inputValues (it .headers) cs
+    pub steps : (i : ℕ) → i < length (it .steps) → StepDone i
 
   pub record Demand3 : Type 0 where
     -- the check accepts, and the buffers are as long as it says
-    pub finishes : (places most inputs : ℕ) → checkAnswer hs ss ≡ Accepted places most inputs → inputs ≤ length cs
-        → places ≤ length pool → length ss ≤ length words
+    pub finishes : (places most inputs : ℕ) → checkAnswer it ≡ Accepted places most inputs → inputs ≤ length cs
+        → places ≤ length pool → length (it .steps) ≤ length words
         → 8 * most ≤ length scratch → Finished

@@ -8,6 +8,7 @@ use lib.Ieee.{Float}
 use Rattle.model.specs.declared.Header.{Header}
 use Rattle.model.specs.declared.Refusal.{Refusal}
 use Rattle.model.specs.Poly.{Poly}
+use Rattle.model_recipes.specs.Recipe.{Recipe}
 use Rattle.model_recipes.specs.Check.{checkRefusal}
 use Rattle.model_recipes.specs.Run.{runRefusal, runEnd, runAnswer}
 use Rattle.shape_words.specs.Rules.{Good, header-good}
@@ -24,32 +25,32 @@ announced-of g k =
     let t = keeps-good g k in
     record { vars = k .under .vars; limits = k .under .limits; lengths = k .under .most; rules = header-good (t .regular .rules) (t .most); full = k .full }
 
-module _ (hs : List ℕ) (cs : List Float) (ss : List ℕ) (pool : List Float) (words : List ℕ) (scratch : List Float) where
+module _ (it : Recipe) (cs : List Float) (pool : List Float) (words : List ℕ) (scratch : List Float) where
   abbrev r : Refusal
-  r = runRefusal hs cs ss pool words scratch
+  r = runRefusal it cs pool words scratch
 
-  finished : checkRefusal hs ss .number ≡ 0 → Lent hs ss (length cs) (length pool) (length words) (length scratch) → Finished hs cs ss pool words scratch
+  finished : checkRefusal it .number ≡ 0 → Lent it (length cs) (length pool) (length words) (length scratch) → Finished it cs pool words scratch
   unfolding runAnswer runEnd
   finished none l =
-      let z : r .number ≡ 0 = ap (λ (x : Refusal). x .number) (run-none hs cs ss pool words scratch none l) in
-      let f = follows-all hs cs ss none (l .coeffs) (l .scratch) in
+      let z : r .number ≡ 0 = ap (λ (x : Refusal). x .number) (run-none it cs pool words scratch none l) in
+      let f = follows-all it cs none (l .coeffs) (l .scratch) in
       record {
         done = rw (end-done r z);
-        inputs = inputs-first hs cs ss none (l .coeffs) (l .scratch);
+        inputs = inputs-first it cs none (l .coeffs) (l .scratch);
         steps = λ i h.
             record {
               announced = announced-of (f .good .at _) (f .keeps _);
-              computed = step-computed hs cs ss none (l .coeffs) (l .scratch) i h;
-              word = word-kept hs cs ss f pool words scratch z i h;
-              coeffs = coeffs-kept hs cs ss f pool words scratch z i h;
+              computed = step-computed it cs none (l .coeffs) (l .scratch) i h;
+              word = word-kept it cs f pool words scratch z i h;
+              coeffs = coeffs-kept it cs f pool words scratch z i h;
             };
       }
 
-  pub demand-3 : Demand3 hs cs ss pool words scratch
+  pub demand-3 : Demand3 it cs pool words scratch
   demand-3 =
       record {
         finishes = λ places most inputs e c p w s.
-            let n = numbers hs ss places most inputs e in
+            let n = numbers it places most inputs e in
             finished (n .none)
             (record { coeffs = omega (arith, n .inputs-are); pool = omega (arith, n .pool-is); words = w; scratch = omega (arith, n .most-is) });
       }

@@ -2,7 +2,7 @@
 -- announced one, and as many coefficients as its true header says. A step's value keeps to it whatever its fields hold:
 -- each operation's law for the true headers, and then announced headers, which are no smaller.
 use Prim.Native.Nat.{ℕ, zero, suc, _≤_}
-use mathlib.Core.Bool.{true, false}
+use mathlib.Core.Bool.{true, false, cond}
 use mathlib.Core.List.{List, [], _∷_, _++_}
 use mathlib.Core.Path.{_≡_, refl, ap}
 use native.Mathlib.Omega.{arith}
@@ -10,6 +10,7 @@ use lib.ListN.{length, drop, getD, length-drop}
 use lib.Seq.{length-take-le}
 use lib.Ieee.{Float}
 use Rattle.lists.specs.All.{All, all-snoc}
+use Rattle.lists.specs.Test.{decide}
 use Rattle.lists.specs.Grow.{length-snoc}
 use Rattle.model.specs.declared.Header.{Header}
 use Rattle.model_recipes.specs.declared.Step.{Step}
@@ -18,6 +19,9 @@ use Rattle.model.specs.Header.{stored, noHeader}
 use Rattle.model.specs.Word.{headerOf}
 use Rattle.model.specs.Announced.{announced}
 use Rattle.model.specs.Poly.{Poly}
+use Rattle.model.specs.Readings.{oneF}
+use Rattle.model.specs.Power.{powerPoly}
+use Rattle.model_recipes.specs.Kinds.{idle, oneLike, powerFamily}
 use Rattle.model_recipes.specs.Steps.{stepOf}
 use Rattle.model_recipes.specs.Recipe.{families, familyOf, headAt, announcedStep, inputHeads, total}
 use Rattle.model_recipes.specs.Check.{inputsRefusal}
@@ -25,7 +29,7 @@ use Rattle.model_recipes.specs.Run.{inputValues, operations, noValue, valueAt, 
 use Rattle.shape_words.specs.Rules.{Regular, Good}
 use Rattle.shape_words.specs.Words.{good-word}
 use Rattle.shape.specs.Under.{Under, under-same, under-then, announced-under}
-use Rattle.shape.specs.Keeps.{Keeps, none-keeps}
+use Rattle.shape.specs.Keeps.{Keeps, none-keeps, one-keeps}
 use Rattle.recipes_kinds.specs.Known.{Known, step-regular}
 use Rattle.laws_keeps.specs.Keeps.{negated-keeps, combined-keeps}
 use Rattle.laws_keeps.specs.ProductKeeps.{product-keeps}
@@ -38,8 +42,12 @@ use Rattle.recipes_laws.specs.EachKind.{by-kind}
 
 -- ---- one operation
 
-module _ (s : Step) (a b : Poly) (g : Regular (a .head)) (h : Regular (b .head)) (full : length (a .coeffs) ≡ stored (a .head)) where
-  row-keeps : (k : ℕ) → Keeps (announced (getD (families s) k Constant) (a .head) (b .head)) (getD (operations s a b) k noValue)
+module _ (ed : ℕ) (s : Step) (a b : Poly) (g : Regular (a .head)) (h : Regular (b .head)) (full : length (a .coeffs) ≡ stored (a .head)) where
+  power-row : Keeps (announced (powerFamily ed (s .n)) (a .head) (b .head)) (cond (idle ed (s .n)) (oneLike a) (powerPoly (s .n) a))
+  unfolding announced oneLike
+  power-row = decide (idle ed (s .n)) (λ t. rw t (one-keeps oneF g)) (λ t. rw t (power-keeps (s .n) a g full))
+
+  row-keeps : (k : ℕ) → Keeps (announced (getD (families ed s) k Constant) (a .head) (b .head)) (getD (operations ed s a b) k noValue)
   unfolding families operations announced
   row-keeps =
       by-kind (record {
@@ -49,7 +57,7 @@ module _ (s : Step) (a b : Poly) (g : Regular (a .head)) (h : Regular (b .head))
         k3 = combined-keeps a b g h true;
         k4 = product-keeps a b g h;
         k5 = quotient-keeps a b g h;
-        k6 = power-keeps (s .n) a g full;
+        k6 = power-row;
         k7 = derivative-keeps (s .variable) (s .n) a g;
         k8 = expansion-keeps (s .variable) (s .n) a g;
         k9 = shift-down-keeps (s .variable) (s .n) a g;
@@ -81,22 +89,22 @@ pub record Follows (known : List Header) (vs : List Poly) : Type 0 where
 pub follows-known : {known : List Header} {vs : List Poly} → Follows known vs → Known known
 follows-known f = record { at = λ p. f .good .at p .regular }
 
-module _ (w : ℕ) {known : List Header} {vs : List Poly} (f : Follows known vs) where
-  pub step-keeps : Keeps (announcedStep w known) (stepValue w vs)
+module _ (ed w : ℕ) {known : List Header} {vs : List Poly} (f : Follows known vs) where
+  pub step-keeps : Keeps (announcedStep ed w known) (stepValue ed w vs)
   unfolding announcedStep stepValue
   step-keeps =
       let s = stepOf w in
       let a = f .keeps (s .a) in
       let b = f .keeps (s .b) in
-      keeps-under (row-keeps s (valueAt vs (s .a)) (valueAt vs (s .b)) (a .regular) (b .regular) (a .full) (s .kind))
-      (announced-under (familyOf s) (a .regular .rules) (b .regular .rules) (a .under) (b .under))
+      keeps-under (row-keeps ed s (valueAt vs (s .a)) (valueAt vs (s .b)) (a .regular) (b .regular) (a .full) (s .kind))
+      (announced-under (familyOf ed s) (a .regular .rules) (b .regular .rules) (a .under) (b .under))
 
   -- a step more, whose announced count is 4,096 at most
-  pub follows-more : stored (announcedStep w known) ≤ 4096 → Follows (known ++ (announcedStep w known ∷ [])) (vs ++ (stepValue w vs ∷ []))
+  pub follows-more : stored (announcedStep ed w known) ≤ 4096 → Follows (known ++ (announcedStep ed w known ∷ [])) (vs ++ (stepValue ed w vs ∷ []))
   follows-more m =
       record {
-        same = omega (arith, f .same, length-snoc known (announcedStep w known), length-snoc vs (stepValue w vs));
-        good = all-snoc Good noHeader none-good (f .good) (record { regular = step-regular w (follows-known f); most = m });
+        same = omega (arith, f .same, length-snoc known (announcedStep ed w known), length-snoc vs (stepValue ed w vs));
+        good = all-snoc Good noHeader none-good (f .good) (record { regular = step-regular ed w (follows-known f); most = m });
         keeps = related-more Keeps known vs (f .same) (none-keeps _) step-keeps (f .keeps);
       }
 

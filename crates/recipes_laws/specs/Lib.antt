@@ -3,6 +3,7 @@ pub mod StepReasons
 pub mod Outcome
 pub mod Exact
 pub mod EachKind
+pub mod Editions
 pub mod Follows
 pub mod Passed
 pub mod Ahead

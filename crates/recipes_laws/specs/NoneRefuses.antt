@@ -11,26 +11,26 @@ use lib.Ieee.{Float}
 use Rattle.model.specs.declared.Refusal.{Refusal}
 use Rattle.model_recipes.specs.declared.CheckAnswer.the-variants.{Accepted}
 use Rattle.model.specs.Header.{stored}
-use Rattle.model_recipes.specs.Recipe.{headAt, announcedPlaces}
+use Rattle.model_recipes.specs.Recipe.{Recipe, upTo, headAt, announcedPlaces}
 use Rattle.model_recipes.specs.Check.{checkAnswer}
 use Rattle.model_recipes.specs.Run.{values, stepGate}
 use Rattle.recipes_laws.specs.Passed.{step-passes}
 use Rattle.recipes_laws.specs.Ahead.{announced-at, ready-at}
 use Rattle.recipes_laws.specs.Numbers.{numbers}
 
--- hs the inputs' header words, cs their coefficients, ss the step words, m the places of scratch
-module _ (hs : List ℕ) (cs : List Float) (ss : List ℕ) (m : ℕ) where
+-- cs the inputs' coefficients, m the places of scratch
+module _ (it : Recipe) (cs : List Float) (m : ℕ) where
   -- the places that the step number i announces
   abbrev pub places : ℕ → ℕ
-  places i = stored (headAt (announcedPlaces hs ss) (length hs + i))
+  places i = stored (headAt (announcedPlaces it) (length (it .headers) + i))
 
   -- the gate of its operation, on the values of the places before it
   abbrev pub gateAt : ℕ → Refusal
-  gateAt i = stepGate (getD ss i 0) (values hs cs (take i ss)) (places i) m
+  gateAt i = stepGate (it .edition) (getD (it .steps) i 0) (values (upTo it i) cs) (places i) m
 
-  pub none-refuses : (pool most inputs : ℕ) → checkAnswer hs ss ≡ Accepted pool most inputs → inputs ≤ length cs → 8 * most ≤ m
-      → (i : ℕ) → i < length ss → gateAt i .number ≡ 0
+  pub none-refuses : (pool most inputs : ℕ) → checkAnswer it ≡ Accepted pool most inputs → inputs ≤ length cs → 8 * most ≤ m
+      → (i : ℕ) → i < length (it .steps) → gateAt i .number ≡ 0
   none-refuses pool most inputs e full room i l =
-      let n = numbers hs ss pool most inputs e in
-      let ready = ready-at hs cs ss {m = m} (n .none) (omega (arith, n .inputs-are)) (omega (arith, n .most-is)) i l in
-      rw (announced-at hs ss i l) (step-passes (getD ss i 0) (values hs cs (take i ss)) _ m ready)
+      let n = numbers it pool most inputs e in
+      let ready = ready-at it cs {m = m} (n .none) (omega (arith, n .inputs-are)) (omega (arith, n .most-is)) i l in
+      rw (announced-at it i l) (step-passes (it .edition) (getD (it .steps) i 0) (values (upTo it i) cs) _ m ready)

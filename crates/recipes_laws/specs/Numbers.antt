@@ -4,22 +4,22 @@ use mathlib.Core.List.{List}
 use mathlib.Core.Path.{_≡_, refl}
 use native.Mathlib.Omega.{arith}
 use Rattle.model_recipes.specs.declared.CheckAnswer.the-variants.{Accepted}
-use Rattle.model_recipes.specs.Recipe.{inputHeads, announcedSteps, total, largest}
+use Rattle.model_recipes.specs.Recipe.{Recipe, inputHeads, announcedSteps, total, largest}
 use Rattle.model_recipes.specs.Check.{checkRefusal, checkAnswer}
 use Rattle.recipes_check.specs.Asks.{by-refusal}
 use Rattle.recipes_check.specs.Answered.{answer-no, answer-yes}
 
-pub record Numbers (hs ss : List ℕ) (pool most inputs : ℕ) : Type 0 where
-  pub none : checkRefusal hs ss .number ≡ 0
-  pub pool-is : total (announcedSteps hs ss) ≡ pool
-  pub most-is : largest (announcedSteps hs ss) ≡ most
-  pub inputs-are : total (inputHeads hs) ≡ inputs
+pub record Numbers (it : Recipe) (pool most inputs : ℕ) : Type 0 where
+  pub none : checkRefusal it .number ≡ 0
+  pub pool-is : total (announcedSteps it) ≡ pool
+  pub most-is : largest (announcedSteps it) ≡ most
+  pub inputs-are : total (inputHeads (it .headers)) ≡ inputs
 
-pub numbers : (hs ss : List ℕ) (pool most inputs : ℕ) → checkAnswer hs ss ≡ Accepted pool most inputs → Numbers hs ss pool most inputs
-numbers hs ss pool most inputs e =
-    by-refusal (checkRefusal hs ss)
+pub numbers : (it : Recipe) (pool most inputs : ℕ) → checkAnswer it ≡ Accepted pool most inputs → Numbers it pool most inputs
+numbers it pool most inputs e =
+    by-refusal (checkRefusal it)
     (λ z.
-    let y : Accepted (total (announcedSteps hs ss)) (largest (announcedSteps hs ss)) (total (inputHeads hs)) ≡ checkAnswer hs ss =
-    answer-yes hs ss {r = checkRefusal hs ss} refl z refl refl refl in
+    let y : Accepted (total (announcedSteps it)) (largest (announcedSteps it)) (total (inputHeads (it .headers))) ≡ checkAnswer it =
+    answer-yes it {r = checkRefusal it} refl z refl refl refl in
     record { none = z; pool-is = cc; most-is = cc; inputs-are = cc })
-    (λ n. let c = answer-no hs ss {r = checkRefusal hs ss} refl n in let f : _≡_ {A = ℕ} 0 1 = cc in absurd (omega (arith, f)))
+    (λ n. let c = answer-no it {r = checkRefusal it} refl n in let f : _≡_ {A = ℕ} 0 1 = cc in absurd (omega (arith, f)))

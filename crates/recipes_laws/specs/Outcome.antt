@@ -1,6 +1,6 @@
 -- How the check ends: by sizes, at an input, at a step, or not refused; with all that was passed before.
 use Prim.Native.Nat.{ℕ, zero, suc, _+_, _<_}
-use mathlib.Core.Bool.{true, false}
+use mathlib.Core.Bool.{true, false, _&&_}
 use mathlib.Core.List.{List, [], _∷_, _++_}
 use mathlib.Core.Path.{_≡_, refl}
 use native.Mathlib.Omega.{arith}
@@ -14,9 +14,9 @@ use Rattle.model.specs.declared.Refusal.{Refusal}
 use Rattle.model.specs.Word.{goodWord}
 use Rattle.model.specs.Refusals.{refusedAt, noRefusal}
 use Rattle.model.specs.Gates.{badWord}
-use Rattle.model_recipes.specs.Recipe.{announcedStep, inputHeads}
-use Rattle.model_recipes.specs.Check.{orElse, rightSizes, stepRefusal, inputsRefusal, stepsRefusal, checkRefusal}
-use Rattle.model_recipes.specs.Reasons.{WrongSizes, many-inputs, no-step, many-places}
+use Rattle.model_recipes.specs.Recipe.{Recipe, announcedStep, inputHeads}
+use Rattle.model_recipes.specs.Check.{orElse, knownEdition, rightSizes, stepRefusal, inputsRefusal, stepsRefusal, checkRefusal}
+use Rattle.model_recipes.specs.Reasons.{WrongSizes, no-edition, many-inputs, no-step, many-places}
 use Rattle.recipes_check.specs.Asks.{or-first, or-next, by-refusal}
 use Rattle.recipes_check.specs.Judged.{Sizes, sizes}
 use Rattle.shape_words.specs.Faults.{not-both}
@@ -49,77 +49,79 @@ inputs-outcome p (w ∷ ws) =
 
 -- ---- the steps after the places known
 
--- the refusal of the step number i
-abbrev pub refusalOf : List Header → List ℕ → ℕ → Refusal
-refusalOf known ws i = stepRefusal (getD ws i 0) (chain announcedStep known (take i ws))
+-- the refusal of the step number i in the edition ed
+abbrev pub refusalOf : ℕ → List Header → List ℕ → ℕ → Refusal
+refusalOf ed known ws i = stepRefusal ed (getD ws i 0) (chain (announcedStep ed) known (take i ws))
 
 -- the first n are not refused
-abbrev pub ClearSteps : List Header → List ℕ → ℕ → Type 0
-ClearSteps known ws n = (j : ℕ) → j < n → refusalOf known ws j .number ≡ 0
+abbrev pub ClearSteps : ℕ → List Header → List ℕ → ℕ → Type 0
+ClearSteps ed known ws n = (j : ℕ) → j < n → refusalOf ed known ws j .number ≡ 0
 
-data StepsOutcome (known : List Header) (ws : List ℕ) : Refusal → Type 0 where
-  all-clear : ClearSteps known ws (length ws) → StepsOutcome known ws noRefusal
-  one-refused : (i : ℕ) (r : Refusal) → r ≡ refusalOf known ws i → i < length ws → ClearSteps known ws i → (r .number ≡ 0 → ⊥) → StepsOutcome known ws r
+data StepsOutcome (ed : ℕ) (known : List Header) (ws : List ℕ) : Refusal → Type 0 where
+  all-clear : ClearSteps ed known ws (length ws) → StepsOutcome ed known ws noRefusal
+  one-refused : (i : ℕ) (r : Refusal) → r ≡ refusalOf ed known ws i → i < length ws → ClearSteps ed known ws i → (r .number ≡ 0 → ⊥) → StepsOutcome ed known ws r
 
-module _ (known : List Header) (w : ℕ) (ws : List ℕ) where
+module _ (ed : ℕ) (known : List Header) (w : ℕ) (ws : List ℕ) where
   abbrev longer : List Header
-  longer = known ++ (announcedStep w known ∷ [])
+  longer = known ++ (announcedStep ed w known ∷ [])
 
-  clear-more : {n : ℕ} → stepRefusal w known .number ≡ 0 → ClearSteps longer ws n → ClearSteps known (w ∷ ws) (suc n)
+  clear-more : {n : ℕ} → stepRefusal ed w known .number ≡ 0 → ClearSteps ed longer ws n → ClearSteps ed known (w ∷ ws) (suc n)
   unfolding chain
   clear-more z h zero l = z
   clear-more z h (suc j) l = h j (omega arith)
 
-  steps-later : {r : Refusal} → stepRefusal w known .number ≡ 0 → StepsOutcome longer ws r → StepsOutcome known (w ∷ ws) r
+  steps-later : {r : Refusal} → stepRefusal ed w known .number ≡ 0 → StepsOutcome ed longer ws r → StepsOutcome ed known (w ∷ ws) r
   unfolding chain
   steps-later z (all-clear h) = all-clear (clear-more z h)
   steps-later z (one-refused i r e l h n) = one-refused (suc i) r e (omega arith) (clear-more z h) n
 
-steps-outcome : (known : List Header) (ws : List ℕ) → StepsOutcome known ws (stepsRefusal known ws)
+steps-outcome : (ed : ℕ) (known : List Header) (ws : List ℕ) → StepsOutcome ed known ws (stepsRefusal ed known ws)
 unfolding stepsRefusal chain
-steps-outcome known [] = all-clear (λ j l. absurd (omega arith))
-steps-outcome known (w ∷ ws) =
-    let r = stepRefusal w known in
-    let next = stepsRefusal (known ++ (announcedStep w known ∷ [])) ws in
+steps-outcome ed known [] = all-clear (λ j l. absurd (omega arith))
+steps-outcome ed known (w ∷ ws) =
+    let r = stepRefusal ed w known in
+    let next = stepsRefusal ed (known ++ (announcedStep ed w known ∷ [])) ws in
     by-refusal r
-    (λ z. rw (or-next r next z) (steps-later known w ws z (steps-outcome (known ++ (announcedStep w known ∷ [])) ws)))
+    (λ z. rw (or-next r next z) (steps-later ed known w ws z (steps-outcome ed (known ++ (announcedStep ed w known ∷ [])) ws)))
     (λ n. rw (or-first {r = r} next n) (one-refused 0 r refl (omega arith) (λ j l. absurd (omega arith)) n))
 
 -- ---- the whole
 
-module _ (hs ss : List ℕ) where
-  pub sizes-wrong : rightSizes (length hs) (length ss) ≡ false → WrongSizes hs ss
+module _ (it : Recipe) where
+  pub sizes-wrong : (knownEdition (it .edition) && rightSizes (length (it .headers)) (length (it .steps))) ≡ false → WrongSizes it
   unfolding rightSizes
   sizes-wrong e =
-      decide (leb (length hs) 16)
-      (λ t1. decide (leb 1 (length ss))
-      (λ t2. decide (leb (length hs + length ss) 64)
-      (λ t3. absurd (not-both true refl (rw (t1, t2, t3) at e)))
+      decide (leb (it .edition) 1)
+      (λ t0. decide (leb (length (it .headers)) 16)
+      (λ t1. decide (leb 1 (length (it .steps)))
+      (λ t2. decide (leb (length (it .headers) + length (it .steps)) 64)
+      (λ t3. absurd (not-both true refl (rw (t0, t1, t2, t3) at e)))
       (λ f. many-places (leb-false _ _ f)))
-      (λ f. no-step (omega (arith, leb-false 1 (length ss) f))))
-      (λ f. many-inputs (leb-false _ _ f))
+      (λ f. no-step (omega (arith, leb-false 1 (length (it .steps)) f))))
+      (λ f. many-inputs (leb-false _ _ f)))
+      (λ f. no-edition (leb-false _ _ f))
 
   pub data Outcome : Refusal → Type 0 where
-    by-sizes : WrongSizes hs ss → Outcome (refusedAt 7 64)
-    at-input : (i : ℕ) → Sizes hs ss → i < length hs → GoodInputs hs i → goodWord (getD hs i 0) ≡ false → Outcome (badWord (getD hs i 0) i)
-    at-step : (i : ℕ) (r : Refusal) → Sizes hs ss → GoodInputs hs (length hs) → r ≡ refusalOf (inputHeads hs) ss i
-        → i < length ss → ClearSteps (inputHeads hs) ss i
+    by-sizes : WrongSizes it → Outcome (refusedAt 7 64)
+    at-input : (i : ℕ) → Sizes it → i < length (it .headers) → GoodInputs (it .headers) i → goodWord (getD (it .headers) i 0) ≡ false → Outcome (badWord (getD (it .headers) i 0) i)
+    at-step : (i : ℕ) (r : Refusal) → Sizes it → GoodInputs (it .headers) (length (it .headers)) → r ≡ refusalOf (it .edition) (inputHeads (it .headers)) (it .steps) i
+        → i < length (it .steps) → ClearSteps (it .edition) (inputHeads (it .headers)) (it .steps) i
         → (r .number ≡ 0 → ⊥) → Outcome r
-    not-refused : Sizes hs ss → GoodInputs hs (length hs) → ClearSteps (inputHeads hs) ss (length ss) → Outcome noRefusal
+    not-refused : Sizes it → GoodInputs (it .headers) (length (it .headers)) → ClearSteps (it .edition) (inputHeads (it .headers)) (it .steps) (length (it .steps)) → Outcome noRefusal
 
-  after-inputs : Sizes hs ss → GoodInputs hs (length hs) → {r : Refusal} → StepsOutcome (inputHeads hs) ss r → Outcome r
+  after-inputs : Sizes it → GoodInputs (it .headers) (length (it .headers)) → {r : Refusal} → StepsOutcome (it .edition) (inputHeads (it .headers)) (it .steps) r → Outcome r
   after-inputs s g (all-clear h) = not-refused s g h
   after-inputs s g (one-refused i r e l h n) = at-step i r s g e l h n
 
-  after-sizes : Sizes hs ss → {r : Refusal} → InputsOutcome 0 hs r → Outcome (orElse r (stepsRefusal (inputHeads hs) ss))
-  after-sizes s (all-good h) = rw (or-next noRefusal (stepsRefusal (inputHeads hs) ss) refl) (after-inputs s h (steps-outcome (inputHeads hs) ss))
+  after-sizes : Sizes it → {r : Refusal} → InputsOutcome 0 (it .headers) r → Outcome (orElse r (stepsRefusal (it .edition) (inputHeads (it .headers)) (it .steps)))
+  after-sizes s (all-good h) = rw (or-next noRefusal (stepsRefusal (it .edition) (inputHeads (it .headers)) (it .steps)) refl) (after-inputs s h (steps-outcome (it .edition) (inputHeads (it .headers)) (it .steps)))
   after-sizes s (one-bad i q e l h b) =
       let f : q ≡ i = omega (arith, e) in
-      rw (f, or-first {r = badWord (getD hs i 0) i} (stepsRefusal (inputHeads hs) ss) (λ z. omega (arith, z))) (at-input i s l h b)
+      rw (f, or-first {r = badWord (getD (it .headers) i 0) i} (stepsRefusal (it .edition) (inputHeads (it .headers)) (it .steps)) (λ z. omega (arith, z))) (at-input i s l h b)
 
-  pub outcome : Outcome (checkRefusal hs ss)
+  pub outcome : Outcome (checkRefusal it)
   unfolding checkRefusal
   outcome =
-      decide (rightSizes (length hs) (length ss))
-      (λ t. rw t (after-sizes (sizes hs ss t) (inputs-outcome 0 hs)))
+      decide (knownEdition (it .edition) && rightSizes (length (it .headers)) (length (it .steps)))
+      (λ t. rw t (after-sizes (sizes it t) (inputs-outcome 0 (it .headers))))
       (λ t. rw t (by-sizes (sizes-wrong t)))

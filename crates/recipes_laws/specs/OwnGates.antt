@@ -20,12 +20,13 @@ use Rattle.model.specs.Quotient.{quotientGate}
 use Rattle.model.specs.Power.{powerGate}
 use Rattle.model.specs.Shifts.{shiftGate}
 use Rattle.model.specs.Substitute.{substituteGate}
+use Rattle.model_recipes.specs.Kinds.{idle}
 use Rattle.model_recipes.specs.Run.{gates}
 
--- the step s of the operands a and b, lent out and scratch
-module _ (s : Step) (a b : Poly) (out scratch : List Float) where
+-- the step s of the operands a and b in the edition ed, lent out and scratch
+module _ (ed : ℕ) (s : Step) (a b : Poly) (out scratch : List Float) where
   abbrev row : ℕ → Refusal
-  row k = getD (gates s a b (length out) (length scratch)) k noRefusal
+  row k = getD (gates ed s a b (length out) (length scratch)) k noRefusal
 
   abbrev w : ℕ
   w = wordOf (a .head)
@@ -41,7 +42,7 @@ module _ (s : Step) (a b : Poly) (out scratch : List Float) where
     pub subtracts : row 3 ≡ sumGate true w (a .coeffs) u (b .coeffs) out scratch
     pub multiplies : row 4 ≡ productGate w (a .coeffs) u (b .coeffs) out scratch
     pub divides : row 5 ≡ quotientGate w (a .coeffs) u (b .coeffs) out scratch
-    pub powers : row 6 ≡ powerGate w (a .coeffs) (s .n) out scratch
+    pub powers : idle ed (s .n) ≡ false → row 6 ≡ powerGate w (a .coeffs) (s .n) out scratch
     pub derives : row 7 ≡ shiftGate w (a .coeffs) (s .variable) (s .n) out
     pub expands : row 8 ≡ shiftGate w (a .coeffs) (s .variable) (s .n) out
     pub shifts : row 9 ≡ shiftGate w (a .coeffs) (s .variable) (s .n) out
@@ -57,7 +58,7 @@ module _ (s : Step) (a b : Poly) (out scratch : List Float) where
         subtracts = refl;
         multiplies = refl;
         divides = refl;
-        powers = refl;
+        powers = λ t. rw t;
         derives = refl;
         expands = refl;
         shifts = refl;

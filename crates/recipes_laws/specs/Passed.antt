@@ -12,7 +12,7 @@ use borrow.Author.Tests.{le-leb}
 use Rattle.model.specs.declared.Header.{Header}
 use Rattle.model_recipes.specs.declared.Step.{Step}
 use Rattle.model.specs.declared.Family.{Family}
-use Rattle.model.specs.declared.Family.the-variants.{Constant, Same, Sum, Product, Quotient, Power, Shift, Substitution}
+use Rattle.model.specs.declared.Family.the-variants.{Constant, Same, Sum, Product, Quotient, Power, Shift, Substitution, One}
 use Rattle.model.specs.Header.{limit, stored, noHeader, ones, span, zeroWith}
 use Rattle.model.specs.Word.{headerOf, goodWord, wordOf}
 use Rattle.model.specs.Announced.{announced}
@@ -20,6 +20,8 @@ use Rattle.model.specs.Refusals.{noRefusal}
 use Rattle.model.specs.Faults.{limitsFault}
 use Rattle.model.specs.Gates.{oneGate, workGate, inGate, pairGate, withGate}
 use Rattle.model.specs.Poly.{Poly}
+use Rattle.lists.specs.Test.{decide}
+use Rattle.model_recipes.specs.Kinds.{idle, powerFamily}
 use Rattle.model_recipes.specs.Steps.{stepOf}
 use Rattle.model_recipes.specs.Recipe.{families, familyOf}
 use Rattle.model_recipes.specs.Run.{valueAt, gates, stepGate}
@@ -83,9 +85,14 @@ with-passes r = simp (le-leb _ _ (r .fits))
 abbrev pub inLimit : ℕ → Bool → Bool
 inLimit k t = cond (leb 7 k && leb k 9) t true
 
-module _ (s : Step) (a b : Poly) (n m : ℕ) (o : Operand a) (u : Operand b) where
-  gate-passes : (k : ℕ) → Room (announced (getD (families s) k Constant) (a .head) (b .head)) n m → inLimit k (ltb (s .variable) (a .head .vars)) ≡ true
-      → inLimit k (ltb (s .n) (limit (a .head) (s .variable))) ≡ true → getD (gates s a b n m) k noRefusal .number ≡ 0
+module _ (ed : ℕ) (s : Step) (a b : Poly) (n m : ℕ) (o : Operand a) (u : Operand b) where
+  power-passes : Room (announced (powerFamily ed (s .n)) (a .head) (b .head)) n m
+      → workGate (powerFamily ed (s .n)) (wordOf (a .head)) (length (a .coeffs)) n m .number ≡ 0
+  unfolding announced
+  power-passes r = decide (idle ed (s .n)) (λ t. rw t (work-passes a o One (rw t at r))) (λ t. rw t (work-passes a o (Power (s .n)) (rw t at r)))
+
+  gate-passes : (k : ℕ) → Room (announced (getD (families ed s) k Constant) (a .head) (b .head)) n m → inLimit k (ltb (s .variable) (a .head .vars)) ≡ true
+      → inLimit k (ltb (s .n) (limit (a .head) (s .variable))) ≡ true → getD (gates ed s a b n m) k noRefusal .number ≡ 0
   unfolding families gates announced
   gate-passes =
       by-kind (record {
@@ -95,7 +102,7 @@ module _ (s : Step) (a b : Poly) (n m : ℕ) (o : Operand a) (u : Operand b) whe
         k3 = λ r _ _. pair-passes Sum a b o u r;
         k4 = λ r _ _. pair-passes Product a b o u r;
         k5 = λ r _ _. pair-passes Quotient a b o u r;
-        k6 = λ r _ _. work-passes a o (Power (s .n)) r;
+        k6 = λ r _ _. power-passes r;
         k7 = λ r v d. in-passes a o (Shift (s .variable) (s .n)) (s .variable) (s .n) r v d;
         k8 = λ r v d. in-passes a o (Shift (s .variable) (s .n)) (s .variable) (s .n) r v d;
         k9 = λ r v d. in-passes a o (Shift (s .variable) (s .n)) (s .variable) (s .n) r v d;
@@ -104,14 +111,14 @@ module _ (s : Step) (a b : Poly) (n m : ℕ) (o : Operand a) (u : Operand b) whe
       })
 
 -- what the step w works with, its operands' values among vs: n places for the result, m of scratch
-pub record StepReady (w : ℕ) (vs : List Poly) (n m : ℕ) : Type 0 where
+pub record StepReady (ed w : ℕ) (vs : List Poly) (n m : ℕ) : Type 0 where
   pub a : Operand (valueAt vs (stepOf w .a))
   pub b : Operand (valueAt vs (stepOf w .b))
-  pub room : Room (announced (familyOf (stepOf w)) (valueAt vs (stepOf w .a) .head) (valueAt vs (stepOf w .b) .head)) n m
+  pub room : Room (announced (familyOf ed (stepOf w)) (valueAt vs (stepOf w .a) .head) (valueAt vs (stepOf w .b) .head)) n m
   pub variable : inLimit (stepOf w .kind) (ltb (stepOf w .variable) (valueAt vs (stepOf w .a) .head .vars)) ≡ true
   pub number : inLimit (stepOf w .kind) (ltb (stepOf w .n) (limit (valueAt vs (stepOf w .a) .head) (stepOf w .variable))) ≡ true
 
-pub step-passes : (w : ℕ) (vs : List Poly) (n m : ℕ) → StepReady w vs n m → stepGate w vs n m .number ≡ 0
+pub step-passes : (ed w : ℕ) (vs : List Poly) (n m : ℕ) → StepReady ed w vs n m → stepGate ed w vs n m .number ≡ 0
 unfolding stepGate
-step-passes w vs n m r =
-    gate-passes (stepOf w) (valueAt vs (stepOf w .a)) (valueAt vs (stepOf w .b)) n m (r .a) (r .b) (stepOf w .kind) (r .room) (r .variable) (r .number)
+step-passes ed w vs n m r =
+    gate-passes ed (stepOf w) (valueAt vs (stepOf w .a)) (valueAt vs (stepOf w .b)) n m (r .a) (r .b) (stepOf w .kind) (r .room) (r .variable) (r .number)

@@ -13,7 +13,7 @@ use Rattle.model.specs.declared.Refusal.{Refusal}
 use Rattle.model_recipes.specs.declared.CheckAnswer.the-variants as check-answer
 use Rattle.model_recipes.specs.declared.RunAnswer.the-variants.{Done, Refused}
 use Rattle.model.specs.Refusals.{ask, noRefusal, refusedBy}
-use Rattle.model_recipes.specs.Recipe.{inputHeads, announcedSteps, total, largest}
+use Rattle.model_recipes.specs.Recipe.{Recipe, inputHeads, announcedSteps, total, largest}
 use Rattle.model_recipes.specs.Check.{orElse, checkRefusal, checkAnswer}
 use Rattle.model_recipes.specs.Reasons.{FirstReason, NoReason, RunReason, of-check, few-coefficients, short-pool, few-words, short-scratch}
 use Rattle.model_recipes.specs.Run.{lentRefusal, runRefusal, runEnd, runAnswer}
@@ -26,53 +26,53 @@ and-no : (b : Bool) → (b && false) ≡ false
 and-no true = refl
 and-no false = refl
 
-module _ (hs ss : List ℕ) where
+module _ (it : Recipe) where
   abbrev check : Refusal
-  check = checkRefusal hs ss
+  check = checkRefusal it
 
   -- ---- the check's refusal and its reasons
 
-  not-refused : check .number ≡ 0 → NoReason hs ss
-  not-refused z = check-exact hs ss .accepted _ _ _ (sym (answer-yes hs ss {r = check} refl z refl refl refl))
+  not-refused : check .number ≡ 0 → NoReason it
+  not-refused z = check-exact it .accepted _ _ _ (sym (answer-yes it {r = check} refl z refl refl refl))
 
-  first-reason : (check .number ≡ 0 → ⊥) → FirstReason hs ss check
-  first-reason n = check-exact hs ss .refused check (sym (answer-no hs ss {r = check} refl n))
+  first-reason : (check .number ≡ 0 → ⊥) → FirstReason it check
+  first-reason n = check-exact it .refused check (sym (answer-no it {r = check} refl n))
 
-  none-due : NoReason hs ss → check .number ≡ 0
+  none-due : NoReason it → check .number ≡ 0
   none-due f = by-refusal check (λ z. z) (λ n. absurd (f _ _ (first-reason n .reason)))
 
-  is-refused : {r : Refusal} → FirstReason hs ss r → check .number ≡ 0 → ⊥
+  is-refused : {r : Refusal} → FirstReason it r → check .number ≡ 0 → ⊥
   is-refused f z = not-refused z _ _ (f .reason)
 
-  is-first : {r : Refusal} → FirstReason hs ss r → check ≡ r
+  is-first : {r : Refusal} → FirstReason it r → check ≡ r
   is-first {r} f =
       let e : check-answer.Refused check ≡ check-answer.Refused r =
-      answer-no hs ss {r = check} refl (is-refused f) ∙ check-exact hs ss .refuses r f in
+      answer-no it {r = check} refl (is-refused f) ∙ check-exact it .refuses r f in
       cc
 
   -- ---- tests 2, 5, 6, by the lengths of coefficients, pool, words and scratch
 
   module _ (c p w s : ℕ) where
     abbrev lent : Refusal
-    lent = lentRefusal hs ss c p w s
+    lent = lentRefusal it c p w s
 
-    by-tests : NoReason hs ss → (t2 t5 u5 t6 : Bool) → leb (total (inputHeads hs)) c ≡ t2 → leb (total (announcedSteps hs ss)) p ≡ t5
-        → leb (length ss) w ≡ u5 → leb (8 * largest (announcedSteps hs ss)) s ≡ t6
+    by-tests : NoReason it → (t2 t5 u5 t6 : Bool) → leb (total (inputHeads (it .headers))) c ≡ t2 → leb (total (announcedSteps it)) p ≡ t5
+        → leb (length (it .steps)) w ≡ u5 → leb (8 * largest (announcedSteps it)) s ≡ t6
         → (ask t2 2 (ask (t5 && u5) 5 (ask t6 6 noRefusal)) .number ≡ 0 → ⊥)
-        → RunReason hs ss c p w s (ask t2 2 (ask (t5 && u5) 5 (ask t6 6 noRefusal)))
+        → RunReason it c p w s (ask t2 2 (ask (t5 && u5) 5 (ask t6 6 noRefusal)))
     by-tests f false t5 u5 t6 a b d e n = few-coefficients f (leb-false _ _ a)
     by-tests f true false u5 t6 a b d e n = short-pool f (leb-true _ _ a) (leb-false _ _ b)
     by-tests f true true false t6 a b d e n = few-words f (leb-true _ _ a) (leb-false _ _ d)
     by-tests f true true true false a b d e n = short-scratch f (leb-true _ _ a) (leb-true _ _ b) (leb-true _ _ d) (leb-false _ _ e)
     by-tests f true true true true a b d e n = absurd (n refl)
 
-    lent-reason : NoReason hs ss → (lent .number ≡ 0 → ⊥) → RunReason hs ss c p w s lent
+    lent-reason : NoReason it → (lent .number ≡ 0 → ⊥) → RunReason it c p w s lent
     unfolding lentRefusal
     lent-reason f n = by-tests f _ _ _ _ refl refl refl refl n
 
     -- ---- both
 
-    reason-of : (orElse check lent .number ≡ 0 → ⊥) → RunReason hs ss c p w s (orElse check lent)
+    reason-of : (orElse check lent .number ≡ 0 → ⊥) → RunReason it c p w s (orElse check lent)
     reason-of n =
         by-refusal check
         (λ z. rw (or-next check lent z) (lent-reason (not-refused z) (rw (or-next check lent z) at n)))
@@ -83,10 +83,10 @@ module _ (hs ss : List ℕ) where
       is : orElse check lent ≡ r
       some : r .number ≡ 0 → ⊥
 
-    past-check : {r : Refusal} → NoReason hs ss → lent ≡ r → (r .number ≡ 0 → ⊥) → Due r
+    past-check : {r : Refusal} → NoReason it → lent ≡ r → (r .number ≡ 0 → ⊥) → Due r
     past-check f e n = record { is = or-next check lent (none-due f) ∙ e; some = n }
 
-    due : {r : Refusal} → RunReason hs ss c p w s r → Due r
+    due : {r : Refusal} → RunReason it c p w s r → Due r
     unfolding lentRefusal
     due (of-check r f) =
         record {
@@ -95,33 +95,33 @@ module _ (hs ss : List ℕ) where
         }
     due (few-coefficients f a) = past-check f (simp (lt-leb _ _ a)) (λ z. omega (arith, z))
     due (short-pool f a b) = past-check f (simp (le-leb _ _ a, lt-leb _ _ b)) (λ z. omega (arith, z))
-    due (few-words f a b) = past-check f (simp (le-leb _ _ a, lt-leb _ _ b, and-no (leb (total (announcedSteps hs ss)) p))) (λ z. omega (arith, z))
+    due (few-words f a b) = past-check f (simp (le-leb _ _ a, lt-leb _ _ b, and-no (leb (total (announcedSteps it)) p))) (λ z. omega (arith, z))
     due (short-scratch f a b d e) = past-check f (simp (le-leb _ _ a, le-leb _ _ b, le-leb _ _ d, lt-leb _ _ e)) (λ z. omega (arith, z))
 
 -- ---- the run
 
 -- any words, coefficients and buffers
-module _ (hs : List ℕ) (cs : List Float) (ss : List ℕ) (pool : List Float) (words : List ℕ) (scratch : List Float) where
+module _ (it : Recipe) (cs : List Float) (pool : List Float) (words : List ℕ) (scratch : List Float) where
   abbrev pub Reason : Refusal → Type 0
-  Reason r = RunReason hs ss (length cs) (length pool) (length words) (length scratch) r
+  Reason r = RunReason it (length cs) (length pool) (length words) (length scratch) r
 
   pub record RunExact : Type 0 where
     -- done where there is no reason
-    pub done : ((r : Refusal) → Reason r → ⊥) → runAnswer hs cs ss pool words scratch ≡ Done
+    pub done : ((r : Refusal) → Reason r → ⊥) → runAnswer it cs pool words scratch ≡ Done
     -- refused for a reason
-    pub refuses : (r : Refusal) → Reason r → runAnswer hs cs ss pool words scratch ≡ Refused r
+    pub refuses : (r : Refusal) → Reason r → runAnswer it cs pool words scratch ≡ Refused r
     -- and for nothing else
-    pub refused : (r : Refusal) → runAnswer hs cs ss pool words scratch ≡ Refused r → Reason r
+    pub refused : (r : Refusal) → runAnswer it cs pool words scratch ≡ Refused r → Reason r
 
   abbrev q : Refusal
-  q = runRefusal hs cs ss pool words scratch
+  q = runRefusal it cs pool words scratch
 
   reason : (q .number ≡ 0 → ⊥) → Reason q
   unfolding runRefusal
-  reason n = reason-of hs ss _ _ _ _ n
+  reason n = reason-of it _ _ _ _ n
 
-  is-due : {r : Refusal} → Reason r → Due hs ss (length cs) (length pool) (length words) (length scratch) r
-  is-due x = due hs ss _ _ _ _ x
+  is-due : {r : Refusal} → Reason r → Due it (length cs) (length pool) (length words) (length scratch) r
+  is-due x = due it _ _ _ _ x
 
   pub run-exact : RunExact
   unfolding runAnswer runEnd runRefusal

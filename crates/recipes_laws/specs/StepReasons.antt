@@ -37,7 +37,7 @@ shift-right w x y e s l =
     let t : lowers (stepOf w) ≡ true = simp (le-leb _ _ (s .from), le-leb _ _ (s .to)) in
     omega (arith, ltb-true x y (rw t at e))
 
-module _ (w : ℕ) (known : List Header) where
+module _ (ed w : ℕ) (known : List Header) where
   abbrev place : ℕ
   place = length known
 
@@ -46,43 +46,43 @@ module _ (w : ℕ) (known : List Header) where
 
   -- the refusal r, by the tests in order
   data View : Refusal → Type 0 where
-    fine : ((n : ℕ) → StepReason w known n → ⊥) → View noRefusal
-    wrong : (k : ℕ) → StepReason w known k → (k ≡ 0 → ⊥) → ((n : ℕ) → StepReason w known n → k ≤ n) → View (refusedAt k place)
+    fine : ((n : ℕ) → StepReason ed w known n → ⊥) → View noRefusal
+    wrong : (k : ℕ) → StepReason ed w known k → (k ≡ 0 → ⊥) → ((n : ℕ) → StepReason ed w known n → k ≤ n) → View (refusedAt k place)
 
-  pub numbers : {n : ℕ} → StepReason w known n → 3 ≤ n
+  pub numbers : {n : ℕ} → StepReason ed w known n → 3 ≤ n
   numbers (wrong-word x) = omega arith
   numbers (no-variable x s l) = omega arith
   numbers (large-n x s l) = omega arith
   numbers (large-count x l) = omega arith
 
-  lowest-7 : WrongWord w place → (n : ℕ) → StepReason w known n → 7 ≤ n
+  lowest-7 : WrongWord w place → (n : ℕ) → StepReason ed w known n → 7 ≤ n
   lowest-7 x n (wrong-word y) = omega arith
   lowest-7 x n (no-variable y s l) = absurd (y x)
   lowest-7 x n (large-n y s l) = absurd (y x)
   lowest-7 x n (large-count y l) = absurd (y x)
 
   module _ (v : Shifts w → operand .vars ≤ stepOf w .variable → ⊥) where
-    lowest-4 : (n : ℕ) → StepReason w known n → 4 ≤ n
+    lowest-4 : (n : ℕ) → StepReason ed w known n → 4 ≤ n
     lowest-4 n (wrong-word y) = omega arith
     lowest-4 n (no-variable y s l) = absurd (v s l)
     lowest-4 n (large-n y s l) = omega arith
     lowest-4 n (large-count y l) = omega arith
 
     module _ (d : Shifts w → limit operand (stepOf w .variable) ≤ stepOf w .n → ⊥) where
-      lowest-5 : (n : ℕ) → StepReason w known n → 5 ≤ n
+      lowest-5 : (n : ℕ) → StepReason ed w known n → 5 ≤ n
       lowest-5 n (wrong-word y) = omega arith
       lowest-5 n (no-variable y s l) = absurd (v s l)
       lowest-5 n (large-n y s l) = absurd (d s l)
       lowest-5 n (large-count y l) = omega arith
 
-      none-left : (WrongWord w place → ⊥) → stored (announcedStep w known) ≤ 4096 → (n : ℕ) → StepReason w known n → ⊥
+      none-left : (WrongWord w place → ⊥) → stored (announcedStep ed w known) ≤ 4096 → (n : ℕ) → StepReason ed w known n → ⊥
       none-left x m n (wrong-word y) = x y
       none-left x m n (no-variable y s l) = v s l
       none-left x m n (large-n y s l) = d s l
       none-left x m n (large-count y l) = omega arith
 
   by-tests : (t7 t3 t4 t5 : Bool) → formed w place ≡ t7 → cond (lowers (stepOf w)) (ltb (stepOf w .variable) (operand .vars)) true ≡ t3
-      → cond (lowers (stepOf w)) (ltb (stepOf w .n) (limit operand (stepOf w .variable))) true ≡ t4 → leb (stored (announcedStep w known)) 4096 ≡ t5
+      → cond (lowers (stepOf w)) (ltb (stepOf w .n) (limit operand (stepOf w .variable))) true ≡ t4 → leb (stored (announcedStep ed w known)) 4096 ≡ t5
       → View (askAt t7 7 place (askAt t3 3 place (askAt t4 4 place (askAt t5 5 place noRefusal))))
   by-tests false t3 t4 t5 a b c d = let x = formed-wrong w place a in wrong 7 (wrong-word x) (λ z. omega (arith, z)) (lowest-7 x)
   by-tests true false t4 t5 a b c d =
@@ -93,28 +93,28 @@ module _ (w : ℕ) (known : List Header) where
       wrong 5 (large-count (formed-right w place a) (leb-false _ _ d)) (λ z. omega (arith, z)) (lowest-5 (shift-right w _ _ b) (shift-right w _ _ c))
   by-tests true true true true a b c d = fine (none-left (shift-right w _ _ b) (shift-right w _ _ c) (formed-right w place a) (leb-true _ _ d))
 
-  view : View (stepRefusal w known)
+  view : View (stepRefusal ed w known)
   unfolding stepRefusal
   view = by-tests _ _ _ _ refl refl refl refl
 
   -- not refused: there is no reason
-  clear-by : {r : Refusal} → View r → r .number ≡ 0 → (n : ℕ) → StepReason w known n → ⊥
+  clear-by : {r : Refusal} → View r → r .number ≡ 0 → (n : ℕ) → StepReason ed w known n → ⊥
   clear-by (fine f) e = f
   clear-by (wrong k x h l) e = absurd (h e)
 
-  pub step-clear : stepRefusal w known .number ≡ 0 → (n : ℕ) → StepReason w known n → ⊥
+  pub step-clear : stepRefusal ed w known .number ≡ 0 → (n : ℕ) → StepReason ed w known n → ⊥
   step-clear e = clear-by view e
 
   -- refused: at the step's place, by its lowest reason
   pub record Stopped (r : Refusal) : Type 0 where
     pub at : r .place ≡ place
-    pub reason : StepReason w known (r .number)
-    pub lowest : (n : ℕ) → StepReason w known n → r .number ≤ n
+    pub reason : StepReason ed w known (r .number)
+    pub lowest : (n : ℕ) → StepReason ed w known n → r .number ≤ n
     pub alone : (r .variable ≡ 0) × (r .cause ≡ 0)
 
   stopped-by : {r : Refusal} → View r → (r .number ≡ 0 → ⊥) → Stopped r
   stopped-by (fine f) e = absurd (e refl)
   stopped-by (wrong k x h l) e = record { at = refl; reason = x; lowest = l; alone = (refl, refl) }
 
-  pub step-stopped : (stepRefusal w known .number ≡ 0 → ⊥) → Stopped (stepRefusal w known)
+  pub step-stopped : (stepRefusal ed w known .number ≡ 0 → ⊥) → Stopped (stepRefusal ed w known)
   step-stopped e = stopped-by view e

@@ -11,7 +11,7 @@ use Rattle.lists.specs.Chain.{chain, chain-keeps, chain-take}
 use Rattle.model.specs.Word.{headerOf}
 use Rattle.model.specs.Poly.{Poly}
 use Rattle.model_recipes.specs.Steps.{stepOf}
-use Rattle.model_recipes.specs.Recipe.{inputHeads, announcedPlaces, announcedSteps, total, largest}
+use Rattle.model_recipes.specs.Recipe.{Recipe, upTo, inputHeads, announcedPlaces, announcedSteps, total, largest}
 use Rattle.model_recipes.specs.Check.{checkRefusal}
 use Rattle.model_recipes.specs.Run.{inputValues, noValue, valueAt, stepValue, values}
 use Rattle.recipes_laws.specs.Exact.{length-known}
@@ -20,32 +20,32 @@ use Rattle.recipes_laws.specs.Ahead.{ahead-at, clear-at, value-at}
 use Rattle.recipes_laws.specs.Demand.{Computed}
 use Rattle.recipes_laws.specs.Computes.{computed}
 
-module _ (hs : List ℕ) (cs : List Float) (ss : List ℕ) {m : ℕ} (none : checkRefusal hs ss .number ≡ 0) (full : total (inputHeads hs) ≤ length cs)
-    (room : 8 * largest (announcedSteps hs ss) ≤ m) where
-  pub follows-all : Follows (announcedPlaces hs ss) (values hs cs ss)
-  follows-all = rw (take-all (length ss) ss (omega arith)) at (ahead-at hs cs ss none full room (length ss) .now)
+module _ (it : Recipe) (cs : List Float) {m : ℕ} (none : checkRefusal it .number ≡ 0) (full : total (inputHeads (it .headers)) ≤ length cs)
+    (room : 8 * largest (announcedSteps it) ≤ m) where
+  pub follows-all : Follows (announcedPlaces it) (values it cs)
+  follows-all = rw (take-all (length (it .steps)) (it .steps) (omega arith)) at (ahead-at it cs none full room (length (it .steps)) .now)
 
-  count-inputs : length (inputValues hs cs) ≡ length hs
-  count-inputs = length-inputs hs cs ∙ length-map hs headerOf
+  count-inputs : length (inputValues (it .headers) cs) ≡ length (it .headers)
+  count-inputs = length-inputs (it .headers) cs ∙ length-map (it .headers) headerOf
 
   -- the places before the step number i
-  earlier : (i : ℕ) → i < length ss → (q : ℕ) → q < length hs + i → valueAt (values hs cs (take i ss)) q ≡ valueAt (values hs cs ss) q
+  earlier : (i : ℕ) → i < length (it .steps) → (q : ℕ) → q < length (it .headers) + i → valueAt (values (upTo it i) cs) q ≡ valueAt (values it cs) q
   unfolding values
   earlier i l q h =
-      let e : take (length hs + i) (chain stepValue (inputValues hs cs) ss) ≡ chain stepValue (inputValues hs cs) (take i ss) =
-      ap (λ (k : ℕ). take (k + i) (chain stepValue (inputValues hs cs) ss)) (sym count-inputs) ∙ chain-take stepValue (inputValues hs cs) ss i (omega arith) in
-      ap (λ (x : List Poly). valueAt x q) (sym e) ∙ getD-take (length hs + i) (values hs cs ss) q noValue h
+      let e : take (length (it .headers) + i) (chain (stepValue (it .edition)) (inputValues (it .headers) cs) (it .steps)) ≡ chain (stepValue (it .edition)) (inputValues (it .headers) cs) (take i (it .steps)) =
+      ap (λ (k : ℕ). take (k + i) (chain (stepValue (it .edition)) (inputValues (it .headers) cs) (it .steps))) (sym count-inputs) ∙ chain-take (stepValue (it .edition)) (inputValues (it .headers) cs) (it .steps) i (omega arith) in
+      ap (λ (x : List Poly). valueAt x q) (sym e) ∙ getD-take (length (it .headers) + i) (values it cs) q noValue h
 
-  pub step-computed : (i : ℕ) → i < length ss
-      → Computed (stepOf (getD ss i 0)) (length hs + i) (valueAt (values hs cs ss)) (valueAt (values hs cs ss) (length hs + i))
+  pub step-computed : (i : ℕ) → i < length (it .steps)
+      → Computed (it .edition) (stepOf (getD (it .steps) i 0)) (length (it .headers) + i) (valueAt (values it cs)) (valueAt (values it cs) (length (it .headers) + i))
   unfolding announcedPlaces
   step-computed i l =
-      let c = clear-at hs cs ss none full room i l in
-      rw (value-at hs ss i l cs)
-      (computed (getD ss i 0) (length hs + i) (values hs cs (take i ss)) (values hs cs ss) (rw (length-known hs ss i l) at (c .formed)) (earlier i l))
+      let c = clear-at it cs none full room i l in
+      rw (value-at it i l cs)
+      (computed (it .edition) (getD (it .steps) i 0) (length (it .headers) + i) (values (upTo it i) cs) (values it cs) (rw (length-known it i l) at (c .formed)) (earlier i l))
 
-  pub inputs-first : take (length hs) (values hs cs ss) ≡ inputValues hs cs
+  pub inputs-first : take (length (it .headers)) (values it cs) ≡ inputValues (it .headers) cs
   unfolding values
   inputs-first =
-      chain-keeps stepValue (inputValues hs cs) ss (length hs) (omega (arith, count-inputs))
-      ∙ take-all (length hs) (inputValues hs cs) (omega (arith, count-inputs))
+      chain-keeps (stepValue (it .edition)) (inputValues (it .headers) cs) (it .steps) (length (it .headers)) (omega (arith, count-inputs))
+      ∙ take-all (length (it .headers)) (inputValues (it .headers) cs) (omega (arith, count-inputs))

@@ -39,9 +39,9 @@ use Rattle.recipes_pairs.specs.Pair.{pairFamily, pairPoly, Pairing, pair-sum, p
 use Rattle.recipes_singles.specs.Power.{Powering}
 use Rattle.shape_operands.specs.Announces.{Announces}
 
--- the kind's operation
+-- the kind's operation in edition 0
 unfoldable pub valueOf : Step → Poly → Poly → Poly
-valueOf s a b = getD (operations s a b) (s .kind) noValue
+valueOf s a b = getD (operations 0 s a b) (s .kind) noValue
 
 -- where the operands with the headers x and y lie
 pub record Placed (x : Header) (xi : Bool) (xf : ℕ) (y : Header) (yi : Bool) (yf at mc : ℕ) : Type 0 where
@@ -60,14 +60,14 @@ pub record Ready (s : Step) (x y : Header) (room : ℕ) : Type 0 where
   pub left : Good x
   pub right : Good y
   pub known : Known s x
-  pub fits : stored (announced (familyOf s) x y) ≤ room
+  pub fits : stored (announced (familyOf 0 s) x y) ≤ room
 
 -- h what they announce, n its count
 pub record Making (s : Step) (x y h : Header) (n : ℕ) : Type 0 where
   pub left : Good x
   pub right : Good y
   pub known : Known s x
-  pub is : h ≡ announced (familyOf s) x y
+  pub is : h ≡ announced (familyOf 0 s) x y
   pub most : stored h ≤ 4096
   pub all : n ≡ stored h
 
@@ -128,7 +128,7 @@ of-any P p1 p2 p3 p4 p5 p6 p7 p8 p9 p10 k lo hi =
 
 module _ {s : Step} {x y h : Header} {n : ℕ} (g : Making s x y h n) where
   module _ (e : s .kind ≡ 6) where
-    power-is : announced (familyOf s) x y ≡ announced (Power (s .n)) x noHeader
+    power-is : announced (familyOf 0 s) x y ≡ announced (Power (s .n)) x noHeader
     unfolding announced families
     power-is = rw e
 
@@ -140,7 +140,7 @@ module _ {s : Step} {x y h : Header} {n : ℕ} (g : Making s x y h n) where
     power-value a b = rw e
 
   module _ (e : s .kind ≡ 10) where
-    substitute-is : announced (familyOf s) x y ≡ announced (Substitution (s .variable)) x y
+    substitute-is : announced (familyOf 0 s) x y ≡ announced (Substitution (s .variable)) x y
     unfolding families
     substitute-is = rw e
 
@@ -152,10 +152,10 @@ module _ {s : Step} {x y h : Header} {n : ℕ} (g : Making s x y h n) where
     substitute-value a b = rw e
 
   module _ (t : pairTest (s .kind) ≡ true) where
-    pair-is : familyOf s ≡ pairFamily (s .kind)
+    pair-is : familyOf 0 s ≡ pairFamily (s .kind)
     unfolding families
     pair-is =
-        of-pair (λ k. getD (families s) k Constant ≡ pairFamily k) refl refl refl refl (s .kind)
+        of-pair (λ k. getD (families 0 s) k Constant ≡ pairFamily k) refl refl refl refl (s .kind)
         (pair-low (s .kind) (g .known .some) t) (pair-high (s .kind) t)
 
     pub to-pair : Pairing (s .kind) x y h n
@@ -164,7 +164,7 @@ module _ {s : Step} {x y h : Header} {n : ℕ} (g : Making s x y h n) where
     pub pair-value : (a b : Poly) → pairPoly (s .kind) a b ≡ valueOf s a b
     unfolding valueOf operations
     pair-value a b =
-        of-pair (λ k. pairPoly k a b ≡ getD (operations s a b) k noValue)
+        of-pair (λ k. pairPoly k a b ≡ getD (operations 0 s a b) k noValue)
         (pair-sum 2 a b (omega arith))
         (pair-sum 3 a b (omega arith))
         (pair-product 4 a b (omega arith) refl)
@@ -178,10 +178,10 @@ module _ {s : Step} {x y h : Header} {n : ℕ} (g : Making s x y h n) where
     low : s .kind ≤ 9
     low = not-last (g .known .most) n10
 
-    change-is : announced (familyOf s) x y ≡ announced (changeFamily (s .kind) (s .variable) (s .n)) x noHeader
+    change-is : announced (familyOf 0 s) x y ≡ announced (changeFamily (s .kind) (s .variable) (s .n)) x noHeader
     unfolding announced families
     change-is =
-        of-change (λ k. announced (getD (families s) k Constant) x y
+        of-change (λ k. announced (getD (families 0 s) k Constant) x y
         ≡ announced (changeFamily k (s .variable) (s .n)) x noHeader) refl refl refl refl (s .kind) high low
 
     pub to-change : Changing (s .kind) (s .variable) (s .n) x h (stored x) n
@@ -196,7 +196,7 @@ module _ {s : Step} {x y h : Header} {n : ℕ} (g : Making s x y h n) where
 
     pub change-value : (a b : Poly) → changedPoly (s .kind) (s .variable) (s .n) a ≡ valueOf s a b
     unfolding valueOf operations changedPoly
-    change-value a b = of-change (λ k. changedPoly k (s .variable) (s .n) a ≡ getD (operations s a b) k noValue) refl refl refl refl (s .kind) high low
+    change-value a b = of-change (λ k. changedPoly k (s .variable) (s .n) a ≡ getD (operations 0 s a b) k noValue) refl refl refl refl (s .kind) high low
 
   -- ---- what the value owes
 
@@ -208,7 +208,7 @@ module _ {s : Step} {x y h : Header} {n : ℕ} (g : Making s x y h n) where
         let gy = g .right .regular in
         let p : Poly = poly x a in
         let q : Poly = poly y b in
-        rw (g .is) (of-any (λ k. Keeps (announced (getD (families s) k Constant) x y) (getD (operations s p q) k noValue))
+        rw (g .is) (of-any (λ k. Keeps (announced (getD (families 0 s) k Constant) x y) (getD (operations 0 s p q) k noValue))
         (negated-keeps p gx)
         (combined-keeps p q gx gy false)
         (combined-keeps p q gx gy true)
@@ -235,17 +235,17 @@ module _ {s : Step} {x y h : Header} {n : ℕ} (g : Making s x y h n) where
 
 -- what `perform` hands on
 module _ {s : Step} {x y : Header} {room at mp ms : ℕ} (r : Ready s x y room) (l : Lent room at mp ms) where
-  pub making : {h : Header} {n : ℕ} → h ≡ announced (familyOf s) x y → n ≡ stored h → Making s x y h n
+  pub making : {h : Header} {n : ℕ} → h ≡ announced (familyOf 0 s) x y → n ≡ stored h → Making s x y h n
   making e k = record { left = r .left; right = r .right; known = r .known; is = e; most = rw e (le-trans (r .fits) (l .small)); all = k }
 
-  pub announced-fits : {h : Header} {n : ℕ} → h ≡ announced (familyOf s) x y → n ≡ stored h → n ≤ room
+  pub announced-fits : {h : Header} {n : ℕ} → h ≡ announced (familyOf 0 s) x y → n ≡ stored h → n ≤ room
   announced-fits e k = rw (k, e) (r .fits)
 
   pub lent-fewer : {n : ℕ} → n ≤ room → Lent n at mp ms
   lent-fewer k = record { room = omega (arith, l .room); spare = omega (arith, l .spare); small = omega (arith, l .small) }
 
-  pub announced-ruled : Ruled (announced (familyOf s) x y)
-  announced-ruled = announced-regular (familyOf s) (r .left .regular) (r .right .regular) .rules
+  pub announced-ruled : Ruled (announced (familyOf 0 s) x y)
+  announced-ruled = announced-regular (familyOf 0 s) (r .left .regular) (r .right .regular) .rules
 
 -- ---- a constant, and +0.0 after it
 pub constant-kept : (at room : ℕ) (w : List Float) (v : Float) {w' : List Float} → 1 ≤ room → at + room ≤ length w

@@ -147,7 +147,7 @@ pub fn perform(
 {
     let x = header_of(xw);
     let y = header_of(yw);
-    let h = announced_of(family_of(s), x, y);
+    let h = announced_of(family_of(0, s), x, y);
     let n = stored_of(h);
     let r = value_to(
         s,

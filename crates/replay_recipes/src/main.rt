@@ -4,7 +4,7 @@
 //
 // A case is words of 16 hex digits, each with one byte behind it. The first says, from its low end: how many headers (8
 // bits), coefficients (16) and steps (8) there are, and how many words are lent (8); the second how many places of pool
-// (16) and of scratch (16) are lent. Then come the headers, the coefficients, the steps. Every lent buffer is full of a
+// (16) and of scratch (16) are lent, and the edition (32). Then come the headers, the coefficients, the steps. Every lent buffer is full of a
 // sentinel.
 // No contract can say what is read or printed; the functions that do neither (alike.rt, and `sheet`'s that read words)
 // say what they answer.
@@ -46,12 +46,13 @@ fn act(
     headers: &[u64],
     coefficients: &[f64],
     steps: &[u64],
+    edition: u64,
     pool: &mut [f64],
     words: &mut [u64],
     scratch: &mut [f64],
 ) {
-    show_check(recipes::check(headers, steps));
-    show_run(recipes::run(headers, coefficients, steps, pool, words, scratch));
+    show_check(recipes::check(headers, steps, edition));
+    show_run(recipes::run(headers, coefficients, steps, edition, pool, words, scratch));
     io::write_all(STDOUT_FILENO, b" pool");
     show_floats(pool);
     io::write_all(STDOUT_FILENO, b" words");
@@ -73,6 +74,7 @@ fn lend(w: u64, v: u64, headers: &[u64], coefficients: &[f64], steps: &[u64]) {
         headers,
         coefficients,
         steps,
+        v / 4294967296,
         &mut pool[..p],
         &mut words[..n],
         &mut scratch[..s],

@@ -1,4 +1,3 @@
-pub mod Said
 pub mod Before
 pub mod Tells
 pub mod Front

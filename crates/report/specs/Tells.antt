@@ -1,27 +1,24 @@
 -- What is printed, by how a sheet ends; and that every limit is printed before any figure.
-use Prim.Native.Nat.{ℕ, zero, suc, _+_, _-_, _≤_, _<_}
-use mathlib.Core.Bool.{true}
-use mathlib.Core.List.{List, [], _∷_, _++_, map}
+use Prim.Native.Nat.{ℕ, _+_, _-_, _≤_, _<_}
+use mathlib.Core.List.{List, _++_, map}
 use mathlib.Core.Path.{_≡_, refl, sym, ap, _∙_}
 use native.Mathlib.Omega.{arith}
 use lib.Ieee.{Float, ofBits, binary64}
-use lib.ListN.{length, getD, take, drop}
+use lib.ListN.{length, take, drop}
 use borrow.Author.Tests.{eq-eqb, ne-eqb}
-use Rattle.lists.specs.Bytes.{bytes}
 use Rattle.lists.specs.Table.{table}
 use Rattle.model.specs.declared.Refusal.{Refusal}
-use Rattle.model.specs.Header.{stored}
-use Rattle.model.specs.Readings.{oneF}
 use Rattle.model.specs.Word.{headerOf, wordOf}
 use Rattle.model_texts.specs.Full.{fulls}
 use Rattle.model_texts.specs.Report.{placeText, cutsText, endText, verdictText}
-use Rattle.model_texts.specs.Sentence.{placeMeanings, sheetMeanings, refusalReport}
 use Rattle.model_recipes.specs.Recipe.{inputHeads, total}
 use Rattle.model_recipes.specs.Check.{checkRefusal}
 use Rattle.model_texts.specs.Sheet.{wordOn, sheetHeaders, coefficientCount, sheetCoefficients, sheetSteps}
 use Rattle.model_texts.specs.Sheet.{readRefusal, ownRefusal, recipeRefusal, sheetRefusal, lastValue}
+use Rattle.model_faults.specs.Fault.{faultReport}
 use Rattle.model_figures.specs.Inputs.{inputsText}
-use Rattle.model_figures.specs.Figures.{figuresText}
+use Rattle.model_forecast.specs.declared.Asked.{Asked}
+use Rattle.model_forecast.specs.Reckoned.{reckonedText}
 use Rattle.model_forecast.specs.Told.{limitLines, placeCount, forecastText, sheetKnown, toldText}
 use Rattle.sheet_solving.specs.declared.Solved.{Solved}
 use Rattle.sheet_solving.specs.Solves.{Solution}
@@ -32,25 +29,19 @@ use Rattle.recipes_kinds.specs.Known.{Known}
 use Rattle.recipes_check.specs.Asks.{or-none, or-next}
 use Rattle.report_lines.specs.Before.{Within}
 use Rattle.report_inputs.specs.Held.{Held}
+use Rattle.report_totals.specs.Forecast.{Forecast}
 use Rattle.report.specs.Before.{place-told, cuts-told, end-told}
 
--- what a forecast is printed from: n steps, c coefficients of the inputs, the answer's header word w and x coefficients
-pub record Forecast (hs : List ℕ) (n c w x : ℕ) : Type 0 where
-  pub held : Held hs c
-  pub some : 1 ≤ n
-  pub fit : length hs + n ≤ 64
-  pub full : x ≡ stored (headerOf w)
-
 module _ (t : List ℕ) where
-  pub told-refused : {q : Refusal} → sheetRefusal t ≡ q → (q .number ≡ 0 → ⊥) → toldText t ≡ refusalReport q
+  pub told-refused : (asked : Asked) → (sheetRefusal t .number ≡ 0 → ⊥) → toldText t asked ≡ faultReport t
   unfolding toldText
-  told-refused {q} e z = rw (e, ne-eqb (q .number) 0 z)
+  told-refused asked z = rw (ne-eqb (sheetRefusal t .number) 0 z)
 
-  pub told-done : sheetRefusal t .number ≡ 0
-      → toldText t
-      ≡ forecastText (sheetKnown t) (sheetHeaders t) (sheetCoefficients t) (sheetSteps t) (wordOf (lastValue t .head)) (lastValue t .coeffs)
+  pub told-done : (asked : Asked) → sheetRefusal t .number ≡ 0
+      → toldText t asked
+      ≡ forecastText (sheetKnown t) (sheetHeaders t) (sheetCoefficients t) (sheetSteps t) (wordOf (lastValue t .head)) (lastValue t .coeffs) asked
   unfolding toldText
-  told-done e = rw (eq-eqb (sheetRefusal t .number) 0 e)
+  told-done asked e = rw (eq-eqb (sheetRefusal t .number) 0 e)
 
   abbrev places : ℕ
   places = placeCount (sheetKnown t) (sheetHeaders t) (sheetCoefficients t) (sheetSteps t)
@@ -68,24 +59,27 @@ module _ (t : List ℕ) where
   unfoldable pub verdictThen : List ℕ
   verdictThen = verdictText (sheetKnown t) (sheetSteps t) inputs full (places - 1)
 
+  -- what stands behind the verdict: whether the figures may be wrong, the total, and the figures
+  unfoldable pub reckonedThen : Asked → List ℕ
+  reckonedThen asked =
+      reckonedText (sheetKnown t) (sheetHeaders t) (sheetCoefficients t) (sheetSteps t) full (wordOf (lastValue t .head)) (lastValue t .coeffs) asked
+
   -- the line of the place p, what limits cut off it, and what decides the limit of the variable v of the answer stand
-  -- before what was put in, the verdict stands behind that, and then come the figures
-  pub record Told (p v : ℕ) : Type 0 where
+  -- before what was put in, the verdict stands behind that, and then come the total and the figures
+  pub record Told (asked : Asked) (p v : ℕ) : Type 0 where
     pub place : Within (placeText (sheetKnown t) (sheetSteps t) inputs p) limitsFirst
     pub cuts : Within (cutsText (sheetKnown t) (sheetSteps t) inputs full p) limitsFirst
     pub ends : Within (endText (sheetKnown t) (sheetSteps t) inputs (places - 1) v) limitsFirst
-    pub figures : List ℕ
-    pub is : toldText t ≡ limitsFirst ++ (inputsText (sheetHeaders t) (sheetCoefficients t) ++ (verdictThen ++ figures))
+    pub is : toldText t asked ≡ limitsFirst ++ (inputsText (sheetHeaders t) (sheetCoefficients t) ++ (verdictThen ++ reckonedThen asked))
 
-  pub limits-first : sheetRefusal t .number ≡ 0 → (p v : ℕ) → p < places → v < 4 → Told p v
-  unfolding limitsFirst verdictThen forecastText
-  limits-first e p v l k =
+  pub limits-first : (asked : Asked) → sheetRefusal t .number ≡ 0 → (p v : ℕ) → p < places → v < 4 → Told asked p v
+  unfolding limitsFirst verdictThen reckonedThen forecastText
+  limits-first asked e p v l k =
       record {
         place = place-told (sheetKnown t) (sheetSteps t) inputs full places p l;
         cuts = cuts-told (sheetKnown t) (sheetSteps t) inputs full places p l;
         ends = end-told (sheetKnown t) (sheetSteps t) inputs full places v k;
-        figures = figuresText (headerOf (wordOf (lastValue t .head))) (lastValue t .coeffs) oneF true;
-        is = told-done e;
+        is = told-done asked e;
       }
 
 -- what is said of limits, and the verdict, know no coefficient: sheets with equal headers and steps have the same
@@ -146,36 +140,10 @@ module _ {t headers steps known : List ℕ} {pool : List Float} {s : Solved} (d 
     coefficients-are = rw (e, d .header-words, headers-many t)
 
     -- the forecast of the sheet, from what was solved
-    pub told-solved : toldText t
+    pub told-solved : (asked : Asked) → toldText t asked
         ≡ forecastText (map headerOf (take (s .inputs + s .steps) known)) (take (s .inputs) headers)
         (coefficientsOf t (length (take (s .inputs) headers)) n) (take (s .steps) steps) (s .header)
-        (take (s .from + s .count - s .from) (drop (s .from) pool))
-    told-solved =
+        (take (s .from + s .count - s .from) (drop (s .from) pool)) asked
+    told-solved asked =
         let f : s .from + s .count - s .from ≡ s .count = omega arith in
-        told-done t z ∙ rw (coefficients-are, f, d .places, d .step-words, d .header-words, d .last .header, d .last .coefficients) refl
-
--- no other number means anything of a place, or of a sheet
-pub no-place-meaning : (n : ℕ) → (n ≡ 3 → ⊥) → (n ≡ 4 → ⊥) → (n ≡ 5 → ⊥) → (n ≡ 7 → ⊥) → [] ≡ bytes (getD placeMeanings n "")
-unfolding placeMeanings bytes
-no-place-meaning zero a b c d = refl
-no-place-meaning (suc zero) a b c d = refl
-no-place-meaning (suc (suc zero)) a b c d = refl
-no-place-meaning (suc (suc (suc zero))) a b c d = absurd (a refl)
-no-place-meaning (suc (suc (suc (suc zero)))) a b c d = absurd (b refl)
-no-place-meaning (suc (suc (suc (suc (suc zero))))) a b c d = absurd (c refl)
-no-place-meaning (suc (suc (suc (suc (suc (suc zero)))))) a b c d = refl
-no-place-meaning (suc (suc (suc (suc (suc (suc (suc zero))))))) a b c d = absurd (d refl)
-no-place-meaning (suc (suc (suc (suc (suc (suc (suc (suc n)))))))) a b c d = refl
-
-pub no-sheet-meaning : (n : ℕ) → (n ≡ 5 → ⊥) → (n ≡ 7 → ⊥) → (n ≡ 8 → ⊥) → [] ≡ bytes (getD sheetMeanings n "")
-unfolding sheetMeanings bytes
-no-sheet-meaning zero a b c = refl
-no-sheet-meaning (suc zero) a b c = refl
-no-sheet-meaning (suc (suc zero)) a b c = refl
-no-sheet-meaning (suc (suc (suc zero))) a b c = refl
-no-sheet-meaning (suc (suc (suc (suc zero)))) a b c = refl
-no-sheet-meaning (suc (suc (suc (suc (suc zero))))) a b c = absurd (a refl)
-no-sheet-meaning (suc (suc (suc (suc (suc (suc zero)))))) a b c = refl
-no-sheet-meaning (suc (suc (suc (suc (suc (suc (suc zero))))))) a b c = absurd (b refl)
-no-sheet-meaning (suc (suc (suc (suc (suc (suc (suc (suc zero)))))))) a b c = absurd (c refl)
-no-sheet-meaning (suc (suc (suc (suc (suc (suc (suc (suc (suc n))))))))) a b c = refl
+        told-done t asked z ∙ rw (coefficients-are, f, d .places, d .step-words, d .header-words, d .last .header, d .last .coefficients) refl

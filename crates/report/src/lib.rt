@@ -1,13 +1,13 @@
 // The answer of a sheet in plain text, for people: every limit before any figure, or why the sheet is refused.
 mod limits;
-mod refusal;
 
 use limits::put_limit_lines;
+use model_forecast::Asked;
 use recipes_check::total_of;
-use refusal::put_refusal_report;
-use report_figures::line::put_figures;
 use report_inputs::put_inputs;
 use report_lines::ends::put_verdict;
+use report_refused::put_refusal_report;
+use report_totals::put_reckoned;
 use report_trace::full::fulls;
 use sheet_reading::fill_floats;
 use sheet_solving::solve;
@@ -17,7 +17,8 @@ ghost use mathlib.Core.List.{map};
 ghost use Rattle.model.specs.Word.{headerOf};
 ghost use Rattle.model_forecast.specs.Told.{forecastText, toldText};
 ghost use Rattle.report_lines.specs.Puts.{Puts, Printed};
-ghost use Rattle.report.specs.Tells.{Forecast, coefficientsOf};
+ghost use Rattle.report_totals.specs.Forecast.{Forecast};
+ghost use Rattle.report.specs.Tells.{coefficientsOf};
 
 // Memory for a pool, or for the coefficients of all inputs.
 fn floats() -> [f64; 2048]
@@ -27,7 +28,7 @@ fn floats() -> [f64; 2048]
 }
 
 // All that is printed for a recipe that was run: the words that its places announce, its inputs' headers, its steps,
-// its inputs' coefficients, and the answer's header and coefficients.
+// its inputs' coefficients, the answer's header and coefficients, and what the program's arguments ask for.
 fn put_forecast(
     known: &[u64],
     headers: &[u64],
@@ -35,13 +36,14 @@ fn put_forecast(
     coefficients: &[f64],
     header: u64,
     xs: &[f64],
+    asked: Asked,
     at: usize,
     to: &mut [u8],
 ) -> usize
     requires { ⌜ Forecast (now headers) (length (now steps)) (length (now coefficients)) header (length (now xs)) ⌝ }
     ensures { λ r.
         ⌜ Puts (forecastText (map headerOf (now (known .entry))) (now (headers .entry)) (now (coefficients .entry))
-        (now (steps .entry)) header (now (xs .entry))) at (now (to .entry)) (now (to .exit)) r ⌝ }
+        (now (steps .entry)) header (now (xs .entry)) asked) at (now (to .entry)) (now (to .exit)) r ⌝ }
 {
     let inputs = headers.len();
     let n = inputs + steps.len();
@@ -50,7 +52,18 @@ fn put_forecast(
     let a = put_limit_lines(known, steps, inputs, &full[..end], n, at, to);
     let b = put_inputs(headers, coefficients, a, to);
     let c = put_verdict(known, steps, inputs, &full[..end], n - 1, b, to);
-    put_figures(header, xs, 1.0, true, c, to)
+    put_reckoned(
+        known,
+        headers,
+        coefficients,
+        steps,
+        &full[..end],
+        header,
+        xs,
+        asked,
+        c,
+        to,
+    )
 }
 
 // The same with the inputs' coefficients read off the sheet, as many as `coefficients` has places; from the front of
@@ -63,21 +76,32 @@ fn put_read(
     coefficients: &mut [f64],
     header: u64,
     xs: &[f64],
+    asked: Asked,
     output: &mut [u8],
 ) -> usize
     requires { ⌜ Forecast (now headers) (length (now steps)) (length (now coefficients)) header (length (now xs)) ⌝ }
     ensures { λ r.
         ⌜ Printed (forecastText (map headerOf (now (known .entry))) (now (headers .entry))
         (coefficientsOf (now (text .entry)) (length (now (headers .entry))) (length (now (coefficients .entry))))
-        (now (steps .entry)) header (now (xs .entry))) (now (output .entry)) (now (output .exit)) r ⌝ }
+        (now (steps .entry)) header (now (xs .entry)) asked) (now (output .entry)) (now (output .exit)) r ⌝ }
 {
     fill_floats(text, 1 + headers.len(), coefficients);
-    put_forecast(known, headers, steps, coefficients, header, xs, 0, output)
+    put_forecast(
+        known,
+        headers,
+        steps,
+        coefficients,
+        header,
+        xs,
+        asked,
+        0,
+        output,
+    )
 }
 
-// What is printed for a sheet, as far as `output` reaches; answers how long it is.
-pub fn answer(text: &[u8], output: &mut [u8]) -> usize
-    ensures { λ r. ⌜ Printed (toldText (now (text .entry))) (now (output .entry)) (now (output .exit)) r ⌝ }
+// What is printed for a sheet, by what the program's arguments ask for, as far as `output` reaches; answers how long it is.
+pub fn answer(text: &[u8], asked: Asked, output: &mut [u8]) -> usize
+    ensures { λ r. ⌜ Printed (toldText (now (text .entry)) asked) (now (output .entry)) (now (output .exit)) r ⌝ }
 {
     let mut headers = [0u64; 16];
     let mut steps = [0u64; 64];
@@ -87,7 +111,7 @@ pub fn answer(text: &[u8], output: &mut [u8]) -> usize
     let solved = solve(text, &mut headers, &mut steps, &mut known, &mut pool);
     let refusal = solved.refusal;
     if refusal.number != 0 {
-        return put_refusal_report(refusal, 0, output);
+        return put_refusal_report(text, refusal, 0, output);
     }
     let inputs = solved.inputs;
     let count = solved.steps;
@@ -103,6 +127,7 @@ pub fn answer(text: &[u8], output: &mut [u8]) -> usize
         &mut coefficients[..given],
         solved.header,
         &pool[from..end],
+        asked,
         output,
     )
 }

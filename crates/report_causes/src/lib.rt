@@ -1,4 +1,4 @@
-// What is said of word one, of an input's header, of a step that is refused, and of a sheet that is too large.
+// What is said of word one, of a step that is refused, and of a sheet that is too large.
 pub mod announced;
 pub mod own;
 pub mod place;

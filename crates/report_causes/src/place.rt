@@ -1,11 +1,9 @@
-// Where something is wrong, and what is said of a header.
-use report_lines::put::put;
+// Where something is wrong.
 use report_lines::put::tell;
 use report_say::say;
 ghost use mathlib.Core.Path.{_≡_};
 ghost use Prim.Native.Nat.{_+_, _≤_};
 ghost use Rattle.model_faults.specs.Own.{whereText, lineOf};
-ghost use Rattle.model_faults.specs.Fault.{headerCause};
 ghost use Rattle.report_lines.specs.Puts.{Puts};
 
 // The line of the place p, counted from 1: the first k places are inputs, with c coefficients together.
@@ -25,15 +23,4 @@ pub fn put_where(line: usize, k: usize, p: usize, at: usize, to: &mut [u8]) -> u
         return say(b" (input ", p, b"): ", next, to);
     }
     say(b" (place ", p, b"): ", next, to)
-}
-
-// Why an input's header word is refused.
-pub fn put_header_cause(word: u64, at: usize, to: &mut [u8]) -> usize
-    ensures { λ r. ⌜ Puts (headerCause word) at (now (to .entry)) (now (to .exit)) r ⌝ }
-{
-    put(
-        b"its header breaks a rule; write limits and lengths anew.\n",
-        at,
-        to,
-    )
 }

@@ -8,10 +8,8 @@ use lib.ListN.{length, getD, length-append}
 use borrow.Author.Tests.{leb-true, ne-eqb}
 use Rattle.lists.specs.Bytes.{bytes}
 use Rattle.model_texts.specs.Printed.{decimal}
-use Rattle.model_texts.specs.Report.{tell}
-use Rattle.model_texts.specs.Cause.{causeFronts, named, causeBacks, causeText, faultText}
-use Rattle.report_lines.specs.Columns.{inColumns, columnAfter, columns-append, columns-earlier, Piece, piece, piece-then, piece-columns}
-use Rattle.report_lines.specs.Columns.{number-piece, one-digit}
+use Rattle.model_texts.specs.Cause.{causeFronts, named, causeBacks, causeText}
+use Rattle.report_lines.specs.Columns.{inColumns, columnAfter, columns-append, columns-earlier, Piece, piece, piece-columns, one-digit}
 
 -- no other cause has one
 
@@ -59,7 +57,8 @@ none-told : (v c : ℕ) → causeText v (suc (suc (suc (suc (suc (suc c)))))) �
 unfolding causeText causeFronts causeBacks bytes
 none-told v c = rw (none-named c)
 
-cause-columns : (v c : ℕ) → inColumns 28 (causeText v c) ≡ true
+-- behind at most 28 columns
+pub cause-columns : (v c : ℕ) → inColumns 28 (causeText v c) ≡ true
 unfolding causeText causeFronts causeBacks bytes inColumns columnAfter
 cause-columns v zero = refl
 cause-columns v (suc zero) = refl
@@ -76,7 +75,7 @@ cause-columns v (suc (suc (suc (suc (suc (suc c)))))) = rw (none-told v c) refl
 between : (s t : List ℕ) (v : ℕ) → length s + length t ≤ 109 → length (s ++ (decimal (v % 10) ++ t)) ≤ 110
 between s t v h = omega (arith, length-append s (decimal (v % 10) ++ t), length-append (decimal (v % 10)) t, digit-piece v .most)
 
-cause-length : (v c : ℕ) → length (causeText v c) ≤ 110
+pub cause-length : (v c : ℕ) → length (causeText v c) ≤ 110
 unfolding causeText causeFronts causeBacks bytes
 cause-length v zero = leb-true _ _ refl
 cause-length v (suc zero) = leb-true _ _ refl
@@ -87,35 +86,3 @@ cause-length v (suc (suc (suc zero))) =
 cause-length v (suc (suc (suc (suc zero)))) = leb-true _ _ refl
 cause-length v (suc (suc (suc (suc (suc zero))))) = leb-true _ _ refl
 cause-length v (suc (suc (suc (suc (suc (suc c)))))) = rw (none-told v c) (omega arith)
-
-front-piece : (p : ℕ) → Piece 26 (tell "Input " p)
-unfolding bytes
-front-piece p = piece-then (piece 6 (bytes "Input ") refl) (number-piece p)
-
-colon-piece : Piece 2 (bytes ": ")
-unfolding bytes
-colon-piece = piece 2 (bytes ": ") refl
-
-pub fault-length : (p v c : ℕ) → length (faultText p v c) ≤ 140
-unfolding faultText
-fault-length p v c =
-    omega (
-      arith,
-      length-append (tell "Input " p) (bytes ": " ++ causeText v c),
-      length-append (bytes ": ") (causeText v c),
-      front-piece p .most,
-      colon-piece .most,
-      cause-length v c,
-    )
-
-pub fault-columns : (p v c : ℕ) → inColumns 0 (faultText p v c) ≡ true
-unfolding faultText
-fault-columns p v c =
-    let s : List ℕ = tell "Input " p in
-    let a = front-piece p in
-    let x = piece-columns s 0 (a .plain) (omega (arith, a .most)) in
-    let y = piece-columns (bytes ": ") (0 + length s) (colon-piece .plain) (omega (arith, a .most, colon-piece .most)) in
-    columns-append 0 s (bytes ": " ++ causeText v c) (x .0)
-    (rw (x .1)
-    (columns-append (0 + length s) (bytes ": ") (causeText v c) (y .0)
-    (columns-earlier (causeText v c) (columnAfter (0 + length s) (bytes ": ")) 28 (omega (arith, y .1, a .most, colon-piece .most)) (cause-columns v c))))

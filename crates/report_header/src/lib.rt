@@ -1,13 +1,12 @@
 // What a person reads of an input whose header word is refused (document 02, W5): which variable is wrong, and why.
 use report_lines::put::put;
 use report_lines::put::put_number;
-use report_lines::put::tell;
 ghost use Prim.Native.Nat.{_%_};
 ghost use lib.ListN.{getD};
 ghost use Rattle.lists.specs.Bytes.{bytes};
 ghost use Rattle.model_texts.specs.Printed.{decimal};
 ghost use Rattle.model_texts.specs.Report.{when};
-ghost use Rattle.model_texts.specs.Cause.{causeFronts, named, causeBacks, causeText, faultText};
+ghost use Rattle.model_texts.specs.Cause.{causeFronts, named, causeBacks, causeText};
 ghost use Rattle.report_lines.specs.Puts.{Puts};
 
 // What stands before the variable, or all that there is to say.
@@ -68,13 +67,4 @@ pub fn put_cause(variable: u8, cause: u8, at: usize, to: &mut [u8]) -> usize
     let a = put_front(cause, at, to);
     let b = put_named(variable, cause, a, to);
     put_back(cause, b, to)
-}
-
-// The same of an input.
-pub fn put_fault(place: usize, variable: u8, cause: u8, at: usize, to: &mut [u8]) -> usize
-    ensures { λ r. ⌜ Puts (faultText place variable cause) at (now (to .entry)) (now (to .exit)) r ⌝ }
-{
-    let a = tell(b"Input ", place, at, to);
-    let b = put(b": ", a, to);
-    put_cause(variable, cause, b, to)
 }

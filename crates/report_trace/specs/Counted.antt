@@ -61,7 +61,7 @@ full-past fs x v h = let e : 1 ≡ getD fs (4 * x + v) 1 = past fs (4 * x + v) 1
 -- ---- a step's, as the code works it out
 
 pub step-is : (fs : List ℕ) (w v : ℕ) {s : Step} {f : Family} {p a b r : ℕ} → s ≡ stepOf w → p ≡ fullAt fs (s .a) (s .variable)
-    → a ≡ fullAt fs (s .a) v → b ≡ fullAt fs (s .b) v → f ≡ familyOf s → r ≡ fullAfter f v p a b → r ≡ stepFull fs w v
+    → a ≡ fullAt fs (s .a) v → b ≡ fullAt fs (s .b) v → f ≡ familyOf 0 s → r ≡ fullAfter f v p a b → r ≡ stepFull fs w v
 unfolding stepFull
 step-is fs w v es ep ea eb ef er = simp (er, ef, eb, ea, ep, es)
 
@@ -73,8 +73,8 @@ module _ (known : List Header) (ss : List ℕ) (inputs : ℕ) (fs ls : List ℕ)
   pub first-is : inputs ≤ length ls → {w : ℕ} {s : Step} {f g : Family} {n o x a y b r t : ℕ} {d i j : Bool}
       → w ≡ stepWord ss inputs (length ls) → s ≡ stepOf w → n ≡ fullAt fs (s .a) (s .variable)
       → d ≡ leavesOut known fs (length ls) → o ≡ cond d (length ls) 64
-      → f ≡ familyOf s → i ≡ needsFirst f → x ≡ getD ls (s .a) 64 → a ≡ cond i x 64
-      → g ≡ familyOf s → j ≡ needsSecond g n → y ≡ getD ls (s .b) 64 → b ≡ cond j y 64
+      → f ≡ familyOf 0 s → i ≡ needsFirst f → x ≡ getD ls (s .a) 64 → a ≡ cond i x 64
+      → g ≡ familyOf 0 s → j ≡ needsSecond g n → y ≡ getD ls (s .b) 64 → b ≡ cond j y 64
       → t ≡ min a b → r ≡ min o t → r ≡ firstNext known ss inputs fs ls
   unfolding firstNext
   first-is h ew es en ed eo ef ei ex ea eg ej ey eb et er =

@@ -109,6 +109,7 @@ fn full_after(f: Family, k: usize, p: usize, a: usize, b: usize) -> usize
         Family::Substitution(v) => substitution_full(p, pick(k == v, 1, a), b),
         Family::Term(_) => a,
         Family::Order(_, _) => a,
+        Family::One => 1,
     }
 }
 
@@ -130,7 +131,7 @@ fn step_full(full: &[usize], word: u64, v: usize) -> usize
     let p = full_at(full, s.a, s.variable);
     let a = full_at(full, s.a, v);
     let b = full_at(full, s.b, v);
-    full_after(family_of(s), v, p, a, b)
+    full_after(family_of(0, s), v, p, a, b)
 }
 
 // The next full length, four to a place; `full`: those before it.

@@ -17,7 +17,7 @@ ghost use Rattle.model.specs.Word.{headerOf};
 ghost use Rattle.model_texts.specs.Whole.{needsFirst, needsSecond, passes, leavesOut, firstNext, firstOut};
 
 // Whether a step is made of its first operand: not where it is a power of 0.
-fn needs_first(f: Family) -> bool
+pub fn needs_first(f: Family) -> bool
     ensures { λ r. ⌜ r ≡ needsFirst f ⌝ }
 {
     match f {
@@ -32,11 +32,12 @@ fn needs_first(f: Family) -> bool
         Family::Substitution(_) => true,
         Family::Term(_) => true,
         Family::Order(_, _) => true,
+        Family::One => false,
     }
 }
 
 // And of its second: what is put for a variable counts where the polynomial has more than one row there.
-fn needs_second(f: Family, p: usize) -> bool
+pub fn needs_second(f: Family, p: usize) -> bool
     ensures { λ r. ⌜ r ≡ needsSecond f p ⌝ }
 {
     match f {
@@ -51,6 +52,7 @@ fn needs_second(f: Family, p: usize) -> bool
         Family::Substitution(_) => p != 1,
         Family::Term(_) => false,
         Family::Order(_, _) => false,
+        Family::One => false,
     }
 }
 
@@ -85,9 +87,9 @@ fn first_next(known: &[u64], steps: &[u64], inputs: usize, full: &[usize], found
     let s = step_of(step_word(steps, inputs, p));
     let rows = full_at(full, s.a, s.variable);
     let own = pick(leaves_out(known, full, p), p, 64);
-    let first = pick(needs_first(family_of(s)), found_at(found, s.a, 64), 64);
+    let first = pick(needs_first(family_of(0, s)), found_at(found, s.a, 64), 64);
     let second = pick(
-        needs_second(family_of(s), rows),
+        needs_second(family_of(0, s), rows),
         found_at(found, s.b, 64),
         64,
     );

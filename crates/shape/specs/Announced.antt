@@ -10,7 +10,7 @@ use Rattle.lists.specs.Test.{of-both}
 use Rattle.lists.specs.Four.{at, four}
 use Rattle.model.specs.declared.Header.{Header}
 use Rattle.model.specs.declared.Family.{Family}
-use Rattle.model.specs.declared.Family.the-variants.{Constant, Same, Sum, Product, Quotient, Series, Power, Shift, Substitution, Term, Order}
+use Rattle.model.specs.declared.Family.the-variants.{Constant, Same, Sum, Product, Quotient, Series, Power, Shift, Substitution, Term, Order, One}
 use Rattle.model.specs.Header.{header, limit, len, noHeader}
 use Rattle.model.specs.Limits.{minDegreesP1}
 use Rattle.model.specs.Announced.{lessIn, limitAfter, lengthAfter, single, paired, announced}
@@ -38,6 +38,7 @@ length-after (Shift v n) k l p a b g h = of-both (Length l) (eqb k v) (length (o
 length-after (Substitution v) k l p a b g h = of-both (Length l) (eqb k v) (length (omega arith) (omega arith)) (length (omega arith) (omega arith))
 length-after (Term v) k l p a b g h = of-both (Length l) (eqb k v) (length (omega arith) (omega arith)) g
 length-after (Order v n) k l p a b g h = of-both (Length l) (eqb k v) (length (omega arith) (omega arith)) g
+length-after One k l p a b g h = length (omega arith) (omega arith)
 
 -- one operand
 
@@ -64,6 +65,7 @@ single-var (Shift v n) {k = k} = lowered (eqb k v) n
 single-var (Substitution v) = kept-var (Substitution v) refl
 single-var (Term v) = kept-var (Term v) refl
 single-var (Order v n) = kept-var (Order v n) refl
+single-var One = kept-var One refl
 
 pub single-regular : (f : Family) {a : Header} → Ruled a → Regular (single f a)
 unfolding single
@@ -107,6 +109,7 @@ announced-regular (Shift v n) g h = single-regular (Shift v n) (g .rules)
 announced-regular (Substitution v) {a} {b} g h = of-both Regular (ltb v (a .vars)) (paired-regular (Substitution v) (len a v) (g .rules) (h .rules)) g
 announced-regular (Term v) g h = single-regular (Term v) (g .rules)
 announced-regular (Order v n) g h = single-regular (Order v n) (g .rules)
+announced-regular One g h = single-regular One (g .rules)
 
 -- The limits, as document 01 says: the smaller of the two, unchanged, or less n in the variable.
 

@@ -9,8 +9,11 @@ use native.Mathlib.Omega.{arith}
 use Rattle.model.specs.declared.Header.{Header}
 use Rattle.model.specs.Header.{stored, noHeader, span, header, ones}
 use Rattle.model.specs.Poly.{Poly, poly}
+use Rattle.model.specs.declared.Family.the-variants.{One}
+use Rattle.model.specs.Announced.{announced, single}
 use Rattle.model.specs.Constructed.{constant}
 use Rattle.shape_words.specs.Rules.{Regular, Good, none-regular, GoodVar, ruled-at}
+use Rattle.shape.specs.Announced.{single-regular}
 use Rattle.shape.specs.Under.{Under, under-same, count-under}
 use Prim.Native.Nat.{ℕ}
 use Rattle.lists.specs.Four.{at-four}
@@ -29,6 +32,11 @@ keeps-good g k = record { regular = k .regular; most = le-trans (count-under (k 
 pub none-keeps : (x : Float) → Keeps noHeader (constant noHeader x)
 unfolding span
 none-keeps x = record { regular = none-regular; under = under-same noHeader; full = refl }
+
+-- one number with the operand's limits
+pub one-keeps : (x : Float) {h : Header} → Regular h → Keeps (announced One h noHeader) (constant (announced One h noHeader) x)
+unfolding announced single span
+one-keeps x g = record { regular = single-regular One (g .rules); under = under-same _; full = refl }
 
 -- a header with all lengths 1
 ones-var : {v k l n : ℕ} → GoodVar v k l n → GoodVar v k l 1

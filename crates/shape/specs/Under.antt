@@ -12,7 +12,7 @@ use Rattle.lists.specs.Test.{of-both, of-each, decide}
 use Rattle.lists.specs.Four.{at, at-four}
 use Rattle.model.specs.declared.Header.{Header}
 use Rattle.model.specs.declared.Family.{Family}
-use Rattle.model.specs.declared.Family.the-variants.{Constant, Same, Sum, Product, Quotient, Series, Power, Shift, Substitution, Term, Order}
+use Rattle.model.specs.declared.Family.the-variants.{Constant, Same, Sum, Product, Quotient, Series, Power, Shift, Substitution, Term, Order, One}
 use Rattle.model.specs.Header.{header, limit, len, noHeader, span, stored}
 use Rattle.model.specs.Limits.{minDegreesP1}
 use Rattle.model.specs.Announced.{limitAfter, lengthAfter, single, paired, announced}
@@ -66,6 +66,7 @@ length-rises (Shift v n) k r = of-each _≤_ (eqb k v) (omega arith) (r .ta)
 length-rises (Substitution v) k r = let m = over (r .qp) (r .ub) in of-each _≤_ (eqb k v) (omega arith) (omega arith)
 length-rises (Term v) k r = of-each _≤_ (eqb k v) (le-refl 1) (r .ta)
 length-rises (Order v n) k r = of-each _≤_ (eqb k v) (omega arith) (r .ta)
+length-rises One k r = le-refl 1
 
 -- a shift's length does not ask whether it is under the lowered limit
 single-rises : (f : Family) (k : ℕ) {l t a : ℕ} → 1 ≤ t → t ≤ l → t ≤ a → lengthAfter f k (limitAfter f k l) 1 t 1 ≤ lengthAfter f k (limitAfter f k l) 1 a 1
@@ -84,6 +85,7 @@ single-rises (Substitution v) k {l} p m h =
     l} (record { t1 = p; u1 = le-refl 1; most = m; qp = le-refl 1; ta = h; ub = le-refl 1 })
 single-rises (Term v) k p m h = of-each _≤_ (eqb k v) (le-refl 1) h
 single-rises (Order v n) k p m h = of-each _≤_ (eqb k v) (omega arith) h
+single-rises One k p m h = le-refl 1
 
 single-under : (f : Family) {t a : Header} → Ruled t → Under t a → Under (single f t) (single f a)
 unfolding single
@@ -143,3 +145,4 @@ announced-under (Substitution v) {t} {a} g h p q =
     under-choice (ap (ltb v) (p .vars)) (λ e. paired-under (Substitution v) (p .most v (let l = ltb-true v (t .vars) e in omega (arith, g .few))) g h p q) p
 announced-under (Term v) g h p q = single-under (Term v) g p
 announced-under (Order v n) g h p q = single-under (Order v n) g p
+announced-under One g h p q = single-under One g p

@@ -42,6 +42,7 @@ fn limit_after(f: Family, k: usize, l: usize) -> usize
         Family::Substitution(_) => l,
         Family::Term(_) => l,
         Family::Order(_, _) => l,
+        Family::One => l,
     }
 }
 
@@ -110,6 +111,7 @@ fn length_after(f: Family, k: usize, l: usize, p: usize, a: usize, b: usize) -> 
         Family::Substitution(v) => substitution_length(v, k, l, p, a, b),
         Family::Term(v) => term_length(v, k, a),
         Family::Order(v, n) => order_length(v, n, k, a),
+        Family::One => 1,
     }
 }
 
@@ -229,5 +231,6 @@ pub fn announced_of(f: Family, a: Header, b: Header) -> Header
         Family::Substitution(v) => substitution_header(v, a, b),
         Family::Term(_) => single_header(f, a),
         Family::Order(_, _) => single_header(f, a),
+        Family::One => single_header(f, a),
     }
 }

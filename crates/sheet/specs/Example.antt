@@ -19,7 +19,7 @@ use Rattle.model_recipes.specs.Check.{orElse, rightSizes, formed, stepRefusal, 
 use Rattle.model_recipes.specs.Run.{inputValues, operations, stepValue, values, stepValues, lentRefusal, runRefusal}
 use Rattle.model_texts.specs.Hex.{isDigit, digitOf, digitFor, isLine, wordAt, hexLine, hexLines}
 use Rattle.model_texts.specs.Printed.{digits, decimal, doneText, refusedText}
-use Rattle.model_texts.specs.Sheet.{ownRefusal, recipeRefusal, inputCount, stepCount, spare, sheetHeaders}
+use Rattle.model_texts.specs.Sheet.{ownRefusal, recipeRefusal, inputCount, stepCount, sheetRecipe, sheetEdition, spare, sheetHeaders}
 use Rattle.model_texts.specs.Sheet.{coefficientCount, sheetCoefficients, sheetSteps, headersRefusal, readRefusal}
 use Rattle.model_texts.specs.Sheet.{sheetRefusal, lastValue, sheetOutput}
 
@@ -61,7 +61,7 @@ faultOutput = 114 ∷ 101 ∷ 102 ∷ 117 ∷ 115 ∷ 101 ∷ 100 ∷ 32 ∷ 49 
 
 pub example-holds : sheetOutput exampleSheet ≡ exampleOutput
 unfolding exampleSheet exampleOutput sheetOutput lastValue sheetRefusal readRefusal headersRefusal sheetSteps
-    sheetCoefficients coefficientCount sheetHeaders spare stepCount inputCount recipeRefusal ownRefusal refusedText
+    sheetCoefficients coefficientCount sheetHeaders sheetRecipe sheetEdition spare stepCount inputCount recipeRefusal ownRefusal refusedText
     doneText decimal digits hexLines hexLine wordAt isLine digitFor digitOf isDigit runRefusal lentRefusal stepValues
     values stepValue operations inputValues checkRefusal stepsRefusal inputsRefusal stepRefusal formed rightSizes
     orElse largest total announcedSteps announcedPlaces announcedStep families rows stepOf shiftDownPoly rowSum
@@ -72,7 +72,7 @@ example-holds = refl
 -- one byte more, or none at all
 pub byte-behind : sheetOutput (exampleSheet ++ (10 ∷ [])) ≡ refusedOutput
 unfolding exampleSheet refusedOutput sheetOutput lastValue sheetRefusal readRefusal headersRefusal sheetSteps
-    sheetCoefficients coefficientCount sheetHeaders spare stepCount inputCount recipeRefusal ownRefusal refusedText
+    sheetCoefficients coefficientCount sheetHeaders sheetRecipe sheetEdition spare stepCount inputCount recipeRefusal ownRefusal refusedText
     doneText decimal digits hexLines hexLine wordAt isLine digitFor digitOf isDigit runRefusal lentRefusal stepValues
     values stepValue operations inputValues checkRefusal stepsRefusal inputsRefusal stepRefusal formed rightSizes
     orElse largest total announcedSteps announcedPlaces announcedStep families rows stepOf shiftDownPoly rowSum
@@ -82,7 +82,7 @@ byte-behind = refl
 
 pub nothing-there : sheetOutput [] ≡ refusedOutput
 unfolding refusedOutput sheetOutput lastValue sheetRefusal readRefusal headersRefusal sheetSteps sheetCoefficients
-    coefficientCount sheetHeaders spare stepCount inputCount recipeRefusal ownRefusal refusedText doneText decimal
+    coefficientCount sheetHeaders sheetRecipe sheetEdition spare stepCount inputCount recipeRefusal ownRefusal refusedText doneText decimal
     digits hexLines hexLine wordAt isLine digitFor digitOf isDigit runRefusal lentRefusal stepValues values stepValue
     operations inputValues checkRefusal stepsRefusal inputsRefusal stepRefusal formed rightSizes orElse largest total
     announcedSteps announcedPlaces announcedStep families rows stepOf shiftDownPoly rowSum rowsFrom announced paired
@@ -92,6 +92,6 @@ nothing-there = refl
 
 -- the variable and the cause are printed (document 02, W5)
 pub fault-printed : sheetOutput faultySheet ≡ faultOutput
-unfolding faultySheet faultOutput sheetOutput sheetRefusal readRefusal headersRefusal spare stepCount inputCount refusedText
+unfolding faultySheet faultOutput sheetOutput sheetRefusal readRefusal headersRefusal sheetEdition spare stepCount inputCount refusedText
     decimal digits wordAt isLine digitOf isDigit rightSizes orElse goodWord faultOf headerFault soundVar headerOf span walk every
 fault-printed = refl

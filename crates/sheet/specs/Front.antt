@@ -18,8 +18,8 @@ use Rattle.model_recipes.specs.Recipe.{inputHeads, total}
 use Rattle.model_recipes.specs.Check.{orElse}
 use Rattle.model_texts.specs.Hex.{isDigit, digitOf, byteAt, digitAt, isLine, pushDigit, wordAt}
 use Rattle.model_texts.specs.Printed.{refusedText}
-use Rattle.model_texts.specs.Sheet.{lined, wordOn, inputCount, stepCount, spare, sheetHeaders, coefficientCount}
-use Rattle.model_texts.specs.Sheet.{sheetCoefficients, sheetSteps, restCount, headersRefusal, readRefusal}
+use Rattle.model_texts.specs.Sheet.{lined, wordOn, inputCount, stepCount, sheetEdition, spare, sheetHeaders, coefficientCount}
+use Rattle.model_texts.specs.Sheet.{sheetCoefficients, sheetSteps, sheetRecipe, restCount, headersRefusal, readRefusal}
 use Rattle.model_texts.specs.Sheet.{sheetRefusal, lastValue, sheetOutput}
 use Rattle.recipes_check.specs.Asks.{or-first}
 use Rattle.sheet_reading.specs.Reading.{Sized, sized, sizesTest, restRefusal, after-sizes, count-small}
@@ -33,10 +33,10 @@ module _ (t : List ℕ) where
   abbrev u : List ℕ
   u = take readAtMost t
 
-  byte-same : (p : ℕ) → p < readAtMost → byteAt u p ≡ byteAt t p
+  pub byte-same : (p : ℕ) → p < readAtMost → byteAt u p ≡ byteAt t p
   byte-same p h = getD-take readAtMost t p 0 h
 
-  line-same : (k : ℕ) → k < 65601 → lined u k ≡ lined t k
+  pub line-same : (k : ℕ) → k < 65601 → lined u k ≡ lined t k
   unfolding isLine
   line-same k h =
       let d : every (digitAt u) 16 (17 * k) ≡ every (digitAt t) 16 (17 * k) =
@@ -47,17 +47,21 @@ module _ (t : List ℕ) where
   unfolding wordAt
   word-same k h = walk-same (pushDigit u) (pushDigit t) 16 (17 * k) 0 (λ q a b w. ap (λ (x : ℕ). 16 * w + digitOf x) (byte-same q (omega arith)))
 
-  inputs-same : inputCount u ≡ inputCount t
+  pub inputs-same : inputCount u ≡ inputCount t
   unfolding inputCount
   inputs-same = ap (λ (w : ℕ). w / 2 ^ 56 % 2 ^ 8) (word-same 0 (omega arith))
 
-  steps-same : stepCount u ≡ stepCount t
+  pub steps-same : stepCount u ≡ stepCount t
   unfolding stepCount
   steps-same = ap (λ (w : ℕ). w / 2 ^ 48 % 2 ^ 8) (word-same 0 (omega arith))
 
-  spare-same : spare u ≡ spare t
+  pub edition-same : sheetEdition u ≡ sheetEdition t
+  unfolding sheetEdition
+  edition-same = ap (λ (w : ℕ). w / 2 ^ 44 % 2 ^ 4) (word-same 0 (omega arith))
+
+  pub spare-same : spare u ≡ spare t
   unfolding spare
-  spare-same = ap (λ (w : ℕ). w % 2 ^ 48) (word-same 0 (omega arith))
+  spare-same = ap (λ (w : ℕ). w % 2 ^ 44) (word-same 0 (omega arith))
 
   headers-same : sheetHeaders u ≡ sheetHeaders t
   unfolding sheetHeaders
@@ -65,7 +69,7 @@ module _ (t : List ℕ) where
       ap (λ (n : ℕ). table n (λ i. wordOn u (1 + i))) inputs-same
       ∙ table-same (λ i. wordOn u (1 + i)) (λ i. wordOn t (1 + i)) (inputCount t) (λ i l. word-same (1 + i) (omega (arith, count-small t)))
 
-  count-same : coefficientCount u ≡ coefficientCount t
+  pub count-same : coefficientCount u ≡ coefficientCount t
   unfolding coefficientCount
   count-same = ap (λ (hs : List ℕ). total (inputHeads hs)) headers-same
 
@@ -74,7 +78,7 @@ module _ (t : List ℕ) where
   refusal-same zero i h = refl
   refusal-same (suc n) i h = rw (line-same (1 + i) (omega arith), word-same (1 + i) (omega arith), refusal-same n (suc i) (omega arith))
 
-  length-same : (m : ℕ) → m < readAtMost → leb (length u) m ≡ leb (length t) m
+  pub length-same : (m : ℕ) → m < readAtMost → leb (length u) m ≡ leb (length t) m
   length-same m h =
       decide (leb (length t) m)
       (λ a. le-leb (length u) m (omega (arith, length-take readAtMost t, leb-true (length t) m a)) ∙ sym a)
@@ -84,13 +88,13 @@ module _ (t : List ℕ) where
   rest-same n from h = rw (every-same (lined u) (lined t) n from (λ q a b. line-same q (omega arith)), length-same (17 * (from + n)) (omega arith))
 
   test-same : sizesTest u ≡ sizesTest t
-  test-same = rw (inputs-same, steps-same, spare-same)
+  test-same = rw (edition-same, inputs-same, steps-same, spare-same)
 
   headers-refused : headersRefusal u (inputCount u) 0 ≡ headersRefusal t (inputCount t) 0
   headers-refused = ap (λ (n : ℕ). headersRefusal u n 0) inputs-same ∙ refusal-same (inputCount t) 0 (omega (arith, count-small t))
 
   -- all lines, where the headers are not refused
-  lines-few : Opened t → 1 + inputCount t + restCount t ≤ 65601
+  pub lines-few : Opened t → 1 + inputCount t + restCount t ≤ 65601
   lines-few o = omega (arith, opened-few o, o .sizes .few, o .sizes .fit)
 
   after-headers : Sized t → readRefusal u ≡ readRefusal t
@@ -106,7 +110,7 @@ module _ (t : List ℕ) where
       (λ a. or-first _ (eqb-false (r .number) 0 a) ∙ sym (or-first _ (eqb-false (r .number) 0 a))) in
       after-sizes u su ∙ (ap (λ (x : Refusal). orElse x (restRefusal u (restCount u) (1 + inputCount u))) headers-refused ∙ (both ∙ sym (after-sizes t s)))
 
-  read-same : readRefusal u ≡ readRefusal t
+  pub read-same : readRefusal u ≡ readRefusal t
   unfolding readRefusal
   read-same =
       decide (lined t 0)
@@ -131,8 +135,8 @@ module _ (t : List ℕ) where
         (λ j l. word-same (1 + inputCount t + coefficientCount t + j) (omega (arith, lines-few o))))
 
     opened-same : sheetOutput u ≡ sheetOutput t
-    unfolding sheetOutput sheetRefusal lastValue
-    opened-same = rw (read-same, headers-same, coefficients-same, step-words-same, steps-same)
+    unfolding sheetOutput sheetRefusal lastValue sheetRecipe
+    opened-same = rw (read-same, edition-same, headers-same, coefficients-same, step-words-same, steps-same)
 
   pub sheet-front : sheetOutput (take readAtMost t) ≡ sheetOutput t
   sheet-front =

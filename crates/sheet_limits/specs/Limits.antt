@@ -14,7 +14,7 @@ use Rattle.model.specs.declared.Refusal.{Refusal}
 use Rattle.model.specs.Header.{noHeader}
 use Rattle.model.specs.Word.{headerOf}
 use Rattle.model.specs.Refusals.{refusedBy, noRefusal}
-use Rattle.model_recipes.specs.Recipe.{announcedStep, inputHeads, announcedPlaces, announcedSteps, total, largest}
+use Rattle.model_recipes.specs.Recipe.{Recipe, announcedStep, inputHeads, announcedPlaces, announcedSteps, total, largest}
 use Rattle.model_recipes.specs.Check.{orElse, checkRefusal}
 use Rattle.model_texts.specs.Sheet.{ownRefusal}
 use Rattle.shape_words.specs.Rules.{Regular, none-regular}
@@ -52,47 +52,47 @@ module _ (ws : List ℕ) (k : ℕ) where
     back-known = rw back-heads (all-drop Regular noHeader none-regular k g)
 
 -- the inputs come first
-pub inputs-first : (hs ss : List ℕ) → take (length hs) (announcedPlaces hs ss) ≡ inputHeads hs
+pub inputs-first : (it : Recipe) → take (length (it .headers)) (announcedPlaces it) ≡ inputHeads (it .headers)
 unfolding announcedPlaces
-inputs-first hs ss =
-    let e : length hs ≡ length (inputHeads hs) = sym (length-map hs headerOf) in
-    chain-keeps announcedStep (inputHeads hs) ss (length hs) (omega arith) ∙ take-all (length hs) (inputHeads hs) (omega arith)
+inputs-first it =
+    let e : length (it .headers) ≡ length (inputHeads (it .headers)) = sym (length-map (it .headers) headerOf) in
+    chain-keeps (announcedStep (it .edition)) (inputHeads (it .headers)) (it .steps) (length (it .headers)) (omega arith) ∙ take-all (length (it .headers)) (inputHeads (it .headers)) (omega arith)
 
 pub within-is : (ws : List ℕ) (k : ℕ) {a b c : ℕ} → a ≡ largest (map headerOf ws) → b ≡ total (map headerOf (take k ws))
     → c ≡ total (map headerOf (take (length ws - k) (drop k ws))) → ((leb a 256 && leb b 2048) && leb c 2048) ≡ withinLimits k (map headerOf ws)
 within-is ws k ea eb ec = rw (ea, eb ∙ ap total (front-heads ws k), ec ∙ ap total (back-heads ws k))
 
 -- old, new: the buffer of announced words before and after
-pub record OwnJudged (hs ss old new : List ℕ) (r : Refusal) : Type 0 where
-  pub answer : r ≡ orElse (checkRefusal hs ss) (ownRefusal hs ss)
+pub record OwnJudged (it : Recipe) (old new : List ℕ) (r : Refusal) : Type 0 where
+  pub answer : r ≡ orElse (checkRefusal it) (ownRefusal it)
   pub len : length new ≡ length old
-  pub noted : r .number ≡ 0 → heads (length hs + length ss) new ≡ announcedPlaces hs ss
+  pub noted : r .number ≡ 0 → heads (length (it .headers) + length (it .steps)) new ≡ announcedPlaces it
 
-module _ (hs ss old new : List ℕ) {r : Refusal} (j : Judged hs ss old new r) where
-  pub own-checked : (r .number ≡ 0 → ⊥) → OwnJudged hs ss old new r
+module _ (it : Recipe) (old new : List ℕ) {r : Refusal} (j : Judged it old new r) where
+  pub own-checked : (r .number ≡ 0 → ⊥) → OwnJudged it old new r
   own-checked z =
-      record { answer = sym (ap (λ (x : Refusal). orElse x (ownRefusal hs ss)) (sym (j .answer)) ∙ or-first _ z); len = j .len; noted = λ y. absurd (z y) }
+      record { answer = sym (ap (λ (x : Refusal). orElse x (ownRefusal it)) (sym (j .answer)) ∙ or-first _ z); len = j .len; noted = λ y. absurd (z y) }
 
   module _ (z : r .number ≡ 0) where
-    none : checkRefusal hs ss .number ≡ 0
+    none : checkRefusal it .number ≡ 0
     none = ap (λ (x : Refusal). x .number) (sym (j .answer)) ∙ z
 
-    pub own-fit : length hs + length ss ≤ 64
-    own-fit = accepts hs ss none .sizes .fit
+    pub own-fit : length (it .headers) + length (it .steps) ≤ 64
+    own-fit = accepts it none .sizes .fit
 
-    pub own-known : Known (heads (length hs + length ss) new)
-    own-known = rw (j .noted z) (places-known hs ss (accepts hs ss none .inputs))
+    pub own-known : Known (heads (length (it .headers) + length (it .steps)) new)
+    own-known = rw (j .noted z) (places-known it (accepts it none .inputs))
 
-    test : {b : Bool} → b ≡ withinLimits (length hs) (heads (length hs + length ss) new)
-        → b ≡ ((leb (largest (announcedPlaces hs ss)) 256 && leb (total (inputHeads hs)) 2048) && leb (total (announcedSteps hs ss)) 2048)
+    test : {b : Bool} → b ≡ withinLimits (length (it .headers)) (heads (length (it .headers) + length (it .steps)) new)
+        → b ≡ ((leb (largest (announcedPlaces it)) 256 && leb (total (inputHeads (it .headers))) 2048) && leb (total (announcedSteps it)) 2048)
     unfolding announcedSteps
-    test e = e ∙ rw (j .noted z, inputs-first hs ss)
+    test e = e ∙ rw (j .noted z, inputs-first it)
 
-    pub own-5 : {b : Bool} → b ≡ withinLimits (length hs) (heads (length hs + length ss) new) → b ≡ false → OwnJudged hs ss old new (refusedBy 5)
+    pub own-5 : {b : Bool} → b ≡ withinLimits (length (it .headers)) (heads (length (it .headers) + length (it .steps)) new) → b ≡ false → OwnJudged it old new (refusedBy 5)
     unfolding ownRefusal
     own-5 e f =
         record { answer = sym (or-next _ _ none ∙ rw (sym (test e) ∙ f)); len = j .len; noted = λ y. absurd (omega (arith, y)) }
 
-    pub own-none : {b : Bool} → b ≡ withinLimits (length hs) (heads (length hs + length ss) new) → b ≡ true → OwnJudged hs ss old new noRefusal
+    pub own-none : {b : Bool} → b ≡ withinLimits (length (it .headers)) (heads (length (it .headers) + length (it .steps)) new) → b ≡ true → OwnJudged it old new noRefusal
     unfolding ownRefusal
     own-none e f = record { answer = sym (or-next _ _ none ∙ rw (sym (test e) ∙ f)); len = j .len; noted = λ _. j .noted z }

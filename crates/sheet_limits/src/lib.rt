@@ -8,6 +8,7 @@ ghost use mathlib.Core.List.{map};
 ghost use Prim.Native.Nat.{_≤_};
 ghost use lib.ListN.{length};
 ghost use Rattle.model.specs.Word.{headerOf};
+ghost use Rattle.model_recipes.specs.Recipe.{recipeOf};
 ghost use Rattle.recipes_kinds.specs.Known.{Known};
 ghost use Rattle.sheet_limits.specs.Limits.{withinLimits, OwnJudged};
 
@@ -23,11 +24,11 @@ fn is_within(places: &[u64], inputs: usize) -> bool
 }
 
 // Why a recipe is not run; where there is no reason, the words that all places announce stand in `known`.
-pub fn judge_own(headers: &[u64], steps: &[u64], known: &mut [u64]) -> Refusal
+pub fn judge_own(headers: &[u64], steps: &[u64], edition: u64, known: &mut [u64]) -> Refusal
     requires { ⌜ 64 ≤ length (now known) ⌝ }
-    ensures { λ r. ⌜ OwnJudged (now (headers .entry)) (now (steps .entry)) (now (known .entry)) (now (known .exit)) r ⌝ }
+    ensures { λ r. ⌜ OwnJudged (recipeOf edition (now (headers .entry)) (now (steps .entry))) (now (known .entry)) (now (known .exit)) r ⌝ }
 {
-    let refusal = judge(headers, steps, known);
+    let refusal = judge(headers, steps, edition, known);
     if refusal.number != 0 {
         return refusal;
     }

@@ -87,7 +87,7 @@ module _ {t old new : List ℕ} {i : ℕ} (h : HeadersReading t old new i) where
 
 -- ---- what the headers keep
 
-good-at : (t : List ℕ) (n i : ℕ) → headersRefusal t n i .number ≡ 0 → (j : ℕ) → j < n → goodWord (headerOn t (i + j)) ≡ true
+pub good-at : (t : List ℕ) (n i : ℕ) → headersRefusal t n i .number ≡ 0 → (j : ℕ) → j < n → goodWord (headerOn t (i + j)) ≡ true
 unfolding headersRefusal
 good-at t zero i e j l = absurd (omega arith)
 good-at t (suc n) i e j l =

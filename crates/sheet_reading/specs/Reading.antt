@@ -15,8 +15,8 @@ use Rattle.model.specs.declared.Refusal.{Refusal}
 use Rattle.model.specs.Word.{headerOf}
 use Rattle.model.specs.Refusals.{refusedBy, noRefusal}
 use Rattle.model_recipes.specs.Recipe.{inputHeads, total}
-use Rattle.model_recipes.specs.Check.{askAt, orElse, rightSizes}
-use Rattle.model_texts.specs.Sheet.{lined, inputCount, stepCount, spare, sheetHeaders, coefficientCount, restCount, headersRefusal, readRefusal}
+use Rattle.model_recipes.specs.Check.{askAt, orElse, knownEdition, rightSizes}
+use Rattle.model_texts.specs.Sheet.{lined, inputCount, stepCount, sheetEdition, spare, sheetHeaders, coefficientCount, restCount, headersRefusal, readRefusal}
 use Rattle.recipes_check.specs.Asks.{or-first, or-next}
 use Rattle.sheet_reading.specs.Headers.{HeadersRead, headerOn, GoodHeads, heads-good, total-most}
 
@@ -37,12 +37,13 @@ step-small t = omega arith
 
 -- the test of word one
 abbrev pub sizesTest : List ℕ → Bool
-sizesTest t = rightSizes (inputCount t) (stepCount t) && eqb (spare t) 0
+sizesTest t = knownEdition (sheetEdition t) && (rightSizes (inputCount t) (stepCount t) && eqb (spare t) 0)
 
 -- word one is read, and right
 pub record Sized (t : List ℕ) : Type 0 where
   pub line : lined t 0 ≡ true
   pub test : sizesTest t ≡ true
+  pub edition : sheetEdition t ≤ 1
   pub few : inputCount t ≤ 16
   pub some : 1 ≤ stepCount t
   pub fit : inputCount t + stepCount t ≤ 64
@@ -52,11 +53,14 @@ unfolding rightSizes
 sized t l e =
     let k = inputCount t in
     let n = stepCount t in
-    let a = and-left ((leb k 16 && leb 1 n) && leb (k + n) 64) (eqb (spare t) 0) e in
+    let d = leb (sheetEdition t) 1 in
+    let s = rightSizes k n && eqb (spare t) 0 in
+    let a = and-left (rightSizes k n) (eqb (spare t) 0) (and-right d s e) in
     let b = and-left (leb k 16 && leb 1 n) (leb (k + n) 64) a in
     record {
       line = l;
       test = e;
+      edition = leb-true _ _ (and-left d s e);
       few = leb-true _ _ (and-left (leb k 16) (leb 1 n) b);
       some = leb-true _ _ (and-right (leb k 16) (leb 1 n) b);
       fit = leb-true _ _ (and-right (leb k 16 && leb 1 n) (leb (k + n) 64) a);

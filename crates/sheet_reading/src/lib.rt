@@ -11,7 +11,7 @@ ghost use lib.ListN.{length};
 ghost use lib.Ieee.{ofBits, binary64};
 ghost use Rattle.lists.specs.Every.{every};
 ghost use Rattle.lists.specs.Table.{table};
-ghost use Rattle.model_texts.specs.Sheet.{lined, wordOn, inputCount, stepCount};
+ghost use Rattle.model_texts.specs.Sheet.{lined, wordOn, inputCount, stepCount, sheetEdition};
 ghost use Rattle.sheet_reading.specs.Headers.{HeadersRead};
 ghost use Rattle.sheet_reading.specs.Reading.{Read, sizesTest, restRefusal};
 
@@ -29,16 +29,24 @@ pub fn step_count(text: &[u8]) -> usize
     ((word_at(text, 0) >> 48) & 255) as usize
 }
 
-// Whether word one's sizes and zeros are right.
+// Which edition word one says.
+pub fn edition_of(text: &[u8]) -> u64
+    ensures { λ r. ⌜ r ≡ sheetEdition (now (text .entry)) ⌝ }
+{
+    (word_at(text, 0) >> 44) & 15
+}
+
+// Whether word one's edition, sizes and zeros are right.
 fn is_sized(text: &[u8]) -> bool
     ensures { λ r. ⌜ r ≡ sizesTest (now (text .entry)) ⌝ }
 {
     let inputs = input_count(text);
     let steps = step_count(text);
-    (inputs <= 16)
-        & (1 <= steps)
-        & (inputs + steps <= 64)
-        & (word_at(text, 0) % 281474976710656 == 0)
+    (edition_of(text) <= 1)
+        & ((inputs <= 16)
+            & (1 <= steps)
+            & (inputs + steps <= 64)
+            & (word_at(text, 0) % 17592186044416 == 0))
 }
 
 // The input headers, as many as `headers` has places, each tested as soon as its line is read.

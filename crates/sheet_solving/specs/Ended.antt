@@ -13,24 +13,24 @@ use Rattle.lists.specs.Test.{decide}
 use Rattle.model.specs.declared.Refusal.{Refusal}
 use Rattle.model.specs.Word.{headerOf}
 use Rattle.model.specs.Refusals.{zeros}
-use Rattle.model_recipes.specs.Recipe.{announcedSteps, total, largest}
+use Rattle.model_recipes.specs.Recipe.{Recipe, recipeOf, announcedPlaces, announcedSteps, total, largest}
 use Rattle.model_recipes.specs.Check.{orElse, checkRefusal}
 use Rattle.model_recipes.specs.Run.{runRefusal}
 use Rattle.model_texts.specs.Sheet.{wordOn, inputCount, stepCount, sheetHeaders, coefficientCount, sheetCoefficients}
-use Rattle.model_texts.specs.Sheet.{sheetSteps, ownRefusal, recipeRefusal, readRefusal, sheetRefusal}
+use Rattle.model_texts.specs.Sheet.{sheetSteps, sheetRecipe, ownRefusal, recipeRefusal, readRefusal, sheetRefusal}
 use Rattle.recipes_kinds.specs.Known.{Known}
 use Rattle.recipes_check.specs.Asks.{or-first, or-next}
 use Rattle.sheet_reading.specs.Headers.{good-known}
 use Rattle.sheet_solving.specs.Opened.{Opened, opened, opened-good, opened-few, headers-many, steps-many}
 use Rattle.sheet_limits.specs.Limits.{OwnJudged}
 use Rattle.sheet_solving.specs.declared.Solved.{Solved}
-use Rattle.sheet_solving.specs.Running.{Opening, Running, running-passed, running-known}
+use Rattle.sheet_solving.specs.Running.{Opening, Running, running-is, running-passed, running-known}
 use Rattle.sheet_solving.specs.Solves.{Ends, Ended}
 
 -- refused as it is read
 pub read-refused : (t : List ℕ) {r : Refusal} → r ≡ readRefusal t → (r .number ≡ 0 → ⊥) → r ≡ sheetRefusal t
 unfolding sheetRefusal
-read-refused t {r} e z = sym (ap (λ (x : Refusal). orElse x (recipeRefusal (sheetHeaders t) (sheetCoefficients t) (sheetSteps t))) (sym e) ∙ or-first _ z)
+read-refused t {r} e z = sym (ap (λ (x : Refusal). orElse x (recipeRefusal (sheetRecipe t) (sheetCoefficients t))) (sym e) ∙ or-first _ z)
 
 or-assoc : (a b c : Refusal) → orElse a (orElse b c) ≡ orElse (orElse a b) c
 or-assoc a b c =
@@ -39,13 +39,13 @@ or-assoc a b c =
     (λ e. let z = eqb-false (a .number) 0 e in or-first (orElse b c) z ∙ sym (ap (λ (x : Refusal). orElse x c) (or-first b z) ∙ or-first c z))
 
 -- the run of a sheet's recipe
-abbrev pub ranRefusal : List ℕ → List Float → List ℕ → Refusal
-ranRefusal hs cs ss =
-    runRefusal hs cs ss (zeros (total (announcedSteps hs ss))) (table (length ss) (λ k. 0)) (zeros (8 * largest (announcedSteps hs ss)))
+abbrev pub ranRefusal : Recipe → List Float → Refusal
+ranRefusal it cs =
+    runRefusal it cs (zeros (total (announcedSteps it))) (table (length (it .steps)) (λ k. 0)) (zeros (8 * largest (announcedSteps it)))
 
 -- ---- a text that is read, with its input headers
 
-module _ {t hs : List ℕ} (o : Opening t hs) where
+module _ {t hs : List ℕ} {ed : ℕ} (o : Opening t hs ed) where
   open-t : Opened t
   open-t = opened t (o .read)
 
@@ -88,21 +88,21 @@ module _ {t hs : List ℕ} (o : Opening t hs) where
 
   -- the run's own refusal comes last
   pub opening-refusal : {ss : List ℕ} → ss ≡ sheetSteps t
-      → sheetRefusal t ≡ orElse (orElse (checkRefusal hs ss) (ownRefusal hs ss))
-      (ranRefusal hs (sheetCoefficients t) ss)
-  unfolding sheetRefusal recipeRefusal
+      → sheetRefusal t ≡ orElse (orElse (checkRefusal (recipeOf ed hs ss)) (ownRefusal (recipeOf ed hs ss)))
+      (ranRefusal (recipeOf ed hs ss) (sheetCoefficients t))
+  unfolding sheetRefusal recipeRefusal sheetRecipe
   opening-refusal {ss} es =
-      or-next (readRefusal t) (recipeRefusal (sheetHeaders t) (sheetCoefficients t) (sheetSteps t)) (o .read)
-      ∙ (rw (← o .headers, ← es)
-      (or-assoc (checkRefusal hs ss) (ownRefusal hs ss) (ranRefusal hs (sheetCoefficients t) ss)))
+      or-next (readRefusal t) (recipeRefusal (sheetRecipe t) (sheetCoefficients t)) (o .read)
+      ∙ (rw (← o .headers, ← es, ← o .edition)
+      (or-assoc (checkRefusal (recipeOf ed hs ss)) (ownRefusal (recipeOf ed hs ss)) (ranRefusal (recipeOf ed hs ss) (sheetCoefficients t))))
 
   -- judged, and refused
-  pub judged-refused : {ss old new : List ℕ} {r : Refusal} → ss ≡ sheetSteps t → OwnJudged hs ss old new r → (r .number ≡ 0 → ⊥) → r ≡ sheetRefusal t
+  pub judged-refused : {ss old new : List ℕ} {r : Refusal} → ss ≡ sheetSteps t → OwnJudged (recipeOf ed hs ss) old new r → (r .number ≡ 0 → ⊥) → r ≡ sheetRefusal t
   judged-refused {ss} {old} {new} {r} es j z =
-      sym (opening-refusal es ∙ (ap (λ (x : Refusal). orElse x (ranRefusal hs (sheetCoefficients t) ss)) (sym (j .answer)) ∙ or-first _ z))
+      sym (opening-refusal es ∙ (ap (λ (x : Refusal). orElse x (ranRefusal (recipeOf ed hs ss) (sheetCoefficients t))) (sym (j .answer)) ∙ or-first _ z))
 
-  pub running : {ss old new : List ℕ} {r : Refusal} {end c : ℕ} → ss ≡ sheetSteps t → OwnJudged hs ss old new r
-      → r .number ≡ 0 → end ≡ length hs + length ss → c ≡ total (map headerOf hs) → Running t hs ss (take end new) c
+  pub running : {ss old new : List ℕ} {r : Refusal} {end c : ℕ} → ss ≡ sheetSteps t → OwnJudged (recipeOf ed hs ss) old new r
+      → r .number ≡ 0 → end ≡ length hs + length ss → c ≡ total (map headerOf hs) → Running t (recipeOf ed hs ss) (take end new) c
   running es j z ee ec =
       record {
         opened = o;
@@ -113,8 +113,8 @@ module _ {t hs : List ℕ} (o : Opening t hs) where
       }
 
 -- the run has ended: its n steps stand at the front of `steps`, the words of its k places at the front of `known`
-module _ {t hs : List ℕ} (steps known : List ℕ) (old : List Float) {pool : List Float} {n k c : ℕ} {s : Solved}
-    (r : Running t hs (take n steps) (take k known) c)
+module _ {t hs : List ℕ} {ed : ℕ} (steps known : List ℕ) (old : List Float) {pool : List Float} {n k c : ℕ} {s : Solved}
+    (r : Running t (recipeOf ed hs (take n steps)) (take k known) c)
     (en : n ≡ stepCount t) (ek : k ≡ length hs + n) (e : Ends t hs (take n steps) pool s) where
   ended-steps : length (take n steps) ≡ n
   ended-steps = ap length (r .steps) ∙ (steps-many t ∙ sym en)
@@ -138,7 +138,7 @@ module _ {t hs : List ℕ} (steps known : List ℕ) (old : List Float) {pool : L
               fit = omega (arith, i, m, en, opening-fit (r .opened));
               header-words = take-all (s .inputs) hs (omega (arith, i)) ∙ r .opened .headers;
               step-words = ap (λ (x : ℕ). take x steps) m ∙ r .steps;
-              places = rw (both, r .places, r .opened .headers, r .steps) refl;
+              places = rw both (r .places ∙ ap announcedPlaces (running-is r));
               known = rw both (running-known r);
               last = d .last;
             };

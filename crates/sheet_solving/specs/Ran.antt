@@ -13,9 +13,9 @@ use Rattle.model.specs.Header.{noHeader, stored}
 use Rattle.model.specs.Word.{headerOf, wordOf}
 use Rattle.model.specs.Refusals.{noRefusal, zeroF, zeros, padded}
 use Rattle.model.specs.Poly.{Poly}
-use Rattle.model_recipes.specs.Recipe.{headAt, inputHeads, announcedPlaces, announcedSteps, total, largest}
+use Rattle.model_recipes.specs.Recipe.{Recipe, recipeOf, headAt, inputHeads, announcedPlaces, announcedSteps, total, largest}
 use Rattle.model_recipes.specs.Run.{noValue, valueAt, values, stepValues, laid, done, runRefusal, runEnd, runPool, runWords}
-use Rattle.model_texts.specs.Sheet.{wordOn, inputCount, stepCount, coefficientCount, sheetCoefficients, sheetRefusal, lastValue}
+use Rattle.model_texts.specs.Sheet.{wordOn, inputCount, stepCount, coefficientCount, sheetCoefficients, sheetRecipe, sheetRefusal, lastValue}
 use Rattle.shape_words.specs.Rules.{Ruled}
 use Rattle.shape_words.specs.Words.{unpack-pack}
 use Rattle.shape.specs.Keeps.{Keeps}
@@ -42,33 +42,37 @@ total-take (h ∷ hs) zero l = omega arith
 total-take (h ∷ hs) (suc i) l = omega (arith, total-take hs i (omega arith))
 
 -- c: how many coefficients are given; pool, words and scratch as they came
-module _ {t hs ss known : List ℕ} {c : ℕ} (pool : List Float) (words : List ℕ) (scratch : List Float)
-    (r : RunningIn t hs ss known c (length pool) (length words) (length scratch)) where
-  in-steps : length ss ≡ stepCount t
+module _ {t : List ℕ} {it : Recipe} {known : List ℕ} {c : ℕ} (pool : List Float) (words : List ℕ) (scratch : List Float)
+    (r : RunningIn t it known c (length pool) (length words) (length scratch)) where
+  in-steps : length (it .steps) ≡ stepCount t
   in-steps = ap length (r .steps) ∙ steps-many t
 
-  in-passed : Passed hs ss
-  in-passed = passed hs ss (r .judged)
+  in-is : it ≡ sheetRecipe t
+  unfolding sheetRecipe
+  in-is = λ i. recipeOf (r .opened .edition i) (r .opened .headers i) (r .steps i)
 
-  pub in-few : 1 + length hs + c ≤ 65600
+  in-passed : Passed it
+  in-passed = passed it (r .judged)
+
+  pub in-few : 1 + length (it .headers) + c ≤ 65600
   in-few = omega (arith, opening-few (r .opened), r .given, in-passed .inputs)
 
-  pub in-some : 1 ≤ length ss
+  pub in-some : 1 ≤ length (it .steps)
   in-some = in-passed .accepts .sizes .some
 
-  pub in-words : length ss ≤ length words
+  pub in-words : length (it .steps) ≤ length words
   in-words = omega (arith, r .words, in-passed .accepts .sizes .fit)
 
   -- the coefficients, as they were read
-  pub floats-read : {n : ℕ} {cs : List Float} → n ≡ c → cs ≡ table n (λ j. ofBits binary64 (wordOn t (1 + length hs + j))) → cs ≡ sheetCoefficients t
+  pub floats-read : {n : ℕ} {cs : List Float} → n ≡ c → cs ≡ table n (λ j. ofBits binary64 (wordOn t (1 + length (it .headers) + j))) → cs ≡ sheetCoefficients t
   unfolding sheetCoefficients
   floats-read {n} {cs} en e =
       let ec : n ≡ coefficientCount t = en ∙ (r .given ∙ opening-count (r .opened)) in
-      let eh : length hs ≡ inputCount t = ap length (r .opened .headers) ∙ headers-many t in
+      let eh : length (it .headers) ≡ inputCount t = ap length (r .opened .headers) ∙ headers-many t in
       e ∙ rw (ec, eh) refl
 
   module _ {cs : List Float} (e : cs ≡ sheetCoefficients t) where
-    given-len : total (inputHeads hs) ≤ length cs
+    given-len : total (inputHeads (it .headers)) ≤ length cs
     unfolding sheetCoefficients
     given-len =
         omega (
@@ -77,7 +81,7 @@ module _ {t hs ss known : List ℕ} {c : ℕ} (pool : List Float) (words : List 
           opening-count (r .opened),
         )
 
-    pub in-admitted : Admitted hs cs ss known (length pool) (length scratch)
+    pub in-admitted : Admitted it cs known (length pool) (length scratch)
     in-admitted =
         record {
           none = in-passed .check;
@@ -89,99 +93,99 @@ module _ {t hs ss known : List ℕ} {c : ℕ} (pool : List Float) (words : List 
         }
 
     -- no run refuses, in this memory or in memory of exactly the lengths that it takes
-    none : runRefusal hs cs ss pool words scratch .number ≡ 0
+    none : runRefusal it cs pool words scratch .number ≡ 0
     none =
-        ap (λ (x : Refusal). x .number) (run-none hs cs ss pool words scratch (in-passed .check)
+        ap (λ (x : Refusal). x .number) (run-none it cs pool words scratch (in-passed .check)
         (record { coeffs = given-len; pool = in-admitted .pool; words = in-words; scratch = in-admitted .room }))
 
     ran-none : noRefusal ≡ sheetRefusal t
     ran-none =
-        let p : ℕ = total (announcedSteps hs ss) in
-        let s : ℕ = 8 * largest (announcedSteps hs ss) in
-        let exact : ranRefusal hs cs ss ≡ noRefusal =
-        run-none hs cs ss (zeros p) (table (length ss) (λ k. 0)) (zeros s) (in-passed .check)
+        let p : ℕ = total (announcedSteps it) in
+        let s : ℕ = 8 * largest (announcedSteps it) in
+        let exact : ranRefusal it cs ≡ noRefusal =
+        run-none it cs (zeros p) (table (length (it .steps)) (λ k. 0)) (zeros s) (in-passed .check)
         (record {
           coeffs = given-len;
           pool = omega (arith, length-table (λ (k : ℕ). zeroF) p);
-          words = omega (arith, length-table {A = ℕ} (λ k. 0) (length ss));
+          words = omega (arith, length-table {A = ℕ} (λ k. 0) (length (it .steps)));
           scratch = omega (arith, length-table (λ (k : ℕ). zeroF) s);
         }) in
         sym (opening-refusal (r .opened) (r .steps) ∙ (or-next _ _ (r .judged) ∙ rw (← e) exact))
 
     -- ws, ps: words and pool as the run left them; the last value lies from the place f on
     module _ {ws : List ℕ} {ps : List Float} {f : ℕ}
-        (pe : ps ≡ laid (announcedSteps hs ss) (stepValues hs cs ss) ++ drop (total (announcedSteps hs ss)) pool)
-        (we : ws ≡ map (λ v. wordOf (v .head)) (stepValues hs cs ss) ++ drop (length ss) words)
-        (ef : f ≡ total (take (length ss - 1) (announcedSteps hs ss))) (lp : length ps ≡ length pool) where
-      ended : runEnd hs cs ss pool words scratch ≡ done
+        (pe : ps ≡ laid (announcedSteps it) (stepValues it cs) ++ drop (total (announcedSteps it)) pool)
+        (we : ws ≡ map (λ v. wordOf (v .head)) (stepValues it cs) ++ drop (length (it .steps)) words)
+        (ef : f ≡ total (take (length (it .steps) - 1) (announcedSteps it))) (lp : length ps ≡ length pool) where
+      ended : runEnd it cs pool words scratch ≡ done
       unfolding runEnd
-      ended = end-done (runRefusal hs cs ss pool words scratch) none
+      ended = end-done (runRefusal it cs pool words scratch) none
 
-      ep : ps ≡ runPool hs cs ss pool words scratch
+      ep : ps ≡ runPool it cs pool words scratch
       unfolding runPool
       ep = rw ended pe
 
-      ew : ws ≡ runWords hs cs ss pool words scratch
+      ew : ws ≡ runWords it cs pool words scratch
       unfolding runWords
       ew = rw ended we
 
-      follow : Follows (announcedPlaces hs ss) (values hs cs ss)
-      follow = follows-all hs cs ss (in-passed .check) given-len (in-admitted .room)
+      follow : Follows (announcedPlaces it) (values it cs)
+      follow = follows-all it cs (in-passed .check) given-len (in-admitted .room)
 
-      value-last : valueAt (values hs cs ss) (length hs + (length ss - 1)) ≡ lastValue t
+      value-last : valueAt (values it cs) (length (it .headers) + (length (it .steps) - 1)) ≡ lastValue t
       unfolding lastValue stepValues
       value-last =
-          sym (getD-drop (length hs) (values hs cs ss) (length ss - 1) noValue)
-          ∙ rw (in-steps, ← r .steps, ← r .opened .headers, ← e) refl
+          sym (getD-drop (length (it .headers)) (values it cs) (length (it .steps) - 1) noValue)
+          ∙ rw (in-steps, ← in-is, ← e) refl
 
       -- the last value keeps what its step announced
-      keep : Keeps (headAt (announcedPlaces hs ss) (length hs + (length ss - 1))) (lastValue t)
-      keep = rw value-last at (follow .keeps (length hs + (length ss - 1)))
+      keep : Keeps (headAt (announcedPlaces it) (length (it .headers) + (length (it .steps) - 1))) (lastValue t)
+      keep = rw value-last at (follow .keeps (length (it .headers) + (length (it .steps) - 1)))
 
-      last-in : length ss - 1 < length ss
+      last-in : length (it .steps) - 1 < length (it .steps)
       last-in = omega (arith, in-some)
 
-      word-is : getD ws (length ss - 1) 0 ≡ wordOf (lastValue t .head)
+      word-is : getD ws (length (it .steps) - 1) 0 ≡ wordOf (lastValue t .head)
       word-is =
-          ap (λ (l : List ℕ). getD l (length ss - 1) 0) ew
-          ∙ (word-kept hs cs ss follow pool words scratch none (length ss - 1) last-in ∙ ap (λ (v : Poly). wordOf (v .head)) value-last)
+          ap (λ (l : List ℕ). getD l (length (it .steps) - 1) 0) ew
+          ∙ (word-kept it cs follow pool words scratch none (length (it .steps) - 1) last-in ∙ ap (λ (v : Poly). wordOf (v .head)) value-last)
 
-      head-is : headerOf (getD ws (length ss - 1) 0) ≡ lastValue t .head
+      head-is : headerOf (getD ws (length (it .steps) - 1) 0) ≡ lastValue t .head
       head-is = ap headerOf word-is ∙ unpack-pack (lastValue t .head) (keep .regular)
 
-      count-is : stored (headerOf (getD ws (length ss - 1) 0)) ≡ length (lastValue t .coeffs)
+      count-is : stored (headerOf (getD ws (length (it .steps) - 1) 0)) ≡ length (lastValue t .coeffs)
       count-is = ap stored head-is ∙ sym (keep .full)
 
       -- as many places as the last step announced
       abbrev most : ℕ
-      most = stored (headAt (announcedPlaces hs ss) (length hs + (length ss - 1)))
+      most = stored (headAt (announcedPlaces it) (length (it .headers) + (length (it .steps) - 1)))
 
       value-fits : length (lastValue t .coeffs) ≤ most
       value-fits = omega (arith, keep .full, count-under (keep .under))
 
-      places-in : f + most ≤ total (announcedSteps hs ss)
+      places-in : f + most ≤ total (announcedSteps it)
       unfolding announcedSteps
       places-in =
-          let s : stored (getD (announcedSteps hs ss) (length ss - 1) noHeader) ≡ most =
-          ap stored (getD-drop (length hs) (announcedPlaces hs ss) (length ss - 1) noHeader) in
-          omega (arith, ef, total-take (announcedSteps hs ss) (length ss - 1) (omega (arith, length-announced hs ss, in-some)), s)
+          let s : stored (getD (announcedSteps it) (length (it .steps) - 1) noHeader) ≡ most =
+          ap stored (getD-drop (length (it .headers)) (announcedPlaces it) (length (it .steps) - 1) noHeader) in
+          omega (arith, ef, total-take (announcedSteps it) (length (it .steps) - 1) (omega (arith, length-announced it, in-some)), s)
 
-      pub ran-ruled : Ruled (headerOf (getD ws (length ss - 1) 0))
+      pub ran-ruled : Ruled (headerOf (getD ws (length (it .steps) - 1) 0))
       ran-ruled = rw head-is (keep .regular .rules)
 
-      coefficients-are : take (stored (headerOf (getD ws (length ss - 1) 0))) (drop f ps) ≡ lastValue t .coeffs
+      coefficients-are : take (stored (headerOf (getD ws (length (it .steps) - 1) 0))) (drop f ps) ≡ lastValue t .coeffs
       coefficients-are =
           let xs : List Float = lastValue t .coeffs in
           let kept : take most (drop f ps) ≡ padded most xs =
-          rw (ep, ef) (coeffs-kept hs cs ss follow pool words scratch none (length ss - 1) last-in
+          rw (ep, ef) (coeffs-kept it cs follow pool words scratch none (length (it .steps) - 1) last-in
           ∙ ap (λ (v : Poly). padded most (v .coeffs)) value-last) in
           ap (λ (i : ℕ). take i (drop f ps)) count-is
           ∙ (sym (take-take (length xs) most (drop f ps) value-fits) ∙ (ap (take (length xs)) kept ∙ take-at xs (zeros (most - length xs)) (length xs) refl))
 
-      ran-last : LastAt t ps (getD ws (length ss - 1) 0) f (stored (headerOf (getD ws (length ss - 1) 0)))
+      ran-last : LastAt t ps (getD ws (length (it .steps) - 1) 0) f (stored (headerOf (getD ws (length (it .steps) - 1) 0)))
       ran-last =
           let p = in-passed in
-          let l : most ≤ largest (announcedSteps hs ss) = rw (announced-at hs ss (length ss - 1) last-in) (step-largest hs ss (length ss - 1) last-in) in
+          let l : most ≤ largest (announcedSteps it) = rw (announced-at it (length (it .steps) - 1) last-in) (step-largest it (length (it .steps) - 1) last-in) in
           record {
             header = word-is;
             count = count-is;
@@ -192,5 +196,5 @@ module _ {t hs ss known : List ℕ} {c : ℕ} (pool : List Float) (words : List 
             coefficients = coefficients-are;
           }
 
-      pub ran-done : {s : Solved} → s ≡ solvedBy (length hs) (length ss) (getD ws (length ss - 1) 0) f → Ends t hs ss ps s
+      pub ran-done : {s : Solved} → s ≡ solvedBy (length (it .headers)) (length (it .steps)) (getD ws (length (it .steps) - 1) 0) f → Ends t (it .headers) (it .steps) ps s
       ran-done e = rw e (record { refusal = ran-none; none = refl; done = λ z. record { inputs = refl; steps = refl; last = ran-last } })

@@ -9,7 +9,7 @@ use Rattle.model.specs.Header.{stored}
 use Rattle.model.specs.Word.{headerOf, wordOf}
 use Rattle.model.specs.Refusals.{noRefusal}
 use Rattle.model_recipes.specs.Recipe.{announcedPlaces}
-use Rattle.model_texts.specs.Sheet.{inputCount, stepCount, sheetHeaders, sheetSteps, sheetRefusal, lastValue}
+use Rattle.model_texts.specs.Sheet.{inputCount, stepCount, sheetHeaders, sheetSteps, sheetRecipe, sheetRefusal, lastValue}
 use Rattle.recipes_kinds.specs.Known.{Known}
 use Rattle.sheet_solving.specs.declared.Solved.{Solved}
 
@@ -51,7 +51,7 @@ pub record Solution (t hs ss ks : List ℕ) (ps : List Float) (s : Solved) : Typ
   pub fit : s .inputs + s .steps ≤ 64
   pub header-words : take (s .inputs) hs ≡ sheetHeaders t
   pub step-words : take (s .steps) ss ≡ sheetSteps t
-  pub places : map headerOf (take (s .inputs + s .steps) ks) ≡ announcedPlaces (sheetHeaders t) (sheetSteps t)
+  pub places : map headerOf (take (s .inputs + s .steps) ks) ≡ announcedPlaces (sheetRecipe t)
   pub known : Known (map headerOf (take (s .inputs + s .steps) ks))
   pub last : LastAt t ps (s .header) (s .from) (s .count)
 

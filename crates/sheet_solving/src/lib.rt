@@ -5,6 +5,7 @@ use gates::stored_of;
 use model::Refusal;
 use run::run_read;
 use shape_words::word::header_of;
+use sheet_reading::edition_of;
 use sheet_reading::input_count;
 use sheet_reading::read;
 ghost use mathlib.Core.Path.{_≡_};
@@ -85,6 +86,7 @@ pub fn solve(
     if refusal.number != 0 {
         return Solved::refused(refusal);
     }
+    let edition = edition_of(text);
     let inputs = input_count(text);
-    run_read(text, &headers[..inputs], steps, known, pool)
+    run_read(text, &headers[..inputs], edition, steps, known, pool)
 }

@@ -12,6 +12,7 @@ use sheet_reading::step_count;
 ghost use mathlib.Core.Path.{_≡_};
 ghost use Prim.Native.Nat.{_≤_};
 ghost use lib.ListN.{length};
+ghost use Rattle.model_recipes.specs.Recipe.{recipeOf};
 ghost use Rattle.sheet_solving.specs.Running.{Opening, Running, RunningIn};
 ghost use Rattle.sheet_solving.specs.Solves.{Lent, Ends, Ended};
 
@@ -21,13 +22,14 @@ fn run_in(
     text: &[u8],
     headers: &[u64],
     steps: &[u64],
+    edition: u64,
     known: &mut [u64],
     coefficients: &mut [f64],
     pool: &mut [f64],
     words: &mut [u64],
     scratch: &mut [f64],
 ) -> Solved
-    requires { ⌜ RunningIn (now text) (now headers) (now steps) (now known) (length (now coefficients)) (length (now pool))
+    requires { ⌜ RunningIn (now text) (recipeOf edition (now headers) (now steps)) (now known) (length (now coefficients)) (length (now pool))
         (length (now words)) (length (now scratch)) ⌝ }
     ensures { λ s. ⌜ Ends (now (text .entry)) (now (headers .entry)) (now (steps .entry)) (now (pool .exit)) s ⌝ }
     ensures spent_known { λ _. ⌜ length (now (known .exit)) ≡ length (now (known .entry)) ⌝ }
@@ -37,7 +39,16 @@ fn run_in(
 {
     let n = steps.len();
     fill_floats(text, 1 + headers.len(), coefficients);
-    let from = run_admitted(headers, coefficients, steps, known, pool, words, scratch);
+    let from = run_admitted(
+        headers,
+        coefficients,
+        steps,
+        edition,
+        known,
+        pool,
+        words,
+        scratch,
+    );
     Solved::done(headers.len(), n, words[n - 1], from)
 }
 
@@ -47,11 +58,12 @@ fn run_judged(
     text: &[u8],
     headers: &[u64],
     steps: &[u64],
+    edition: u64,
     known: &[u64],
     given: usize,
     pool: &mut [f64],
 ) -> Solved
-    requires { ⌜ Running (now text) (now headers) (now steps) (now known) given ⌝ ∗ ⌜ 2048 ≤ length (now pool) ⌝ }
+    requires { ⌜ Running (now text) (recipeOf edition (now headers) (now steps)) (now known) given ⌝ ∗ ⌜ 2048 ≤ length (now pool) ⌝ }
     ensures { λ s. ⌜ Ends (now (text .entry)) (now (headers .entry)) (now (steps .entry)) (now (pool .exit)) s ⌝ }
 {
     let mut coefficients = floats();
@@ -63,6 +75,7 @@ fn run_judged(
         text,
         headers,
         steps,
+        edition,
         &mut announced,
         &mut coefficients[..given],
         pool,
@@ -71,24 +84,33 @@ fn run_judged(
     )
 }
 
-// A sheet that is read, with its input headers.
+// A sheet that is read, with its input headers and its edition.
 pub fn run_read(
     text: &[u8],
     headers: &[u64],
+    edition: u64,
     steps: &mut [u64],
     known: &mut [u64],
     pool: &mut [f64],
 ) -> Solved
-    requires { ⌜ Opening (now text) (now headers) ⌝ ∗ ⌜ Lent (length (now steps)) (length (now known)) (length (now pool)) ⌝ }
+    requires { ⌜ Opening (now text) (now headers) edition ⌝ ∗ ⌜ Lent (length (now steps)) (length (now known)) (length (now pool)) ⌝ }
     ensures { λ s. ⌜ Ended (now (text .entry)) (now (headers .entry)) (now (steps .exit)) (now (known .exit)) (now (pool .entry)) (now (pool .exit)) s ⌝ }
 {
     let n = step_count(text);
     let end = headers.len() + n;
     let given = total_of(headers);
     fill_words(text, 1 + headers.len() + given, &mut steps[..n]);
-    let refusal = judge_own(headers, &steps[..n], known);
+    let refusal = judge_own(headers, &steps[..n], edition, known);
     if refusal.number != 0 {
         return Solved::refused(refusal);
     }
-    run_judged(text, headers, &steps[..n], &known[..end], given, pool)
+    run_judged(
+        text,
+        headers,
+        &steps[..n],
+        edition,
+        &known[..end],
+        given,
+        pool,
+    )
 }

@@ -156,19 +156,19 @@ pub taylor-subst-var-once : (ah : ℕ) (a : List Float) (bh : ℕ) (b : List Flo
     → (r1 ≡ r2) × ((out1 ≡ out2) × (scratch1 ≡ scratch2))
 taylor-subst-var-once ah a bh b v out scratch p1 p2 = once-3 p1 p2
 
-pub taylor-check-once : (headers steps : List ℕ) (pool largest inputs : ℕ) {r1 r2 : ℕ} {pool1 pool2 largest1 largest2 inputs1 inputs2 : ℕ}
-    → TaylorCheckPromise headers steps pool largest inputs r1 pool1 largest1 inputs1 → TaylorCheckPromise headers
-    steps pool largest inputs r2 pool2 largest2 inputs2
+pub taylor-check-once : (headers steps : List ℕ) (edition pool largest inputs : ℕ) {r1 r2 : ℕ} {pool1 pool2 largest1 largest2 inputs1 inputs2 : ℕ}
+    → TaylorCheckPromise headers steps edition pool largest inputs r1 pool1 largest1 inputs1 → TaylorCheckPromise headers
+    steps edition pool largest inputs r2 pool2 largest2 inputs2
     → (r1 ≡ r2) × ((pool1 ≡ pool2) × ((largest1 ≡ largest2) × (inputs1 ≡ inputs2)))
-taylor-check-once headers steps pool largest inputs p1 p2 = once-4 p1 p2
+taylor-check-once headers steps edition pool largest inputs p1 p2 = once-4 p1 p2
 
-pub taylor-run-once : (headers : List ℕ) (coefficients : List Float) (steps : List ℕ) (pool : List Float)
+pub taylor-run-once : (headers : List ℕ) (coefficients : List Float) (steps : List ℕ) (edition : ℕ) (pool : List Float)
     (words : List ℕ) (scratch : List Float) {r1 r2 : ℕ} {pool1 pool2 scratch1 scratch2 : List Float} {words1 words2 :
     List ℕ}
-    → TaylorRunPromise headers coefficients steps pool words scratch r1 pool1 words1 scratch1 → TaylorRunPromise
-    headers coefficients steps pool words scratch r2 pool2 words2 scratch2
+    → TaylorRunPromise headers coefficients steps edition pool words scratch r1 pool1 words1 scratch1 → TaylorRunPromise
+    headers coefficients steps edition pool words scratch r2 pool2 words2 scratch2
     → (r1 ≡ r2) × ((pool1 ≡ pool2) × ((words1 ≡ words2) × (scratch1 ≡ scratch2)))
-taylor-run-once headers coefficients steps pool words scratch p1 p2 = once-4 p1 p2
+taylor-run-once headers coefficients steps edition pool words scratch p1 p2 = once-4 p1 p2
 
 pub taylor-npy-write-once : (head : ℕ) (a : List Float) (file : List ℕ) (written : ℕ) {r1 r2 : ℕ} {file1 file2 : List ℕ} {written1 written2 : ℕ}
     → TaylorNpyWritePromise head a file written r1 file1 written1 → TaylorNpyWritePromise head a file written r2 file2 written2

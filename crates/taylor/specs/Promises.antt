@@ -25,6 +25,7 @@ use Rattle.model.specs.Substitute.{substituteAnswer, substituteOut, substituteS
 use Rattle.model.specs.Tail.{tailAnswer}
 use Rattle.model_exponential.specs.Constant.{inRange, expConstantAnswer}
 use Rattle.model_exponential.specs.Exact.{Near}
+use Rattle.model_recipes.specs.Recipe.{recipeOf}
 use Rattle.model_recipes.specs.Check.{checkAnswer}
 use Rattle.model_recipes.specs.Run.{runAnswer, runPool, runScratch, runWords}
 use Rattle.model_settings.specs.Words.{bringWords, freshAnswer, freshWords, readVersionWords, readWords, wordsBrought}
@@ -185,19 +186,19 @@ TaylorSubstVarPromise ah a bh b v out scratch r out' scratch' =
     × ((out' ≡ substituteOut v ah a bh b out scratch)
     × (scratch' ≡ substituteScratch v ah a bh b out scratch))
 
-abbrev pub TaylorCheckPromise : List ℕ → List ℕ → ℕ → ℕ → ℕ → ℕ → ℕ → ℕ → ℕ → Type 0
-TaylorCheckPromise headers steps pool largest inputs r pool' largest' inputs' =
-    (r ≡ wordOfCheck (checkAnswer headers steps))
-    × ((pool' ≡ poolAfter (checkAnswer headers steps) pool)
-    × ((largest' ≡ largestAfter (checkAnswer headers steps) largest)
-    × (inputs' ≡ inputsAfter (checkAnswer headers steps) inputs)))
+abbrev pub TaylorCheckPromise : List ℕ → List ℕ → ℕ → ℕ → ℕ → ℕ → ℕ → ℕ → ℕ → ℕ → Type 0
+TaylorCheckPromise headers steps edition pool largest inputs r pool' largest' inputs' =
+    (r ≡ wordOfCheck (checkAnswer (recipeOf edition headers steps)))
+    × ((pool' ≡ poolAfter (checkAnswer (recipeOf edition headers steps)) pool)
+    × ((largest' ≡ largestAfter (checkAnswer (recipeOf edition headers steps)) largest)
+    × (inputs' ≡ inputsAfter (checkAnswer (recipeOf edition headers steps)) inputs)))
 
-abbrev pub TaylorRunPromise : List ℕ → List Float → List ℕ → List Float → List ℕ → List Float → ℕ → List Float → List ℕ → List Float → Type 0
-TaylorRunPromise headers coefficients steps pool words scratch r pool' words' scratch' =
-    (r ≡ wordOfRun (runAnswer headers coefficients steps pool words scratch))
-    × ((pool' ≡ runPool headers coefficients steps pool words scratch)
-    × ((words' ≡ runWords headers coefficients steps pool words scratch)
-    × (scratch' ≡ runScratch headers coefficients steps pool words scratch)))
+abbrev pub TaylorRunPromise : List ℕ → List Float → List ℕ → ℕ → List Float → List ℕ → List Float → ℕ → List Float → List ℕ → List Float → Type 0
+TaylorRunPromise headers coefficients steps edition pool words scratch r pool' words' scratch' =
+    (r ≡ wordOfRun (runAnswer (recipeOf edition headers steps) coefficients pool words scratch))
+    × ((pool' ≡ runPool (recipeOf edition headers steps) coefficients pool words scratch)
+    × ((words' ≡ runWords (recipeOf edition headers steps) coefficients pool words scratch)
+    × (scratch' ≡ runScratch (recipeOf edition headers steps) coefficients pool words scratch)))
 
 abbrev pub TaylorNpyWritePromise : ℕ → List Float → List ℕ → ℕ → ℕ → List ℕ → ℕ → Type 0
 TaylorNpyWritePromise head a file written r file' written' =

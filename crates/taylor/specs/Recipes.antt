@@ -16,6 +16,7 @@ use Rattle.model_recipes.specs.declared.CheckAnswer.the-variants as check-answe
 use Rattle.model_recipes.specs.declared.RunAnswer.{RunAnswer}
 use Rattle.model_recipes.specs.declared.RunAnswer.the-variants as run-answer
 use Rattle.model.specs.Refusals.{isNone}
+use Rattle.model_recipes.specs.Recipe.{Recipe}
 use Rattle.model_recipes.specs.Check.{checkRefusal, checkBy, checkAnswer}
 use Rattle.model_recipes.specs.Run.{endBy, endAnswer, runRefusal, runEnd, runAnswer}
 use Rattle.recipes_laws.specs.Refuses.{check-small, run-small}
@@ -51,15 +52,15 @@ module _ (r : Refusal) (few : Few r) where
 
 -- ---- the entries
 
-pub check-back : (hs ss : List ℕ) (pool largest inputs : ℕ)
-    → checkFrom (wordOfCheck (checkAnswer hs ss)) (poolAfter (checkAnswer hs ss) pool)
-    (largestAfter (checkAnswer hs ss) largest) (inputsAfter (checkAnswer hs ss) inputs)
-    ≡ checkAnswer hs ss
+pub check-back : (it : Recipe) (pool largest inputs : ℕ)
+    → checkFrom (wordOfCheck (checkAnswer it)) (poolAfter (checkAnswer it) pool)
+    (largestAfter (checkAnswer it) largest) (inputsAfter (checkAnswer it) inputs)
+    ≡ checkAnswer it
 unfolding checkAnswer
-check-back hs ss pool largest inputs = by-check (checkRefusal hs ss) (small-up (check-small hs ss) (omega arith) (omega arith)) _ _ _ pool largest inputs
+check-back it pool largest inputs = by-check (checkRefusal it) (small-up (check-small it) (omega arith) (omega arith)) _ _ _ pool largest inputs
 
-pub run-back : (hs : List ℕ) (cs : List Float) (ss : List ℕ) (pool : List Float) (words : List ℕ) (scratch : List Float)
-    → runFrom (wordOfRun (runAnswer hs cs ss pool words scratch)) ≡ runAnswer hs cs ss pool words scratch
+pub run-back : (it : Recipe) (cs : List Float) (pool : List Float) (words : List ℕ) (scratch : List Float)
+    → runFrom (wordOfRun (runAnswer it cs pool words scratch)) ≡ runAnswer it cs pool words scratch
 unfolding runAnswer runEnd
-run-back hs cs ss pool words scratch =
-    by-run (runRefusal hs cs ss pool words scratch) (small-up (run-small hs cs ss pool words scratch) (omega arith) (omega arith))
+run-back it cs pool words scratch =
+    by-run (runRefusal it cs pool words scratch) (small-up (run-small it cs pool words scratch) (omega arith) (omega arith))

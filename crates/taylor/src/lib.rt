@@ -379,39 +379,46 @@ pub extern "C" fn taylor_subst_var(
     word_of(substitution::subst_var(ah, a, bh, b, v as usize, out, scratch))
 }
 
-// Whether a recipe can be run, from words alone: the pool total, the largest announced step count and the input
+// Whether a recipe of an edition can be run, from words alone: the pool total, the largest announced step count and the input
 // coefficient total; refusals 1, 3, 4, 5, 7.
 #[no_mangle]
 pub extern "C" fn taylor_check(
     headers: &[u64],
     steps: &[u64],
+    edition: u64,
     pool: &mut u64,
     largest: &mut u64,
     inputs: &mut u64,
 ) -> u64
-    ensures { λ r. ⌜ TaylorCheckPromise (now (headers .entry)) (now (steps .entry)) (now (pool .entry))
+    ensures { λ r. ⌜ TaylorCheckPromise (now (headers .entry)) (now (steps .entry)) edition (now (pool .entry))
         (now (largest .entry)) (now (inputs .entry)) r (now (pool .exit)) (now (largest .exit)) (now (inputs .exit))
         ⌝ }
 {
-    put_totals(recipes::check(headers, steps), pool, largest, inputs)
+    put_totals(
+        recipes::check(headers, steps, edition),
+        pool,
+        largest,
+        inputs,
+    )
 }
 
-// A recipe's steps, their values end to end in the pool and their header words in `words`: refusals 1 to 7; 0 when
+// The steps of a recipe of an edition, their values end to end in the pool and their header words in `words`: refusals 1 to 7; 0 when
 // done.
 #[no_mangle]
 pub extern "C" fn taylor_run(
     headers: &[u64],
     coefficients: &[f64],
     steps: &[u64],
+    edition: u64,
     pool: &mut [f64],
     words: &mut [u64],
     scratch: &mut [f64],
 ) -> u64
     ensures { λ r. ⌜ TaylorRunPromise (now (headers .entry)) (now (coefficients .entry)) (now (steps .entry))
-        (now (pool .entry)) (now (words .entry)) (now (scratch .entry)) r (now (pool .exit)) (now (words .exit))
+        edition (now (pool .entry)) (now (words .entry)) (now (scratch .entry)) r (now (pool .exit)) (now (words .exit))
         (now (scratch .exit)) ⌝ }
 {
-    word_of_run(recipes::run(headers, coefficients, steps, pool, words, scratch))
+    word_of_run(recipes::run(headers, coefficients, steps, edition, pool, words, scratch))
 }
 
 // The values of a NumPy array file, in row order, at the front of `out`: refusals 10, 5, 10.

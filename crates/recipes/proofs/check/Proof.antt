@@ -1,7 +1,7 @@
 use mathlib.Core.Path.{_≡_, ap, _∙_}
 use native.Mathlib.Omega.{arith}
 use lib.ListN.{length, length-take}
-use Rattle.model_recipes.specs.Recipe.{total, largest}
+use Rattle.model_recipes.specs.Recipe.{recipeOf, total, largest}
 use Rattle.recipes_check.specs.Answered.{Passed, passed, answer-no, answer-yes}
 use borrow.Author.Needs.{needs}
 use Rattle.recipes.proofs.check.Statement.{statement}
@@ -10,14 +10,14 @@ use Rattle.recipes.proofs.check.Tie as tie
 abbrev start : tie.Else1 → tie.Start
 start c = c .before .before .before .before .before .before .before
 
-pass : (c : tie.Else1) → Passed (start c .args .headers .now) (start c .args .steps .now) (c .before .before .before .judge .last .1 .1 .0)
+pass : (c : tie.Else1) → Passed (recipeOf (start c .args .edition) (start c .args .headers .now) (start c .args .steps .now)) (c .before .before .before .judge .last .1 .1 .1 .0)
 pass c = passed (c .before .before .before .judge .ensures) (c .if1 .left)
 
-noted-len : (c : tie.Else1) → length (c .before .before .before .judge .last .1 .1 .0) ≡ 64
+noted-len : (c : tie.Else1) → length (c .before .before .before .judge .last .1 .1 .1 .0) ≡ 64
 noted-len c = c .before .before .before .judge .ensures .len
 
 returns : tie.Need-returns
-returns c = answer-no _ _ (c .before .before .before .judge .ensures .answer) (c .if1 .taken)
+returns c = answer-no _ (c .before .before .before .judge .ensures .answer) (c .if1 .taken)
 
 part-total-of-end : tie.Need-part-total-of-end
 part-total-of-end c = omega (arith, pass (c .before) .fit, noted-len (c .before))
@@ -43,7 +43,7 @@ returns-2 : tie.Need-returns-2
 returns-2 c =
     let c7 = c .before .before .before .before .before .before .before in let c10 = c7 .before .before .before in
     let p = pass c7 in
-    answer-yes _ _ (c10 .judge .ensures .answer) (c7 .if1 .left)
+    answer-yes _ (c10 .judge .ensures .answer) (c7 .if1 .left)
     (c .before .before .before .before .total-of .ensures ∙ ap total (p .part))
     (c .before .largest-of .ensures ∙ ap largest (p .part)) (c .total-of2 .ensures)
 

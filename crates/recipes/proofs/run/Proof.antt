@@ -1,5 +1,6 @@
 use native.Mathlib.Omega.{arith}
 use Rattle.recipes.specs.Ran.{no-answer, no-pool, no-words, no-scratch, admitted, enough-words, yes-answer, yes-pool, yes-words, yes-scratch}
+use Rattle.model_recipes.specs.Recipe.{recipeOf}
 use borrow.Author.Needs.{needs}
 use Rattle.recipes.proofs.run.Statement.{statement}
 use Rattle.recipes.proofs.run.Tie as tie
@@ -8,18 +9,18 @@ returns : tie.Need-returns
 returns c =
     let c3 = c .before .before .before in
     let start = c3 .before .before .before .before .before .before .before .before in (
-      no-answer (start .args .headers .now) (start .args .coefficients .now) (start .args .steps .now)
+      no-answer (recipeOf (start .args .edition) (start .args .headers .now) (start .args .steps .now)) (start .args .coefficients .now)
           (start .args .pool .now) (start .args .words .now) (start .args .scratch .now) (c3 .admit .ensures)
           (c .if1 .taken),
       (
-        no-pool (start .args .headers .now) (start .args .coefficients .now) (start .args .steps .now)
+        no-pool (recipeOf (start .args .edition) (start .args .headers .now) (start .args .steps .now)) (start .args .coefficients .now)
             (start .args .pool .now) (start .args .words .now) (start .args .scratch .now) (c3 .admit .ensures)
             (c .if1 .taken),
         (
-          no-words (start .args .headers .now) (start .args .coefficients .now) (start .args .steps .now)
+          no-words (recipeOf (start .args .edition) (start .args .headers .now) (start .args .steps .now)) (start .args .coefficients .now)
               (start .args .pool .now) (start .args .words .now) (start .args .scratch .now) (c3 .admit .ensures)
               (c .if1 .taken),
-          no-scratch (start .args .headers .now) (start .args .coefficients .now) (start .args .steps .now)
+          no-scratch (recipeOf (start .args .edition) (start .args .headers .now) (start .args .steps .now)) (start .args .coefficients .now)
               (start .args .pool .now) (start .args .words .now) (start .args .scratch .now)
               (c3 .admit .ensures) (c .if1 .taken),
         ),
@@ -30,10 +31,10 @@ run-admitted-requires : tie.Need-run-admitted-requires
 run-admitted-requires c κs =
     let c4 = c .before .before .before .before in let c7 = c4 .before .before .before in
     let start = c7 .before .before .before .before .before .before .before .before in (
-      admitted (start .args .headers .now) (start .args .coefficients .now) (start .args .steps .now)
+      admitted (recipeOf (start .args .edition) (start .args .headers .now) (start .args .steps .now)) (start .args .coefficients .now)
           (start .args .pool .now) (start .args .words .now) (start .args .scratch .now) (c7 .admit .ensures)
           (c4 .if1 .left) (omega (arith, c7 .admit .ensures .len)),
-      enough-words (start .args .headers .now) (start .args .coefficients .now) (start .args .steps .now)
+      enough-words (recipeOf (start .args .edition) (start .args .headers .now) (start .args .steps .now)) (start .args .coefficients .now)
           (start .args .pool .now) (start .args .words .now) (start .args .scratch .now)
           (c7 .admit .ensures) (c4 .if1 .left),
     )
@@ -43,18 +44,18 @@ returns-2 c =
     let c7 = c .before .before .before .before .before .before .before in
     let c12 = c7 .before .before .before .before .before in let c15 = c12 .before .before .before in
     let start = c15 .before .before .before .before .before .before .before .before in (
-      yes-answer (start .args .headers .now) (start .args .coefficients .now) (start .args .steps .now)
+      yes-answer (recipeOf (start .args .edition) (start .args .headers .now) (start .args .steps .now)) (start .args .coefficients .now)
           (start .args .pool .now) (start .args .words .now) (start .args .scratch .now) (c15 .admit .ensures)
           (c12 .if1 .left),
       (
-        yes-pool (start .args .headers .now) (start .args .coefficients .now) (start .args .steps .now)
+        yes-pool (recipeOf (start .args .edition) (start .args .headers .now) (start .args .steps .now)) (start .args .coefficients .now)
             (start .args .pool .now) (start .args .words .now) (start .args .scratch .now) (c15 .admit .ensures)
             (c12 .if1 .left) (c7 .run-admitted .ensures .0),
         (
-          yes-words (start .args .headers .now) (start .args .coefficients .now) (start .args .steps .now)
+          yes-words (recipeOf (start .args .edition) (start .args .headers .now) (start .args .steps .now)) (start .args .coefficients .now)
               (start .args .pool .now) (start .args .words .now) (start .args .scratch .now) (c15 .admit .ensures)
               (c12 .if1 .left) (c7 .run-admitted .ensures .1 .0),
-          yes-scratch (start .args .headers .now) (start .args .coefficients .now) (start .args .steps .now)
+          yes-scratch (recipeOf (start .args .edition) (start .args .headers .now) (start .args .steps .now)) (start .args .coefficients .now)
               (start .args .pool .now) (start .args .words .now) (start .args .scratch .now) (c15 .admit .ensures)
               (c12 .if1 .left) (c7 .run-admitted .ensures .1 .1 .0),
         ),

@@ -11,13 +11,13 @@ use Rattle.recipes_check.proofs.steps_refusal.Statement.{statement}
 use Rattle.recipes_check.proofs.steps_refusal.Tie as tie
 
 abbrev Inv-loop : tie.InvT-loop
-Inv-loop steps inputs known₀ i₀ known i = Judging steps (map headerOf (take inputs known₀)) inputs known₀ known i
+Inv-loop edition steps inputs known₀ i₀ known i = Judging edition steps (map headerOf (take inputs known₀)) inputs known₀ known i
 
 abbrev μ-loop : tie.MeasureT-loop
-μ-loop steps inputs known₀ i₀ known i = length steps - i
+μ-loop edition steps inputs known₀ i₀ known i = length steps - i
 
 loop-holds : tie.Need-loop-holds Inv-loop μ-loop
-loop-holds c = judging-none _ _ _ (c .before .before .pre .regular)
+loop-holds c = judging-none _ _ _ _ (c .before .before .pre .regular)
 
 slice-reshare-prefix-gate : tie.Need-slice-reshare-prefix-gate Inv-loop μ-loop
 slice-reshare-prefix-gate c =
@@ -64,7 +64,7 @@ announce-requires c κs = c .before .before .before .before .before .before .bef
 pack-requires : tie.Need-pack-requires Inv-loop μ-loop
 pack-requires c κs =
     let c8 = c .before .before .before .before .before .before .before .before in
-    rw (c .announce .ensures) (step-regular _ (c8 .loop .inv .regular) .rules)
+    rw (c .announce .ensures) (step-regular _ _ (c8 .loop .inv .regular) .rules)
 
 slice-write-known : tie.Need-slice-write-known Inv-loop μ-loop
 slice-write-known c =

@@ -1,7 +1,6 @@
 use native.Mathlib.Omega.{arith}
 use mathlib.Core.List.{[]}
 use mathlib.Core.Path.{sym, ap, _∙_}
-use lib.ListN.{length-take, length-drop}
 use lib.Seq.{length-take-le}
 use Rattle.model.specs.declared.Refusal.{Refusal}
 use Rattle.report_lines.specs.Puts.{printed-none}
@@ -14,7 +13,7 @@ returns : tie.Need-returns
 returns c =
     let c4 = c .before .before .before .before in
     let c11 = c4 .before .before .before .before .before .before .before in
-    rw (told-refused _ (sym (c11 .solve .ensures .refusal)) (c4 .if1 .taken)) (c .before .before .put-refusal-report .ensures [] _
+    rw (told-refused _ _ (rw (← c11 .solve .ensures .refusal) (c4 .if1 .taken))) (c .before .before .put-refusal-report .ensures [] _
     (printed-none _))
 
 add-n : tie.Need-add-n
@@ -150,7 +149,7 @@ returns-2 c =
           .left)) (ap (λ (r : Refusal). r .number) (sym (c21 .solve .ensures .refusal)) ∙ c14 .if1 .left) (c12 .total-of .ensures),
       c26 .floats2
           .ensures,
-    )) ∙ c12 .total-of .ensures)) (c3 .put-read .ensures)
+    )) ∙ c12 .total-of .ensures) _) (c3 .put-read .ensures)
 
 pub answer-spec : {M : Type 1} → statement M
 answer-spec =

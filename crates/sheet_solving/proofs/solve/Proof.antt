@@ -31,12 +31,12 @@ returns c =
 
 slice-reshare-prefix-run-read : tie.Need-slice-reshare-prefix-run-read
 slice-reshare-prefix-run-read c =
-    let start = c .before .before .before .before .before .before .before .before .before .before .before .before in
+    let start = c .before .before .before .before .before .before .before .before .before .before .before .before .before in
     omega (
       arith,
-      c .before .before .before .before .before .read .ensures .len,
+      c .before .before .before .before .before .before .read .ensures .len,
       c .input-count .ensures,
-      (opened (start .args .text .now) (none (c .before))) .sizes .few,
+      (opened (start .args .text .now) (none (c .before .before))) .sizes .few,
       start .pre .headers,
     )
 
@@ -45,11 +45,13 @@ slice-aggregate-run-read c = sym (length-take-le _ _ (slice-reshare-prefix-run-r
 
 run-read-requires : tie.Need-run-read-requires
 run-read-requires c κs =
-    let c5 = c .before .before .before .before .before in let c9 = c5 .before .before .before .before in
-    let start = c9 .before .before .before .before .before .before .before in (
+    let c5 = c .before .before .before .before .before in let c6 = c5 .before in
+    let c10 = c6 .before .before .before .before in
+    let start = c10 .before .before .before .before .before .before .before in (
       record {
-        read = none c5;
-        headers = rw (c .before .before .before .before .input-count .ensures) (c9 .read .ensures .headers (c5 .if1 .left));
+        read = none c6;
+        headers = rw (c .before .before .before .before .input-count .ensures) (c10 .read .ensures .headers (c6 .if1 .left));
+        edition = c5 .edition-of .ensures;
       },
       record { steps = start .pre .steps; known = start .pre .known; pool = start .pre .pool },
     )
@@ -57,21 +59,21 @@ run-read-requires c κs =
 returns-2 : tie.Need-returns-2
 returns-2 c =
     let c6 = c .before .before .before .before .before .before in
-    let c12 = c6 .before .before .before .before .before .before in let c16 = c12 .before .before .before .before in
+    let c13 = c6 .before .before .before .before .before .before .before in let c17 = c13 .before .before .before .before in
     record {
       refusal = c6 .run-read .ensures .refusal;
-      headers-len = c16 .read .ensures .len;
+      headers-len = c17 .read .ensures .len;
       steps-len = search needs;
       known-len = search needs;
       pool-len = search needs;
       refused = c6 .run-read .ensures .refused;
-      done = λ z. solution-front _ (c6 .run-read .ensures .done z) (c16 .read .ensures .headers (c12 .if1 .left));
+      done = λ z. solution-front _ (c6 .run-read .ensures .done z) (c17 .read .ensures .headers (c13 .if1 .left));
     }
 
 pub solve-spec : {M : Type 1} → statement M
 solve-spec =
     tie.close
     (tie.spec
-    (λ c κs. search needs) (λ c κs. search needs) (λ c. search needs) returns (λ c κs. search needs)
+    (λ c κs. search needs) (λ c κs. search needs) (λ c. search needs) returns (λ c κs. search needs) (λ c κs. search needs)
     slice-reshare-prefix-run-read slice-aggregate-run-read run-read-requires (λ c. search needs) (λ c. search needs)
     (λ c. search needs) (λ c. search needs) returns-2)

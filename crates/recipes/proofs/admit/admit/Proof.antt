@@ -1,7 +1,7 @@
 use native.Mathlib.Omega.{arith}
 use mathlib.Core.Path.{_≡_, ap, _∙_}
 use lib.ListN.{length, length-take}
-use Rattle.model_recipes.specs.Recipe.{announcedSteps, total, largest}
+use Rattle.model_recipes.specs.Recipe.{recipeOf, announcedSteps, total, largest}
 use Rattle.recipes_check.specs.Answered.{Passed, passed}
 use borrow.Author.Tests.{not-true, not-false}
 use Rattle.recipes.specs.Admission.{admit-check, admit-2, admit-5, admit-6, admit-none, largest-most}
@@ -11,18 +11,18 @@ use Rattle.recipes.proofs.admit.admit.Tie as tie
 
 pass : (c : tie.Else1) →
     let start = c .before .before .before .before .before .before .before .before .before in
-    Passed (start .args .headers .now) (start .args .steps .now) (c .before .before .before .before .judge .last .1 .1 .0)
+    Passed (recipeOf (start .args .edition) (start .args .headers .now) (start .args .steps .now)) (c .before .before .before .before .judge .last .1 .1 .1 .0)
 pass c = passed (c .before .before .before .before .judge .ensures) (c .if1 .left)
 
 noted-len : (c : tie.Else1) →
     let start = c .before .before .before .before .before .before .before .before .before in
-    length (c .before .before .before .before .judge .last .1 .1 .0) ≡ length (start .args .known .now)
+    length (c .before .before .before .before .judge .last .1 .1 .1 .0) ≡ length (start .args .known .now)
 noted-len c = c .before .before .before .before .judge .ensures .len
 
 returns : tie.Need-returns
 returns c =
     let start = c .before .before .before .before .before .before .before .before .before in
-    admit-check (start .args .headers .now) (start .args .steps .now) (start .args .coefficients) (start .args .pool)
+    admit-check (recipeOf (start .args .edition) (start .args .headers .now) (start .args .steps .now)) (start .args .coefficients) (start .args .pool)
     (start .args .words) (start .args .scratch) (c .before .before .before .before .judge .ensures) (c .if1 .taken)
 
 total-of-requires : tie.Need-total-of-requires
@@ -31,7 +31,7 @@ total-of-requires c κs = (pass c .inputs, omega (arith, pass c .fit))
 returns-2 : tie.Need-returns-2
 returns-2 c =
     let start = c .before .before .before .before .before .before .before .before .before .before .before .before in
-    rw (c .by .ensures) (admit-2 (start .args .headers .now) (start .args .steps .now) (start .args .coefficients)
+    rw (c .by .ensures) (admit-2 (recipeOf (start .args .edition) (start .args .headers .now) (start .args .steps .now)) (start .args .coefficients)
     (start .args .pool) (start .args .words) (start .args .scratch)
     (c .before .before .before .before .before .before .before .judge .ensures)
     (c .before .before .before .if1 .left) (c .before .before .total-of .ensures) (c .before .if2 .taken))
@@ -51,7 +51,7 @@ returns-3 : tie.Need-returns-3
 returns-3 c =
     let c7 = c .before .before .before .before .before .before .before in
     let c11 = c7 .before .before .before .before in let start = c11 .before .before .before .before .before in
-    rw (c .by2 .ensures) (admit-5 (start .args .headers .now) (start .args .steps .now) (start .args .coefficients)
+    rw (c .by2 .ensures) (admit-5 (recipeOf (start .args .edition) (start .args .headers .now) (start .args .steps .now)) (start .args .coefficients)
     (start .args .pool) (start .args .words) (start .args .scratch) (c11 .judge .ensures) (c7 .if1 .left)
     (c .before .before .before .before .before .before .total-of .ensures)
     (c .before .before .before .before .before .if2 .left)
@@ -75,7 +75,7 @@ mul-if4 c =
     omega (
       arith,
       c .largest-of .ensures ∙ ap largest (pass c9 .part),
-      largest-most (announcedSteps (start .args .headers .now) (start .args .steps .now)) (pass c9 .steps),
+      largest-most (announcedSteps (recipeOf (start .args .edition) (start .args .headers .now) (start .args .steps .now))) (pass c9 .steps),
     )
 
 returns-4 : tie.Need-returns-4
@@ -83,7 +83,7 @@ returns-4 c =
     let c9 = c .before .before .before .before .before .before .before .before .before in let c10 = c9 .before in
     let c11 = c10 .before in let c15 = c11 .before .before .before .before in
     let start = c15 .before .before .before .before .before in
-    rw (c .by3 .ensures) (admit-6 (start .args .headers .now) (start .args .steps .now) (start .args .coefficients)
+    rw (c .by3 .ensures) (admit-6 (recipeOf (start .args .edition) (start .args .headers .now) (start .args .steps .now)) (start .args .coefficients)
     (start .args .pool) (start .args .words) (start .args .scratch) (c15 .judge .ensures) (c11 .if1 .left)
     (c10 .total-of .ensures) (c9 .if2 .left)
     (c .before .before .before .before .before .before .total-of2 .ensures ∙ ap total (pass c11 .part))
@@ -95,7 +95,7 @@ returns-5 c =
     let c9 = c .before .before .before .before .before .before .before .before .before in let c10 = c9 .before in
     let c11 = c10 .before in let c15 = c11 .before .before .before .before in
     let start = c15 .before .before .before .before .before in
-    rw (c .none .ensures) (admit-none (start .args .headers .now) (start .args .steps .now) (start .args .coefficients)
+    rw (c .none .ensures) (admit-none (recipeOf (start .args .edition) (start .args .headers .now) (start .args .steps .now)) (start .args .coefficients)
     (start .args .pool) (start .args .words) (start .args .scratch) (c15 .judge .ensures) (c11 .if1 .left)
     (c10 .total-of .ensures) (c9 .if2 .left)
     (c .before .before .before .before .before .before .total-of2 .ensures ∙ ap total (pass c11 .part))

@@ -4,7 +4,7 @@ use mathlib.Core.List.{_++_}
 use Prim.Native.Nat.{ℕ, _+_, _*_, _≤_}
 use lib.ListN.{length, drop, length-append, length-take}
 use lib.Seq.{length-take-le}
-use Rattle.model_recipes.specs.Recipe.{announcedSteps, inputHeads, largest}
+use Rattle.model_recipes.specs.Recipe.{recipeOf, announcedSteps, inputHeads, largest}
 use Rattle.recipes.specs.Standing.{Placing}
 use Rattle.recipes.specs.Admission.{largest-most, run-passed, run-some, last-start, admitted-exactly, words-end}
 use Rattle.recipes.specs.Admission.{scratch-end}
@@ -14,7 +14,7 @@ use Rattle.recipes.proofs.admit.run_admitted.Tie as tie
 
 most-is : (c : tie.After-largest-of) →
     let start = c .before .before .before .before .before .before .before .before .before .before in
-    c .largest-of .result ≡ largest (announcedSteps (start .args .headers .now) (start .args .steps .now))
+    c .largest-of .result ≡ largest (announcedSteps (recipeOf (start .args .edition) (start .args .headers .now) (start .args .steps .now)))
 most-is c =
     let start = c .before .before .before .before .before .before .before .before .before .before in
     c .largest-of .ensures ∙ ap largest (run-passed (start .pre .0) .part)
@@ -29,8 +29,7 @@ fits c =
 placed : (c : tie.After-place) →
     let c12 = c .before .before .before .before .before .before .before .before .before .before .before .before in
     let start = c12 .before .before in
-    Placing (inputHeads (start .args .headers .now)) (announcedSteps (start .args .headers .now)
-    (start .args .steps .now)) (c .place .last .1 .1 .0)
+    Placing (inputHeads (start .args .headers .now)) (announcedSteps (recipeOf (start .args .edition) (start .args .headers .now) (start .args .steps .now))) (c .place .last .1 .1 .0)
 placed c =
     let c12 = c .before .before .before .before .before .before .before .before .before .before .before .before in
     let start = c12 .before .before in
@@ -38,15 +37,15 @@ placed c =
 
 used : (c : tie.After-run-steps) →
     let c10 = c .before .before .before .before .before .before .before .before .before .before in
-    length (c .run-steps .last .1 .1 .1 .1 .1 .1 .0) ≡ 8 * c10 .largest-of .result
+    length (c .run-steps .last .1 .1 .1 .1 .1 .1 .1 .0) ≡ 8 * c10 .largest-of .result
 used c =
     let c10 = c .before .before .before .before .before .before .before .before .before .before in
-    c .run-steps .kept .1 .1 .1 .1 .1 .1 .0 ∙ length-take-le _ _ (fits c10)
+    c .run-steps .kept .1 .1 .1 .1 .1 .1 .1 .0 ∙ length-take-le _ _ (fits c10)
 
 again : (c : tie.After-run-steps) →
     let c10 = c .before .before .before .before .before .before .before .before .before .before in
     let start = c10 .before .before .before .before .before .before .before .before .before .before in
-    8 * c10 .largest-of .result ≤ length ((c .run-steps .last .1 .1 .1 .1 .1 .1 .0) ++ drop (8 *
+    8 * c10 .largest-of .result ≤ length ((c .run-steps .last .1 .1 .1 .1 .1 .1 .1 .0) ++ drop (8 *
     c10 .largest-of .result) (start .args .scratch .now))
 again c = simp length-append (omega (arith, used c))
 
@@ -66,7 +65,7 @@ mul-room c =
     omega (
       arith,
       most-is c,
-      largest-most (announcedSteps (start .args .headers .now) (start .args .steps .now))
+      largest-most (announcedSteps (recipeOf (start .args .edition) (start .args .headers .now) (start .args .steps .now)))
           (run-passed (start .pre .0) .steps),
     )
 
@@ -120,7 +119,7 @@ part-note-inputs-end c =
     let c7 = c .before .before .before .before .before .before .before in
     let c19 = c7 .before .before .before .before .before .before .before .before .before .before .before .before in
     let start = c19 .before .before .before .before .before .before .before .before in
-    omega (arith, run-passed (start .pre .0) .fit, start .pre .0 .many, c7 .run-steps .kept .1 .1 .1 .0)
+    omega (arith, run-passed (start .pre .0) .fit, start .pre .0 .many, c7 .run-steps .kept .1 .1 .1 .1 .0)
 
 slice-relend-prefix-clear : tie.Need-slice-relend-prefix-clear
 slice-relend-prefix-clear c =
@@ -168,16 +167,15 @@ returns c =
       c16 .run-steps .ensures .1 .0,
       (
         words-end (length (start .args .headers .now)) (length (start .args .steps .now))
-            (c16 .run-steps .last .1 .1 .1 .0) _ (start .args .words .now) (c16 .run-steps .ensures .0) (omega (
+            (c16 .run-steps .last .1 .1 .1 .1 .0) _ (start .args .words .now) (c16 .run-steps .ensures .0) (omega (
               arith,
               run-passed (start .pre .0) .fit,
               start .pre .0 .many,
-              c16 .run-steps .kept .1 .1 .1 .0,
+              c16 .run-steps .kept .1 .1 .1 .1 .0,
             ))
             (c6 .note-inputs .ensures),
         (
-          scratch-end (largest (announcedSteps (start .args .headers .now)
-              (start .args .steps .now))) (start .args .scratch .now) (c16 .run-steps .last .1 .1 .1 .1 .1 .1 .0) (ap (λ (k :
+          scratch-end (largest (announcedSteps (recipeOf (start .args .edition) (start .args .headers .now) (start .args .steps .now)))) (start .args .scratch .now) (c16 .run-steps .last .1 .1 .1 .1 .1 .1 .1 .0) (ap (λ (k :
               ℕ). 8 * k) (most-is c26)) (used c16) (c .before .before .clear .ensures) (length-take-le _ _ (again c16)),
           (last-start (start .pre .0) (placed c22), same-length c),
         ),

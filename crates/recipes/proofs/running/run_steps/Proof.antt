@@ -4,25 +4,25 @@ use Prim.Native.Nat.{_+_, _-_}
 use lib.ListN.{length, getD, take}
 use borrow.Author.Needs.{needs}
 use Rattle.model.specs.Header.{stored}
-use Rattle.model_recipes.specs.Recipe.{announcedStep, announcedPlaces, announcedSteps, total}
+use Rattle.model_recipes.specs.Recipe.{recipeOf, announcedStep, announcedPlaces, announcedSteps, total}
 use Rattle.recipes.specs.Running.{Running, fit, running-none, running-from, running-at, room-ruled, room-is}
 use Rattle.recipes.specs.Running.{step-in, step-lent, running-more, end-words, end-pool}
 use Rattle.recipes.proofs.running.run_steps.Statement.{statement}
 use Rattle.recipes.proofs.running.run_steps.Tie as tie
 
 abbrev Inv-loop : tie.InvT-loop
-Inv-loop headers coefficients steps known₀ starts pool₀ scratch₀ inputs i₀ known pool scratch i =
-    Running headers coefficients steps known₀ pool₀ i (total (take i (announcedSteps headers steps))) known starts
+Inv-loop headers coefficients steps edition known₀ starts pool₀ scratch₀ inputs i₀ known pool scratch i =
+    Running (recipeOf edition headers steps) coefficients known₀ pool₀ i (total (take i (announcedSteps (recipeOf edition headers steps)))) known starts
     pool × (length scratch ≡ length scratch₀)
 
 abbrev μ-loop : tie.MeasureT-loop
-μ-loop headers coefficients steps known₀ starts pool₀ scratch₀ inputs i₀ known pool scratch i = length steps - i
+μ-loop headers coefficients steps edition known₀ starts pool₀ scratch₀ inputs i₀ known pool scratch i = length steps - i
 
 counted : (c : tie.After-stored-of Inv-loop μ-loop) →
     let c7 = c .before .before .before .before .before .before .before in
     let start = c7 .before .before .before .before .before .before .before .before in
-    c .stored-of .result ≡ stored (announcedStep (getD (start .args .steps .now) (c7 .loop .i) 0) (announcedPlaces
-    (start .args .headers .now) (take (c7 .loop .i) (start .args .steps .now))))
+    c .stored-of .result ≡ stored (announcedStep (start .args .edition) (getD (start .args .steps .now) (c7 .loop .i) 0) (announcedPlaces
+    (recipeOf (start .args .edition) (start .args .headers .now) (take (c7 .loop .i) (start .args .steps .now)))))
 counted c =
     let c6 = c .before .before .before .before .before .before in
     let c7 = c6 .before in
@@ -123,7 +123,7 @@ loop-again c =
           (c14 .loop-test .taken)) (c14 .loop-test .taken) (counted c8) (c15 .loop .inv .0 .len-pool) (rw
           (c12 .step-of .ensures) at (c4 .step-word .ensures .0)) (rw (c12 .step-of .ensures) at
           (c4 .step-word .ensures .1 .0))),
-      c4 .step-word .kept .1 .1 .1 .1 .1 .1 .1 .1 .0 ∙ c15 .loop .inv .1,
+      c4 .step-word .kept .1 .1 .1 .1 .1 .1 .1 .1 .1 .0 ∙ c15 .loop .inv .1,
     )
 
 same-length : tie.Need-same-length Inv-loop μ-loop

@@ -10,7 +10,7 @@ announced-of-requires c κs =
 
 returns : tie.Need-returns
 returns c =
-    announced-is _ _ (c .before .before .before .before .step-of .ensures)
+    announced-is _ _ _ (c .before .before .before .before .step-of .ensures)
     (c .before .before .before .family-of .ensures) (c .before .before .head-at .ensures) (c .before .head-at2 .ensures)
     (c .announced-of .ensures)
 

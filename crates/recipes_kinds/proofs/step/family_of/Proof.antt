@@ -12,13 +12,13 @@ use Rattle.recipes_kinds.proofs.step.family_of.Statement.{statement}
 use Rattle.recipes_kinds.proofs.step.family_of.Tie as tie
 
 -- the arm of no number: none of 1 to 10
-rest-constant : (c : tie.At-match-rest) → Constant ≡ familyOf (c .before .args .s)
+rest-constant : (c : tie.At-match-rest) → Constant ≡ familyOf (c .before .args .edition) (c .before .args .s)
 unfolding families
 rest-constant c =
     let s = c .before .args .s in
     decide (eqb (s .kind) 0)
     (λ e. simp (eqb-true (s .kind) 0 e))
-    (λ e. let ne = eqb-false (s .kind) 0 e in sym (List·getD-eq-default (families s) Constant (past-kinds (omega arith) (c .match .rest))))
+    (λ e. let ne = eqb-false (s .kind) 0 e in sym (List·getD-eq-default (families (c .before .args .edition) s) Constant (past-kinds (omega arith) (c .match .rest))))
 
 returns : tie.Need-returns
 unfolding families
@@ -42,7 +42,7 @@ returns-5 c = simp (c .match .keys5)
 
 returns-6 : tie.Need-returns-6
 unfolding families
-returns-6 c = simp (c .match .keys6)
+returns-6 c = simp (c .before .match .keys6, c .power-family .ensures)
 
 returns-7 : tie.Need-returns-7
 unfolding families
@@ -67,5 +67,5 @@ pub family-of-spec : {M : Type 1} → statement M
 family-of-spec =
     tie.close
     (tie.spec
-    (λ c. search needs) (λ c. search needs) (λ c. search needs) returns returns-2 returns-3 returns-4 returns-5
+    (λ c κs. search needs) (λ c. search needs) (λ c. search needs) (λ c. search needs) returns returns-2 returns-3 returns-4 returns-5
     returns-6 returns-7 returns-8 returns-9 returns-10 returns-11)

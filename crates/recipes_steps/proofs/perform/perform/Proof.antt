@@ -15,7 +15,7 @@ use Rattle.recipes_steps.proofs.perform.perform.Tie as tie
 
 is-announced : (c : tie.After-announced-of) →
     let start = c .before .before .before .before .before .before .before in
-    c .announced-of .result ≡ announced (familyOf (start .args .s)) (headerOf (start .args .xw)) (headerOf (start .args .yw))
+    c .announced-of .result ≡ announced (familyOf 0 (start .args .s)) (headerOf (start .args .xw)) (headerOf (start .args .yw))
 is-announced c =
     c .announced-of .ensures ∙ rw (
       c .before .family-of .ensures,

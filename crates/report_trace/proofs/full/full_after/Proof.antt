@@ -87,6 +87,9 @@ enum-told-7 c = search needs
 enum-told-8 : tie.Need-enum-told-8
 enum-told-8 c = search needs
 
+enum-told-9 : tie.Need-enum-told-9
+enum-told-9 c = search needs
+
 returns : tie.Need-returns
 unfolding fullAfter
 returns c = rw (c .enum-told .given .1)
@@ -131,6 +134,10 @@ returns-11 : tie.Need-returns-11
 unfolding fullAfter
 returns-11 c = rw (c .enum-told8 .given .1)
 
+returns-12 : tie.Need-returns-12
+unfolding fullAfter
+returns-12 c = rw (c .enum-told9 .given .1)
+
 pub full-after-spec : {M : Type 1} → statement M
 full-after-spec =
     tie.close
@@ -155,6 +162,7 @@ full-after-spec =
     substitution-full-requires
     enum-told-7
     enum-told-8
+    enum-told-9
     returns
     returns-2
     returns-3
@@ -165,4 +173,5 @@ full-after-spec =
     returns-8
     returns-9
     returns-10
-    returns-11)
+    returns-11
+    returns-12)

@@ -47,6 +47,10 @@ returns-11 : tie.Need-returns-11
 unfolding announced
 returns-11 c = rw (c .before .enum-told9 .given .1) (rw (c .before .enum-told9 .given .1) at (c .single-header5 .ensures))
 
+returns-12 : tie.Need-returns-12
+unfolding announced
+returns-12 c = rw (c .before .enum-told10 .given .1) (rw (c .before .enum-told10 .given .1) at (c .single-header6 .ensures))
+
 pub announced-of-spec : {M : Type 1} → statement M
 announced-of-spec =
     tie.close
@@ -55,5 +59,5 @@ announced-of-spec =
     (λ c κs. search needs) (λ c. search needs) (λ c κs. search needs) (λ c. search needs) (λ c κs. search needs)
     (λ c. search needs) (λ c κs. search needs) (λ c. search needs) (λ c κs. search needs) (λ c. search needs)
     (λ c κs. search needs) (λ c. search needs) (λ c κs. search needs) (λ c. search needs) (λ c κs. search needs)
-    (λ c. search needs) (λ c κs. search needs) returns returns-2 returns-3 returns-4 returns-5 returns-6 returns-7
-    returns-8 returns-9 returns-10 returns-11)
+    (λ c. search needs) (λ c κs. search needs) (λ c. search needs) (λ c κs. search needs) returns returns-2 returns-3 returns-4 returns-5 returns-6 returns-7
+    returns-8 returns-9 returns-10 returns-11 returns-12)

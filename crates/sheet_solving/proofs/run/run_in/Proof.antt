@@ -54,7 +54,7 @@ done-requires c κs =
     let start = c17 .before .before .before .before .before .before .before .before .before .before in
     ran-ruled (start .args .pool .now) (start .args .words .now) (start .args .scratch .now) (start .pre)
     (coefficients-read c17) (c9 .run-admitted .ensures .0) (c9 .run-admitted .ensures .1 .0)
-    (c9 .run-admitted .ensures .1 .1 .1 .0) (c9 .run-admitted .kept .1 .1 .1 .1 .0)
+    (c9 .run-admitted .ensures .1 .1 .1 .0) (c9 .run-admitted .kept .1 .1 .1 .1 .1 .0)
 
 returns : tie.Need-returns
 returns c = (
@@ -63,7 +63,7 @@ returns c = (
       let start = c18 .before .before .before .before .before .before .before .before .before .before in
       ran-done (start .args .pool .now) (start .args .words .now) (start .args .scratch .now) (start .pre)
       (coefficients-read c18) (c10 .run-admitted .ensures .0) (c10 .run-admitted .ensures .1 .0)
-      (c10 .run-admitted .ensures .1 .1 .1 .0) (c10 .run-admitted .kept .1 .1 .1 .1 .0) (c .done .ensures),
+      (c10 .run-admitted .ensures .1 .1 .1 .0) (c10 .run-admitted .kept .1 .1 .1 .1 .1 .0) (c .done .ensures),
   (search needs, (search needs, (search needs, search needs))),
 )
 

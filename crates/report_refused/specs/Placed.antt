@@ -1,0 +1,115 @@
+-- Where a sheet that is read is refused: at one of its steps, or at no place.
+use Prim.Native.Nat.{ℕ, _+_, _*_, _≤_, _<_}
+use mathlib.Core.Bool.{Bool, true, false, _&&_}
+use mathlib.Core.List.{List}
+use mathlib.Core.Path.{_≡_, refl, sym, ap, _∙_}
+use native.Mathlib.Omega.{arith}
+use lib.Dec.{leb}
+use lib.ListN.{length, getD, take}
+use lib.Ieee.{Float}
+use Rattle.lists.specs.Table.{table, table-at}
+use Rattle.model.specs.declared.Refusal.{Refusal}
+use Rattle.model.specs.Word.{goodWord}
+use Rattle.model.specs.Refusals.{askFor, ask, refusedBy, noRefusal, zeros}
+use Rattle.model_recipes.specs.Recipe.{inputHeads, announcedPlaces, announcedSteps, total, largest}
+use Rattle.model_recipes.specs.Check.{askAt, orElse, checkRefusal}
+use Rattle.model_recipes.specs.Run.{lentRefusal, runRefusal}
+use Rattle.model_texts.specs.Sheet.{inputCount, stepCount, sheetHeaders, sheetCoefficients, sheetSteps}
+use Rattle.model_texts.specs.Sheet.{ownRefusal, recipeRefusal, readRefusal, sheetRefusal}
+use Rattle.shape_words.specs.Faults.{not-both}
+use Rattle.recipes_check.specs.Asks.{or-first, or-next, by-refusal}
+use Rattle.recipes_laws.specs.StepReasons.{Stopped, step-stopped}
+use Rattle.recipes_laws.specs.Outcome.{GoodInputs, Outcome, by-sizes, at-input, at-step, not-refused, outcome}
+use Rattle.recipes_laws.specs.Exact.{known, length-known}
+use Rattle.sheet_reading.specs.Headers.{headerOn, good-at}
+use Rattle.sheet_solving.specs.Opened.{Opened, opened, headers-many, steps-many}
+use Rattle.sheet_reading.specs.Reading.{Read}
+use Rattle.sheet_solving.specs.Running.{Opening}
+use Rattle.sheet_solving.specs.Ended.{ranRefusal}
+
+-- k inputs, n steps
+pub record Placed (k n : ℕ) (r : Refusal) : Type 0 where
+  pub from : r .place < 64 → k ≤ r .place
+  pub to : r .place < 64 → r .place < k + n
+
+-- at no place
+nowhere : {k n : ℕ} {r : Refusal} → r .place ≡ 64 → Placed k n r
+nowhere e = record { from = λ l. absurd (omega (arith, e)); to = λ l. absurd (omega (arith, e)) }
+
+-- ---- the program's own limits, and lent memory
+
+asked : (b : Bool) (q next : Refusal) → q .place ≡ 64 → next .place ≡ 64 → askFor b q next .place ≡ 64
+asked true q next e f = f
+asked false q next e f = e
+
+own-nowhere : (b : Bool) → askAt b 5 64 noRefusal .place ≡ 64
+own-nowhere true = refl
+own-nowhere false = refl
+
+lent-nowhere : (hs ss : List ℕ) (c p w s : ℕ) → lentRefusal hs ss c p w s .place ≡ 64
+unfolding lentRefusal
+lent-nowhere hs ss c p w s =
+    let a : Bool = leb (total (inputHeads hs)) c in
+    let b : Bool = leb (total (announcedSteps hs ss)) p && leb (length ss) w in
+    let d : Bool = leb (8 * largest (announcedSteps hs ss)) s in
+    let third : Refusal = ask d 6 noRefusal in
+    let second : Refusal = ask b 5 third in
+    asked a (refusedBy 2) second refl (asked b (refusedBy 5) third refl (asked d (refusedBy 6) noRefusal refl refl))
+
+-- ---- the check, where every header is good
+
+check-placed : (hs ss : List ℕ) {r : Refusal} → Outcome hs ss r → GoodInputs hs (length hs) → Placed (length hs) (length ss) r
+check-placed hs ss (by-sizes x) g = nowhere refl
+check-placed hs ss (at-input i s l f b) g = absurd (not-both (goodWord (getD hs i 0)) (g i l) b)
+check-placed hs ss (at-step i r s f e l c n) g =
+    let t : Stopped (getD ss i 0) (known hs ss i) r = rw (← e) at (step-stopped (getD ss i 0) (known hs ss i) (rw e at n)) in
+    let p : r .place ≡ length hs + i = t .at ∙ length-known hs ss i l in
+    record { from = λ m. omega (arith, p); to = λ m. omega (arith, p) }
+check-placed hs ss (not-refused s f c) g = nowhere refl
+
+or-placed : {k n : ℕ} (a b : Refusal) → Placed k n a → Placed k n b → Placed k n (orElse a b)
+or-placed a b p q = by-refusal a (λ z. rw (or-next a b z) q) (λ z. rw (or-first {r = a} b z) p)
+
+recipe-placed : (hs : List ℕ) (cs : List Float) (ss : List ℕ) → GoodInputs hs (length hs) → Placed (length hs) (length ss) (recipeRefusal hs cs ss)
+unfolding recipeRefusal ownRefusal runRefusal
+recipe-placed hs cs ss g =
+    let c = check-placed hs ss (outcome hs ss) g in
+    let pool : List Float = zeros (total (announcedSteps hs ss)) in
+    let words : List ℕ = table (length ss) (λ k. 0) in
+    let scratch : List Float = zeros (8 * largest (announcedSteps hs ss)) in
+    or-placed (checkRefusal hs ss) (orElse (ownRefusal hs ss) (ranRefusal hs cs ss)) c
+    (or-placed (ownRefusal hs ss) (ranRefusal hs cs ss)
+    (nowhere (own-nowhere ((leb (largest (announcedPlaces hs ss)) 256 && leb (total (inputHeads hs)) 2048) && leb (total (announcedSteps hs ss)) 2048)))
+    (or-placed (checkRefusal hs ss) (lentRefusal hs ss (length cs) (length pool) (length words) (length scratch)) c
+    (nowhere (lent-nowhere hs ss (length cs) (length pool) (length words) (length scratch)))))
+
+-- ---- the sheet
+
+module _ (t : List ℕ) (z : readRefusal t .number ≡ 0) where
+  good-headers : GoodInputs (sheetHeaders t) (length (sheetHeaders t))
+  unfolding sheetHeaders
+  good-headers j l =
+      let o : Opened t = opened t z in
+      let m : j < inputCount t = omega (arith, headers-many t) in
+      let e : 0 + j ≡ j = omega arith in
+      rw (table-at 0 (headerOn t) (inputCount t) j m) (rw e at (good-at t (inputCount t) 0 (o .headers) j m))
+
+  pub sheet-placed : Placed (length (sheetHeaders t)) (stepCount t) (sheetRefusal t)
+  unfolding sheetRefusal
+  sheet-placed =
+      rw (or-next (readRefusal t) (recipeRefusal (sheetHeaders t) (sheetCoefficients t) (sheetSteps t)) z, ← steps-many t)
+      (recipe-placed (sheetHeaders t) (sheetCoefficients t) (sheetSteps t) good-headers)
+
+-- the headers that were read stand at the front of a buffer
+module _ {t old new : List ℕ} {q : Refusal} {n : ℕ} (d : Read t old new q) (z : q .number ≡ 0) (e : n ≡ inputCount t) where
+  pub read-none : readRefusal t .number ≡ 0
+  read-none = ap (λ (x : Refusal). x .number) (sym (d .answer)) ∙ z
+
+  pub read-few : n ≤ 16
+  read-few = omega (arith, e, opened t read-none .sizes .few)
+
+  pub read-opening : Opening t (take n new)
+  read-opening = record { read = read-none; headers = ap (λ (k : ℕ). take k new) e ∙ d .headers z }
+
+  pub read-placed : {r : Refusal} → r ≡ sheetRefusal t → Placed (length (take n new)) (stepCount t) r
+  read-placed {r} f = rw (read-opening .headers, f) (sheet-placed t read-none)
