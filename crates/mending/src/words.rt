@@ -8,7 +8,7 @@ ghost use Prim.Native.Nat.{_+_, _<_};
 ghost use Rattle.model_mending.specs.Words.{mendedOne, mendedHeader, ifUsed, mendedStep, mendedWord};
 
 // 2 to the number of spare bits of word one, and of an input header.
-const WORD_ONE: u64 = 281474976710656;
+const WORD_ONE: u64 = 17592186044416;
 
 const HEADER: u64 = 8192;
 

@@ -1,6 +1,7 @@
 -- Document 02, W14: a mended sheet has no fault left that mending is about. Reading it, as `recipe` does, finds nothing
--- to refuse: its lines, word one's sizes and zeros, its headers, and that nothing follows the last line; and of its
--- steps those of a kind that there is have zero in their spare bits and in every field that they do not use.
+-- to refuse, but for an edition that is not known: its lines, word one's sizes and zeros, its headers, and that nothing
+-- follows the last line; and of its steps those of a kind that there is have zero in their spare bits and in every
+-- field that they do not use.
 use Prim.Native.Nat.{ℕ, zero, suc, _+_, _-_, _/_, _%_, _^_, _<_}
 use mathlib.Core.Bool.{true}
 use mathlib.Core.List.{List}
@@ -14,8 +15,9 @@ use Rattle.model.specs.Word.{goodWord}
 use Rattle.model.specs.Refusals.{noRefusal}
 use Rattle.model_recipes.specs.Steps.{stepOf, spareOf, usesOf}
 use Rattle.model_recipes.specs.Recipe.{inputHeads, total}
-use Rattle.model_recipes.specs.Check.{rightSizes}
+use Rattle.model_recipes.specs.Check.{knownEdition, rightSizes}
 use Rattle.model_texts.specs.Sheet.{lined, wordOn, inputCount, stepCount, spare, sheetHeaders, coefficientCount, restCount, headersRefusal, readRefusal}
+use Rattle.model_texts.specs.Sheet.{sheetEdition}
 use Rattle.recipes_check.specs.Asks.{or-next}
 use Rattle.sheet_reading.specs.Reading.{Sized, sized, sizesTest, restRefusal, rest-none, after-sizes}
 use Rattle.model_mending.specs.Lines.{oldLined, oldWord}
@@ -24,7 +26,7 @@ use Rattle.model_mending.specs.Mended.{inputsIn, stepsIn, headerIn, headersIn, 
 use Rattle.mending.specs.Headers.{every-at}
 use Rattle.mending.specs.Words.{word-step}
 use Rattle.mending.specs.Reading.{opened}
-use Rattle.mending_laws.specs.Bits.{one-clear, step-keeps, step-clear}
+use Rattle.mending_laws.specs.Bits.{one-keeps, one-clear, step-keeps, step-clear}
 use Rattle.mending_laws.specs.Unchanged.{every-all}
 use Rattle.mending_laws.specs.Twice.{Fine, fine, line-of, lines, long, words, some, first, inputs-same, steps-same, header-new}
 
@@ -36,6 +38,10 @@ no-refusal t (suc n) i f g =
     let e : (j : ℕ) → i + suc j ≡ suc i + j = λ j. omega arith in
     rw (rw (add-zero i) at (f 0 (omega arith)), rw (add-zero i) at (g 0 (omega arith)))
     (no-refusal t n (suc i) (λ j l. rw (e j) at (f (suc j) (omega arith))) (λ j l. rw (e j) at (g (suc j) (omega arith))))
+
+-- what word one says
+abbrev pub editionIn : List ℕ → ℕ
+editionIn t = oldWord t 0 / 2 ^ wordOneSpare % 2 ^ 4
 
 module _ (t : List ℕ) (f : Fine t) where
   abbrev u : List ℕ
@@ -60,13 +66,11 @@ module _ (t : List ℕ) (f : Fine t) where
   unfolding spare
   one-zeros = ap (λ (w : ℕ). w % 2 ^ wordOneSpare) (one-is ∙ first t f) ∙ one-clear (oldWord t 0)
 
-  sizes-right : sizesTest u ≡ true
-  sizes-right =
-      let o = opened t (f .readable) in
-      rw (inputs-are, steps-are, and-right (oldLined t 0) (rightSizes (inputsIn t) (stepsIn t)) (o .sizes .test), one-zeros)
-
-  size : Sized u
-  size = sized u (lines t f 0 (some t f)) sizes-right
+  -- the edition is as it was
+  pub edition-kept : sheetEdition u ≡ editionIn t
+  unfolding sheetEdition
+  edition-kept =
+      ap (λ (w : ℕ). w / 2 ^ wordOneSpare % 2 ^ 4) (one-is ∙ first t f) ∙ ap (λ (w : ℕ). w % 2 ^ 4) (one-keeps (oldWord t 0))
 
   header-is : (i : ℕ) → i < inputsIn t → wordOn u (1 + i) ≡ headerIn t (1 + i)
   unfolding linesIn
@@ -102,10 +106,18 @@ module _ (t : List ℕ) (f : Fine t) where
   rest-right : noRefusal ≡ restRefusal u (restCount u) (1 + inputCount u)
   rest-right = rest-none u (restCount u) (1 + inputCount u) all-lined (omega (arith, long t f, lines-are))
 
-  pub no-fault : readRefusal u .number ≡ 0
-  no-fault =
-      let e : headersRefusal u (inputCount u) 0 .number ≡ 0 = ap (λ r. r .number) headers-right in
-      ap (λ r. r .number) (after-sizes u size ∙ (or-next (headersRefusal u (inputCount u) 0) _ e ∙ sym rest-right))
+  module _ (v : knownEdition (editionIn t) ≡ true) where
+    sizes-right : sizesTest u ≡ true
+    sizes-right =
+        let o = opened t (f .readable) in
+        let s = and-right (oldLined t 0) (rightSizes (inputsIn t) (stepsIn t)) (o .sizes .test) in
+        rw (edition-kept, v, inputs-are, steps-are, s, one-zeros)
+
+    pub no-fault : readRefusal u .number ≡ 0
+    no-fault =
+        let e : headersRefusal u (inputCount u) 0 .number ≡ 0 = ap (λ r. r .number) headers-right in
+        let s : Sized u = sized u (lines t f 0 (some t f)) sizes-right in
+        ap (λ r. r .number) (after-sizes u s ∙ (or-next (headersRefusal u (inputCount u) 0) _ e ∙ sym rest-right))
 
   -- the step on the line k
   module _ (k : ℕ) (l : inputsIn t + countIn t < k) (m : k < linesIn t) where
@@ -120,6 +132,6 @@ module _ (t : List ℕ) (f : Fine t) where
       pub used-alone : stepOf (wordOn u k) ≡ usedFields (usesOf (stepOf (oldWord t k) .kind)) (stepOf (oldWord t k))
       used-alone = ap stepOf step-is ∙ step-keeps (oldWord t k) e
 
--- read as `recipe` reads it, a mended sheet is not refused
-pub mended-reads : (t : List ℕ) → mendRefusal t .number ≡ 0 → readRefusal (mendedSheet t) .number ≡ 0
-mended-reads t e = no-fault t (fine t e)
+-- read as `recipe` reads it, a mended sheet of an edition that is known is not refused
+pub mended-reads : (t : List ℕ) → mendRefusal t .number ≡ 0 → knownEdition (editionIn t) ≡ true → readRefusal (mendedSheet t) .number ≡ 0
+mended-reads t e v = no-fault t (fine t e) v

@@ -21,10 +21,10 @@ use Rattle.model_recipes.specs.declared.Step.{Step}
 use Rattle.model_recipes.specs.declared.Uses.{Uses}
 use Rattle.model_recipes.specs.Steps.{stepOf, spareOf, usesOf}
 use Rattle.model_recipes.specs.Recipe.{announcedStep, inputHeads, announcedPlaces, announcedSteps, total, largest}
-use Rattle.model_recipes.specs.Check.{askAt, rightSizes, namedBefore, zeroUnless, formed, stepRefusal, stepsRefusal, checkRefusal}
+use Rattle.model_recipes.specs.Check.{askAt, knownEdition, rightSizes, namedBefore, zeroUnless, formed, stepRefusal, stepsRefusal, checkRefusal}
 use Rattle.model_texts.specs.Hex.{byteAt, isLine, wordAt}
 use Rattle.model_texts.specs.Sheet.{ownRefusal, lined, wordOn, inputCount, stepCount, spare, sheetHeaders, coefficientCount, sheetSteps, restCount}
-use Rattle.model_texts.specs.Sheet.{headersRefusal, readRefusal}
+use Rattle.model_texts.specs.Sheet.{headersRefusal, readRefusal, sheetEdition, sheetRecipe}
 use Rattle.shape_words.specs.Sound.{word-sound}
 use Rattle.recipes_check.specs.Asks.{or-none, ask-none, ask-for-none}
 use Rattle.recipes_check.specs.Judged.{accepts}
@@ -106,16 +106,16 @@ tested-fixed {w} {p} h e =
     let k : usedFields u s ≡ s = λ i. record { kind = s .kind; a = a i; b = b i; variable = v i; n = n i } in
     step-fixed w h (e .kind) k (eqb-true (spareOf w) 0 (e .spare))
 
-steps-fixed : (known : List Header) (ss : List ℕ) → stepsRefusal known ss .number ≡ 0 → (j : ℕ) → j < length ss → getD ss j 0 < 2 ^ 64
+steps-fixed : (v : ℕ) (known : List Header) (ss : List ℕ) → stepsRefusal v known ss .number ≡ 0 → (j : ℕ) → j < length ss → getD ss j 0 < 2 ^ 64
     → mendedStep (getD ss j 0) ≡ getD ss j 0
 unfolding stepsRefusal
-steps-fixed known [] e j l h = absurd (omega arith)
-steps-fixed known (w ∷ ss) e zero l h =
-    let a = or-none (stepRefusal w known) _ e in
-    tested-fixed h (formed-tests w (length known) (clear w known (a .0) .formed))
-steps-fixed known (w ∷ ss) e (suc j) l h =
-    let a = or-none (stepRefusal w known) (stepsRefusal (known ++ (announcedStep w known ∷ [])) ss) e in
-    steps-fixed (known ++ (announcedStep w known ∷ [])) ss (a .1) j (omega arith) h
+steps-fixed v known [] e j l h = absurd (omega arith)
+steps-fixed v known (w ∷ ss) e zero l h =
+    let a = or-none (stepRefusal v w known) _ e in
+    tested-fixed h (formed-tests w (length known) (clear v w known (a .0) .formed))
+steps-fixed v known (w ∷ ss) e (suc j) l h =
+    let a = or-none (stepRefusal v w known) (stepsRefusal v (known ++ (announcedStep v w known ∷ [])) ss) e in
+    steps-fixed v (known ++ (announcedStep v w known ∷ [])) ss (a .1) j (omega arith) h
 
 -- ---- the inputs are among the places
 
@@ -124,11 +124,11 @@ unfolding largest
 largest-front [] ys = omega arith
 largest-front (x ∷ xs) ys = let e = largest-front xs ys in omega arith
 
-chain-largest : (xs : List Header) (ws : List ℕ) → largest xs ≤ largest (chain announcedStep xs ws)
+chain-largest : (v : ℕ) (xs : List Header) (ws : List ℕ) → largest xs ≤ largest (chain (announcedStep v) xs ws)
 unfolding chain
-chain-largest xs [] = omega arith
-chain-largest xs (w ∷ ws) =
-    omega (arith, largest-front xs (announcedStep w xs ∷ []), chain-largest (xs ++ (announcedStep w xs ∷ [])) ws)
+chain-largest v xs [] = omega arith
+chain-largest v xs (w ∷ ws) =
+    omega (arith, largest-front xs (announcedStep v w xs ∷ []), chain-largest v (xs ++ (announcedStep v w xs ∷ [])) ws)
 
 -- ---- a sheet that passes
 module _ (t : List ℕ) (g : Passed t) where
@@ -193,9 +193,12 @@ module _ (t : List ℕ) (g : Passed t) where
   unfolding linesIn
   lines-are = rw (inputs-are, count-is, steps-are)
 
+  sizes-test : (rightSizes (inputCount t) (stepCount t) && eqb (spare t) 0) ≡ true
+  sizes-test = and-right (knownEdition (sheetEdition t)) _ (g .sizes .test)
+
   first-test : firstTest t ≡ true
   first-test =
-      rw (old-lined 0 (omega arith), inputs-are, steps-are) (and-left (rightSizes (inputCount t) (stepCount t)) (eqb (spare t) 0) (g .sizes .test))
+      rw (old-lined 0 (omega arith), inputs-are, steps-are) (and-left (rightSizes (inputCount t) (stepCount t)) (eqb (spare t) 0) sizes-test)
 
   headers-test : headersTest t ≡ true
   headers-test =
@@ -216,29 +219,29 @@ module _ (t : List ℕ) (g : Passed t) where
   unfolding isReadable
   readable = rw (first-test, headers-test, rest-test)
 
-  within : ownRefusal (sheetHeaders t) (sheetSteps t) .number ≡ 0 → isWithin t ≡ true
-  unfolding ownRefusal isWithin announcedPlaces coefficientCount
+  within : ownRefusal (sheetRecipe t) .number ≡ 0 → isWithin t ≡ true
+  unfolding ownRefusal isWithin announcedPlaces coefficientCount sheetRecipe
   within e =
       let hs = sheetHeaders t in
-      let ss = sheetSteps t in
-      let a : Bool = leb (largest (announcedPlaces hs ss)) 256 in
+      let it = sheetRecipe t in
+      let a : Bool = leb (largest (announcedPlaces it)) 256 in
       let b : Bool = leb (total (inputHeads hs)) 2048 in
-      let d = ask-none ((a && b) && leb (total (announcedSteps hs ss)) 2048) 64 noRefusal (λ z. omega (arith, z)) e .0 in
-      let f = and-left (a && b) (leb (total (announcedSteps hs ss)) 2048) d in
-      let m = leb-true (largest (announcedPlaces hs ss)) 256 (and-left a b f) in
-      let l : largest (inputHeads hs) ≤ 256 = omega (arith, m, chain-largest (inputHeads hs) ss) in
+      let d = ask-none ((a && b) && leb (total (announcedSteps it)) 2048) 64 noRefusal (λ z. omega (arith, z)) e .0 in
+      let f = and-left (a && b) (leb (total (announcedSteps it)) 2048) d in
+      let m = leb-true (largest (announcedPlaces it)) 256 (and-left a b f) in
+      let l : largest (inputHeads hs) ≤ 256 = omega (arith, m, chain-largest (it .edition) (inputHeads hs) (sheetSteps t)) in
       rw (headers-are, count-is, le-leb (largest (inputHeads hs)) 256 l) (and-right a b f)
 
   -- every word is mended already
-  module _ (c : checkRefusal (sheetHeaders t) (sheetSteps t) .number ≡ 0) where
+  module _ (c : checkRefusal (sheetRecipe t) .number ≡ 0) where
     step-is : (j : ℕ) → j < stepCount t
         → mendedStep (wordOn t (1 + inputCount t + coefficientCount t + j)) ≡ wordOn t (1 + inputCount t + coefficientCount t + j)
-    unfolding sheetSteps
+    unfolding sheetSteps sheetRecipe
     step-is j l =
         let f : ℕ → ℕ = λ i. wordOn t (1 + inputCount t + coefficientCount t + i) in
         let e : getD (table (stepCount t) f) j 0 ≡ f j = table-at 0 f (stepCount t) j l in
-        let s = accepts (sheetHeaders t) (sheetSteps t) c .steps in
-        rw e at (steps-fixed (inputHeads (sheetHeaders t)) (table (stepCount t) f) s j (omega (arith, length-table f (stepCount t)))
+        let s = accepts (sheetRecipe t) c .steps in
+        rw e at (steps-fixed (sheetEdition t) (inputHeads (sheetHeaders t)) (table (stepCount t) f) s j (omega (arith, length-table f (stepCount t)))
         (rw e (word-small t (17 * (1 + inputCount t + coefficientCount t + j)))))
 
     by-line : (k : ℕ) → k < lines → mendedWord (inputCount t) (coefficientCount t) k (wordOn t k) ≡ wordOn t k
@@ -248,7 +251,7 @@ module _ (t : List ℕ) (g : Passed t) where
         decide (eqb k 0)
         (λ a.
         let e = eqb-true k 0 a in
-        let z : wordOn t 0 % 2 ^ wordOneSpare ≡ 0 = eqb-true _ _ (and-right (rightSizes (inputCount t) (stepCount t)) _ (g .sizes .test)) in
+        let z : wordOn t 0 % 2 ^ wordOneSpare ≡ 0 = eqb-true _ _ (and-right (rightSizes (inputCount t) (stepCount t)) _ sizes-test) in
         sym (word-one (inputCount t) (coefficientCount t) k w e) ∙ one-fixed w (ap (λ (i : ℕ). wordOn t i % 2 ^ wordOneSpare) e ∙ z))
         (λ a.
         let z = eqb-false k 0 a in
@@ -275,11 +278,11 @@ module _ (t : List ℕ) (g : Passed t) where
     unfolding newWord
     fixed k l = rw (inputs-are, count-is, words k l) (by-line k l)
 
-    pub goes-through : ownRefusal (sheetHeaders t) (sheetSteps t) .number ≡ 0 → mendedText t ≡ t
+    pub goes-through : ownRefusal (sheetRecipe t) .number ≡ 0 → mendedText t ≡ t
     goes-through e =
         unchanged t (λ k l. line k (omega (arith, lines-are))) (omega (arith, long, lines-are)) (λ k l. fixed k (omega (arith, lines-are)))
         (fine-none t (record { readable = readable; within = within e }))
 
-pub passing-unchanged : (t : List ℕ) → readRefusal t .number ≡ 0 → checkRefusal (sheetHeaders t) (sheetSteps t) .number ≡ 0
-    → ownRefusal (sheetHeaders t) (sheetSteps t) .number ≡ 0 → mendedText t ≡ t
+pub passing-unchanged : (t : List ℕ) → readRefusal t .number ≡ 0 → checkRefusal (sheetRecipe t) .number ≡ 0
+    → ownRefusal (sheetRecipe t) .number ≡ 0 → mendedText t ≡ t
 passing-unchanged t r c o = goes-through t (passed t r) c o

@@ -10,7 +10,7 @@ use Rattle.model_recipes.specs.Steps.{stepOf, wordOfStep, usesOf}
 
 -- how many spare bits stand at the low end of word one and of an input header
 abbrev pub wordOneSpare : ℕ
-wordOneSpare = 48
+wordOneSpare = 44
 
 abbrev pub headerSpare : ℕ
 headerSpare = 13
