@@ -27,7 +27,7 @@ module _ (known : List Header) (ss : List ℕ) (inputs : ℕ) (fs : List ℕ) wh
   mixedNext ms =
       let p = length ms in
       let s = stepOf (stepWord ss inputs p) in
-      let f = familyOf s in
+      let f = familyOf 0 s in
       cond (ltb p inputs) 64
       (min (cond (mixes s) p 64)
       (min (cond (needsFirst f) (getD ms (s .a) 64) 64)

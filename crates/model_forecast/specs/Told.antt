@@ -12,7 +12,7 @@ use Rattle.model.specs.Refusals.{isNone}
 use Rattle.model_recipes.specs.Recipe.{announcedPlaces}
 use Rattle.model_texts.specs.Full.{fulls}
 use Rattle.model_texts.specs.Report.{joined, placeText, cutsText, endText, verdictText}
-use Rattle.model_texts.specs.Sheet.{sheetHeaders, sheetCoefficients, sheetSteps, sheetRefusal, lastValue}
+use Rattle.model_texts.specs.Sheet.{sheetHeaders, sheetCoefficients, sheetSteps, sheetRecipe, sheetRefusal, lastValue}
 use Rattle.model_figures.specs.Inputs.{inputsText}
 use Rattle.model_faults.specs.Fault.{faultReport}
 use Rattle.model_forecast.specs.declared.Asked.{Asked}

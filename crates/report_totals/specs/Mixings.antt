@@ -30,8 +30,8 @@ module _ (known : List Header) (ss : List ℕ) (inputs : ℕ) (fs : List ℕ) wh
     pub mixed-is : inputs ≤ length ms → {w : ℕ} {s : Step} {f g : Family} {n o x a y b r t : ℕ} {d i j : Bool}
         → w ≡ stepWord ss inputs (length ms) → s ≡ stepOf w → n ≡ fullAt fs (s .a) (s .variable)
         → d ≡ mixes known ss inputs fs s → o ≡ cond d (length ms) 64
-        → f ≡ familyOf s → i ≡ needsFirst f → x ≡ getD ms (s .a) 64 → a ≡ cond i x 64
-        → g ≡ familyOf s → j ≡ needsSecond g n → y ≡ getD ms (s .b) 64 → b ≡ cond j y 64
+        → f ≡ familyOf 0 s → i ≡ needsFirst f → x ≡ getD ms (s .a) 64 → a ≡ cond i x 64
+        → g ≡ familyOf 0 s → j ≡ needsSecond g n → y ≡ getD ms (s .b) 64 → b ≡ cond j y 64
         → t ≡ min a b → r ≡ min o t → r ≡ mixedNext known ss inputs fs ms
     unfolding mixedNext
     mixed-is h ew es en ed eo ef ei ex ea eg ej ey eb et er =

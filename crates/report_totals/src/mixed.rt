@@ -40,9 +40,9 @@ fn mixed_next(known: &[u64], steps: &[u64], inputs: usize, full: &[usize], found
     let s = step_of(step_word(steps, inputs, p));
     let rows = full_at(full, s.a, s.variable);
     let own = pick(mixes(known, steps, inputs, full, s), p, 64);
-    let first = pick(needs_first(family_of(s)), found_at(found, s.a, 64), 64);
+    let first = pick(needs_first(family_of(0, s)), found_at(found, s.a, 64), 64);
     let second = pick(
-        needs_second(family_of(s), rows),
+        needs_second(family_of(0, s), rows),
         found_at(found, s.b, 64),
         64,
     );
