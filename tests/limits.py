@@ -18,6 +18,7 @@ HEAD = (
     "Each place: what it is, its number of variables, and of each variable the\n"
     "limit/most it stores. Operands are places, v is a variable, n a number.\n"
 )
+EDITION = "Edition 1: a power of 0 is one with its operand's limits.\n"
 
 
 def unpack(w):
@@ -38,10 +39,10 @@ def fields(w):
     return w >> 60, w >> 54 & 63, w >> 48 & 63, w >> 46 & 3, w >> 14 & (2**32 - 1)
 
 
-def announce(w, known):
-    """What a step announces: limits and lengths."""
+def announce(w, known, edition):
+    """What a step announces in an edition: limits and lengths."""
     kind, a, b, v, n = fields(w)
-    if kind == 0 or kind == 6 and n == 0:
+    if kind == 0 or kind == 6 and n == 0 and edition == 0:
         return [], []
     al, an = known[a]
     if kind == 1:
@@ -346,7 +347,7 @@ def told(text, said, given=None):
     if said.startswith("refused"):
         return said + sentence(text.encode("latin-1"), *map(int, said.split()[1:]), announce)
     words = [int(l, 16) for l in text.split()]
-    inputs, count = words[0] >> 56, words[0] >> 48 & 255
+    inputs, count, edition = words[0] >> 56, words[0] >> 48 & 255, words[0] >> 44 & 15
     known, steps = [unpack(w) for w in words[1 : 1 + inputs]], words[-count:]
     heads, coefficients, at = known[:], [], 1 + inputs
     for _, lengths in heads:
@@ -356,7 +357,7 @@ def told(text, said, given=None):
         coefficients.append([floating("%016x" % w) for w in words[at : at + stored]])
         at += stored
     for w in steps:
-        known.append(announce(w, known))
+        known.append(announce(w, known, edition))
     answer = said.split("\n")[1:-1]
     xs = [floating(l) for l in answer[1:]]
     limits, verdict, wrong, whole = limits_text(inputs, steps, known)
@@ -365,7 +366,8 @@ def told(text, said, given=None):
     total = given if given is not None else 1.0 if isinstance(own, int) else own
     said = totals_text(steps, inputs, own, given, running(xs)[-1], whole, word >> 61 == 1)
     figures = figures_text(word, xs, total if good(total) else None)
-    return limits + inputs_text(heads, coefficients) + verdict + wrong + said + figures
+    first = EDITION if edition else ""
+    return first + limits + inputs_text(heads, coefficients) + verdict + wrong + said + figures
 
 
 def fault(rng):
@@ -404,7 +406,8 @@ def sheet(rng):
         lines[rng.randrange(inputs)] = fault(rng)
     if rng.random() < 0.03:
         steps[rng.randrange(count)] |= rng.choice([1, 1 << 63, 1 << 50])
-    words = [inputs << 56 | count << 48] + lines + [struct.unpack(">Q", struct.pack(">d", x))[0] for x in coefficients] + steps
+    edition = rng.choice([0, 0, 0, 1])
+    words = [inputs << 56 | count << 48 | edition << 44] + lines + [struct.unpack(">Q", struct.pack(">d", x))[0] for x in coefficients] + steps
     if rng.random() < 0.3:
         return damaged(rng, words, pack).decode("latin-1")
     return "".join("%016x\n" % w for w in words)

@@ -79,15 +79,17 @@ def broken(data):
 
 
 def word_one(word):
-    inputs, steps = word >> 56, word >> 48 & 255
+    inputs, steps, edition = word >> 56, word >> 48 & 255, word >> 44 & 15
+    if edition > 1:
+        return "word one has edition %d; write 0 or 1." % edition
     if inputs > 16:
         return "word one has %d inputs; 16 are the most." % inputs
     if steps == 0:
         return "word one has no step; write 1 or more."
     if inputs + steps > 64:
         return "word one has %d inputs and %d steps; 64 together are the most." % (inputs, steps)
-    assert word & 0xFFFFFFFFFFFF
-    return "word one's last 12 digits are not all zero; write zeros."
+    assert word & 0xFFFFFFFFFFF
+    return "word one's last 11 digits are not all zero; write zeros."
 
 
 def step_word(word, p):
@@ -125,7 +127,7 @@ def sentence(data, number, place, variable, cause, announce):
     steps = words[1 + inputs + given :]
     assert len(steps) == count
     for w in steps[: place - inputs if place < 64 else count]:
-        known.append(announce(w, known))
+        known.append(announce(w, known, words[0] >> 44 & 15))
     line = lambda p: "line %d (%s %d): " % ((p + 2, "input", p) if p < inputs else (given + p + 2, "place", p))
     if place == 64:
         counts = [product(n) for _, n in known]
@@ -146,7 +148,7 @@ def sentence(data, number, place, variable, cause, announce):
         said = "n is %d, not below %d, the limit of variable %d." % (n, known[a][0][v], v)
     else:
         assert number == 5
-        said = "it takes %d coefficients; 4096 are the most." % product(announce(word, known)[1])
+        said = "it takes %d coefficients; 4096 are the most." % product(announce(word, known, 0)[1])
     return line(place) + said + "\n"
 
 

@@ -1,8 +1,9 @@
 -- REFERENCE 9. What the program `limits` prints for a sheet: where it is refused what `recipe` prints and a sentence;
 -- else all that is said of limits, what was put in, the verdict, and then the total and the figures of the last value.
 use Prim.Native.Nat.{ℕ, _+_, _-_}
-use mathlib.Core.Bool.{cond}
+use mathlib.Core.Bool.{cond, not}
 use mathlib.Core.List.{List, _++_}
+use lib.Dec.{eqb}
 use lib.Ieee.{Float}
 use lib.ListN.{length}
 use Rattle.lists.specs.Bytes.{bytes}
@@ -11,8 +12,8 @@ use Rattle.model.specs.Word.{wordOf}
 use Rattle.model.specs.Refusals.{isNone}
 use Rattle.model_recipes.specs.Recipe.{announcedPlaces}
 use Rattle.model_texts.specs.Full.{fulls}
-use Rattle.model_texts.specs.Report.{joined, placeText, cutsText, endText, verdictText}
-use Rattle.model_texts.specs.Sheet.{sheetHeaders, sheetCoefficients, sheetSteps, sheetRecipe, sheetRefusal, lastValue}
+use Rattle.model_texts.specs.Report.{when, joined, placeText, cutsText, endText, verdictText}
+use Rattle.model_texts.specs.Sheet.{sheetEdition, sheetHeaders, sheetCoefficients, sheetSteps, sheetRecipe, sheetRefusal, lastValue}
 use Rattle.model_figures.specs.Inputs.{inputsText}
 use Rattle.model_faults.specs.Fault.{faultReport}
 use Rattle.model_forecast.specs.declared.Asked.{Asked}
@@ -43,6 +44,10 @@ module _ (known : List Header) (hs : List ℕ) (cs : List Float) (ss : List ℕ)
       ++ (verdictText known ss (length hs) fullLengths (placeCount - 1)
       ++ reckonedText known hs cs ss fullLengths w xs asked))
 
+-- the edition, said where it is not 0 (document 02, W7)
+unfoldable pub editionText : ℕ → List ℕ
+editionText e = when (not (eqb e 0)) (bytes "Edition 1: a power of 0 is one with its operand's limits.\n")
+
 -- t: the bytes of the sheet
 module _ (t : List ℕ) where
   abbrev pub sheetKnown : List Header
@@ -51,5 +56,6 @@ module _ (t : List ℕ) where
   unfoldable pub toldText : Asked → List ℕ
   toldText asked =
       cond (isNone (sheetRefusal t))
-      (forecastText sheetKnown (sheetHeaders t) (sheetCoefficients t) (sheetSteps t) (wordOf (lastValue t .head)) (lastValue t .coeffs) asked)
+      (editionText (sheetEdition t)
+      ++ forecastText sheetKnown (sheetHeaders t) (sheetCoefficients t) (sheetSteps t) (wordOf (lastValue t .head)) (lastValue t .coeffs) asked)
       (faultReport t)

@@ -1,6 +1,7 @@
 -- Whatever the sheet, what `limits` prints keeps to 80 columns and fits the 262,144 bytes that its program has.
 use Prim.Native.Nat.{ℕ, _+_, _-_, _*_, _≤_, _<_}
-use mathlib.Core.Bool.{true}
+use mathlib.Core.Bool.{true, not}
+use lib.Dec.{eqb}
 use mathlib.Core.List.{List, _++_}
 use mathlib.Core.Path.{_≡_, refl, sym, ap, _∙_}
 use native.Mathlib.Omega.{arith}
@@ -21,12 +22,12 @@ use Rattle.model_recipes.specs.Recipe.{Recipe, inputHeads, headAt, announcedPla
 use Rattle.model_recipes.specs.Run.{noValue, valueAt, values, stepValues}
 use Rattle.model_texts.specs.Full.{fulls}
 use Rattle.model_texts.specs.Report.{placeText, cutsText, endText, verdictText}
-use Rattle.model_texts.specs.Sheet.{inputCount, sheetCoefficients, sheetRecipe, wordOn}
+use Rattle.model_texts.specs.Sheet.{inputCount, sheetEdition, sheetCoefficients, sheetRecipe, wordOn}
 use Rattle.model_texts.specs.Sheet.{coefficientCount, ownRefusal, recipeRefusal, readRefusal, sheetRefusal, lastValue}
 use Rattle.model_texts.specs.Trace.{stepWord}
 use Rattle.model_forecast.specs.declared.Asked.{Asked}
 use Rattle.model_forecast.specs.Reckoned.{reckonedText}
-use Rattle.model_forecast.specs.Told.{limitLines, forecastText, toldText}
+use Rattle.model_forecast.specs.Told.{limitLines, editionText, forecastText, toldText}
 use Rattle.shape_words.specs.Words.{unpack-pack}
 use Rattle.shape.specs.Under.{count-under}
 use Rattle.shape.specs.Keeps.{Keeps}
@@ -38,7 +39,7 @@ use Rattle.sheet_solving.specs.Opened.{steps-many}
 use Rattle.sheet_solving.specs.Running.{passed, steps-largest}
 use Rattle.report_lines.specs.Puts.{Printed}
 use Rattle.report_lines.specs.Columns.{inColumns, columnAfter, columns-append}
-use Rattle.report_lines.specs.Columns.{Lines, written, lines-up, lines-then, lines-joined}
+use Rattle.report_lines.specs.Columns.{Lines, written, lines-up, lines-then, lines-if, lines-joined}
 use Rattle.report_lines.specs.Long.{Short, place-lines, cuts-lines, end-lines, verdict-lines}
 use Rattle.report_inputs.specs.Long.{inputs-lines}
 use Rattle.report_refused.specs.Long.{fault-length, fault-columns}
@@ -87,6 +88,11 @@ module _ (it : Recipe) (z : checkRefusal it .number ≡ 0) where
       (lines-joined (endText known (it .steps) (length (it .headers)) (n - 1)) 124 4
       (λ v k. end-lines known (it .steps) (length (it .headers)) g (n - 1) v (omega arith) k (check-ordered it z) (omega arith)))))))
       (omega arith)
+
+edition-lines : (e : ℕ) → Lines 80 (editionText e)
+unfolding editionText bytes inColumns columnAfter
+edition-lines e =
+    lines-if (not (eqb e 0)) (written 80 (bytes "Edition 1: a power of 0 is one with its operand's limits.\n") refl refl)
 
 -- ---- a sheet that is not refused
 
@@ -145,7 +151,8 @@ module _ (t : List ℕ) (z : sheetRefusal t .number ≡ 0) where
       kept-behind v (record { most = f .most; keeps = f .keeps }) in
       let m = kept-behind (limits-lines it (check-none t z) fs)
       (kept-behind (inputs-lines (it .headers) cs (accepts-it .sizes .few)) k) in
-      rw (told-done t asked z) (record { most = omega (arith, m .most); keeps = m .keeps })
+      let q = kept-behind (edition-lines (sheetEdition t)) m in
+      rw (told-done t asked z) (record { most = omega (arith, q .most); keeps = q .keeps })
 
 -- ---- the laws
 

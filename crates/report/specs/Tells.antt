@@ -19,7 +19,7 @@ use Rattle.model_faults.specs.Fault.{faultReport}
 use Rattle.model_figures.specs.Inputs.{inputsText}
 use Rattle.model_forecast.specs.declared.Asked.{Asked}
 use Rattle.model_forecast.specs.Reckoned.{reckonedText}
-use Rattle.model_forecast.specs.Told.{limitLines, placeCount, forecastText, sheetKnown, toldText}
+use Rattle.model_forecast.specs.Told.{limitLines, editionText, placeCount, forecastText, sheetKnown, toldText}
 use Rattle.sheet_solving.specs.declared.Solved.{Solved}
 use Rattle.sheet_solving.specs.Solves.{Solution}
 use Rattle.sheet_solving.specs.Opened.{headers-many, opened, opened-good}
@@ -39,7 +39,8 @@ module _ (t : List ℕ) where
 
   pub told-done : (asked : Asked) → sheetRefusal t .number ≡ 0
       → toldText t asked
-      ≡ forecastText (sheetKnown t) (sheetHeaders t) (sheetCoefficients t) (sheetSteps t) (wordOf (lastValue t .head)) (lastValue t .coeffs) asked
+      ≡ editionText (sheetEdition t)
+      ++ forecastText (sheetKnown t) (sheetHeaders t) (sheetCoefficients t) (sheetSteps t) (wordOf (lastValue t .head)) (lastValue t .coeffs) asked
   unfolding toldText
   told-done asked e = rw (eq-eqb (sheetRefusal t .number) 0 e)
 
@@ -64,13 +65,14 @@ module _ (t : List ℕ) where
   reckonedThen asked =
       reckonedText (sheetKnown t) (sheetHeaders t) (sheetCoefficients t) (sheetSteps t) full (wordOf (lastValue t .head)) (lastValue t .coeffs) asked
 
-  -- the line of the place p, what limits cut off it, and what decides the limit of the variable v of the answer stand
+  -- behind the edition the line of the place p, what limits cut off it, and what decides the limit of the variable v of the answer stand
   -- before what was put in, the verdict stands behind that, and then come the total and the figures
   pub record Told (asked : Asked) (p v : ℕ) : Type 0 where
     pub place : Within (placeText (sheetKnown t) (sheetSteps t) inputs p) limitsFirst
     pub cuts : Within (cutsText (sheetKnown t) (sheetSteps t) inputs full p) limitsFirst
     pub ends : Within (endText (sheetKnown t) (sheetSteps t) inputs (places - 1) v) limitsFirst
-    pub is : toldText t asked ≡ limitsFirst ++ (inputsText (sheetHeaders t) (sheetCoefficients t) ++ (verdictThen ++ reckonedThen asked))
+    pub is : toldText t asked ≡ editionText (sheetEdition t)
+        ++ (limitsFirst ++ (inputsText (sheetHeaders t) (sheetCoefficients t) ++ (verdictThen ++ reckonedThen asked)))
 
   pub limits-first : (asked : Asked) → sheetRefusal t .number ≡ 0 → (p v : ℕ) → p < places → v < 4 → Told asked p v
   unfolding limitsFirst verdictThen reckonedThen forecastText
@@ -144,7 +146,7 @@ module _ {t headers steps known : List ℕ} {pool : List Float} {s : Solved} (d 
 
     -- the forecast of the sheet, from what was solved
     pub told-solved : (asked : Asked) → toldText t asked
-        ≡ forecastText (map headerOf (take (s .inputs + s .steps) known)) (take (s .inputs) headers)
+        ≡ editionText (sheetEdition t) ++ forecastText (map headerOf (take (s .inputs + s .steps) known)) (take (s .inputs) headers)
         (coefficientsOf t (length (take (s .inputs) headers)) n) (take (s .steps) steps) (s .header)
         (take (s .from + s .count - s .from) (drop (s .from) pool)) asked
     told-solved asked =

@@ -6,16 +6,19 @@ use model_forecast::Asked;
 use recipes_check::total_of;
 use report_inputs::put_inputs;
 use report_lines::ends::put_verdict;
+use report_lines::put::put_if;
 use report_refused::put_refusal_report;
 use report_totals::put_reckoned;
 use report_trace::full::fulls;
+use sheet_reading::edition_of;
 use sheet_reading::fill_floats;
 use sheet_solving::solve;
 ghost use lib.ListN.{length};
 ghost use mathlib.Core.Path.{_≡_};
-ghost use mathlib.Core.List.{map};
+ghost use mathlib.Core.List.{map, _++_};
 ghost use Rattle.model.specs.Word.{headerOf};
-ghost use Rattle.model_forecast.specs.Told.{forecastText, toldText};
+ghost use Rattle.model_forecast.specs.Told.{editionText, forecastText, toldText};
+ghost use Rattle.model_texts.specs.Sheet.{sheetEdition};
 ghost use Rattle.report_lines.specs.Puts.{Puts, Printed};
 ghost use Rattle.report_totals.specs.Forecast.{Forecast};
 ghost use Rattle.report.specs.Tells.{coefficientsOf};
@@ -66,8 +69,20 @@ fn put_forecast(
     )
 }
 
-// The same with the inputs' coefficients read off the sheet, as many as `coefficients` has places; from the front of
-// `output`.
+// The edition, where it is not 0.
+fn put_edition(text: &[u8], output: &mut [u8]) -> usize
+    ensures { λ r. ⌜ Printed (editionText (sheetEdition (now (text .entry)))) (now (output .entry)) (now (output .exit)) r ⌝ }
+{
+    put_if(
+        edition_of(text) != 0,
+        b"Edition 1: a power of 0 is one with its operand's limits.\n",
+        0,
+        output,
+    )
+}
+
+// The same behind the edition, with the inputs' coefficients read off the sheet, as many as `coefficients` has places;
+// from the front of `output`.
 fn put_read(
     text: &[u8],
     known: &[u64],
@@ -81,11 +96,12 @@ fn put_read(
 ) -> usize
     requires { ⌜ Forecast (now headers) (length (now steps)) (length (now coefficients)) header (length (now xs)) ⌝ }
     ensures { λ r.
-        ⌜ Printed (forecastText (map headerOf (now (known .entry))) (now (headers .entry))
-        (coefficientsOf (now (text .entry)) (length (now (headers .entry))) (length (now (coefficients .entry))))
+        ⌜ Printed (editionText (sheetEdition (now (text .entry)))
+        ++ forecastText (map headerOf (now (known .entry))) (now (headers .entry)) (coefficientsOf (now (text .entry)) (length (now (headers .entry))) (length (now (coefficients .entry))))
         (now (steps .entry)) header (now (xs .entry)) asked) (now (output .entry)) (now (output .exit)) r ⌝ }
 {
     fill_floats(text, 1 + headers.len(), coefficients);
+    let first = put_edition(text, output);
     put_forecast(
         known,
         headers,
@@ -94,7 +110,7 @@ fn put_read(
         header,
         xs,
         asked,
-        0,
+        first,
         output,
     )
 }

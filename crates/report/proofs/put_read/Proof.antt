@@ -13,14 +13,15 @@ fill-floats-requires c κs =
 
 put-forecast-requires : tie.Need-put-forecast-requires
 put-forecast-requires c κs =
-    let c4 = c .before .before .before .before in
-    let c13 = c4 .before .before .before .before .before .before .before .before .before in
-    rw (c4 .fill-floats .ensures, length-table) (c13 .pre)
+    let c5 = c .before .before .before .before .before in
+    let c14 = c5 .before .before .before .before .before .before .before .before .before in
+    rw (c5 .fill-floats .ensures, length-table) (c14 .pre)
 
 returns : tie.Need-returns
 returns c =
-    let c7 = c .before .before .before .before .before .before .before in
-    rw (← c7 .fill-floats .ensures) (c .before .before .put-forecast .ensures [] _ (printed-none _))
+    let c5 = c .before .before .before .before .before in
+    let c8 = c5 .before .before .before in
+    rw (← c8 .fill-floats .ensures) (c .before .before .put-forecast .ensures _ _ (c5 .put-edition .ensures))
 
 pub put-read-spec : {M : Type 1} → statement M
 put-read-spec =
@@ -28,6 +29,7 @@ put-read-spec =
     (tie.spec
     (λ c. search needs)
     fill-floats-requires
+    (λ c κs. search needs)
     put-forecast-requires
     (λ c. search needs)
     (λ c. search needs)
