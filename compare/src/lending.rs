@@ -67,7 +67,8 @@ impl Lending {
         Lending { pool: exact.pool + 2, words: exact.words + 2, scratch: exact.scratch + 2, ..exact }
     }
 
-    /// The line of a stored case: sizes, and an edition below 2^32, packed into two words, then headers, coefficients, steps.
+    /// The line of a stored case: sizes, and an edition below 2^32, packed into two words, then headers, coefficients,
+    /// steps.
     pub fn text(&self) -> String {
         let r = &self.recipe;
         let [headers, coefficients, steps] = [r.headers.len(), r.coefficients.len(), r.steps.len()].map(|n| n as u64);

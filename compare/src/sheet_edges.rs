@@ -46,8 +46,8 @@ fn texts() -> Vec<Vec<u8>> {
     all
 }
 
-/// 7 of word one: sizes around their edges, every spare bit, every edition; also with nothing behind it, and with text that is no
-/// line.
+/// 7 of word one: sizes around their edges, every spare bit, every edition; also with nothing behind it, and with text
+/// that is no line.
 fn sizes() -> Vec<Vec<u8>> {
     let mut all: Vec<Vec<u8>> = recipe_edges::sizes().iter().map(sheet).collect();
     let recipe = holding(&[line(3, 3)], &[2.0, 3.0, 1.0], &[step(9, 0, 0, 0, 1)]);

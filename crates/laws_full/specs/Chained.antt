@@ -24,7 +24,8 @@ module _ (it : Recipe) where
 
   pub head-input : (p : ℕ) → p < length (it .headers) → head it p ≡ headerOf (getD (it .headers) p 0)
   unfolding announcedPlaces
-  head-input p l = chain-first (announcedStep (it .edition)) noHeader (inputHeads (it .headers)) (it .steps) p (omega (arith, many-heads)) ∙ head-at (it .headers) p
+  head-input p l = chain-first (announcedStep (it .edition)) noHeader (inputHeads (it .headers)) (it .steps) p (omega (arith, many-heads))
+      ∙ head-at (it .headers) p
 
   pub head-step : (p : ℕ) → length (it .headers) ≤ p → p < size it
       → head it p ≡ announcedStep (it .edition) (word it p) (take p (known it))

@@ -127,7 +127,8 @@ module _ (it : Recipe) (z : checkRefusal it .number ≡ 0) where
         let f = full-step (known it) (it .steps) (length (it .headers)) (size it) p w i l m in
         let r = operand-fits w m in
         let h : limit (head it p) w ≡ limit operand w =
-        ap (λ (x : Header). limit x w) (head-is Same (in-edition Same k (λ n e. let g : _≡_ {A = ℕ} 0 1 = cc in omega (arith, g)))) ∙ at-four (limit operand) w m in
+        ap (λ (x : Header). limit x w) (head-is Same (in-edition Same k (λ n e. let g : _≡_ {A = ℕ} 0 1 = cc in omega (arith, g))))
+        ∙ at-four (limit operand) w m in
         let s : full it p w ≡ counted (full it (step it p .a) w) = f .is ∙ rw (k, f .of-first b) in
         record { some = omega (arith, r .some); most = omega (arith, r .most) })
 
@@ -149,7 +150,8 @@ module _ (it : Recipe) (z : checkRefusal it .number ≡ 0) where
         let r = operand-fits w m in
         let x : ℕ = full it (step it p .a) w in
         let h : limit (head it p) w ≡ lessIn v n w (limit operand w) =
-        ap (λ (y : Header). limit y w) (head-is (Shift v n) (in-edition (Shift v n) k (λ n e. let g : _≡_ {A = ℕ} 0 1 = cc in omega (arith, g)))) ∙ at-four (λ w. lessIn v n w (limit operand w)) w m in
+        ap (λ (y : Header). limit y w) (head-is (Shift v n) (in-edition (Shift v n) k (λ n e. let g : _≡_ {A = ℕ} 0 1 = cc in omega (arith, g))))
+        ∙ at-four (λ w. lessIn v n w (limit operand w)) w m in
         let s : full it p w ≡ counted (cond (eqb w v) (shiftFull n x) x) = f .is ∙ rw (k, f .of-first b) in
         let q = shift-fits-at v n w x (r .some) (r .most) (good it z (step it p .a) w m .most) in
         record { some = rw s (q .0); most = rw (s, h) (q .1) })

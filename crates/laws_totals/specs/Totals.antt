@@ -195,7 +195,8 @@ module _ (it : Recipe) (xs : List Float) (cs : ℕ → ℕ → ℤ) where
 
   pub record Given : Type 0 where
     pub accepted : checkRefusal it .number ≡ 0
-    pub wholes : (i k : ℕ) → i < length (it .headers) → k < stored (inputHeader (it .headers) xs i) → Whole (getD (inputCoefficients (it .headers) xs i) k nan) (cs i k)
+    pub wholes : (i k : ℕ) → i < length (it .headers) → k < stored (inputHeader (it .headers) xs i)
+        → Whole (getD (inputCoefficients (it .headers) xs i) k nan) (cs i k)
     pub sizes : (i : ℕ) → i < length (it .headers) → sumN (λ k. natAbs (cs i k)) (stored (inputHeader (it .headers) xs i)) 0 ≤ 2 ^ 53
     pub totals : (p : ℕ) → p < size it → 64 ≤ barAt p → natAbs (totalOf (exactAt p)) ≤ 2 ^ 53
 
@@ -218,7 +219,8 @@ module _ (it : Recipe) (xs : List Float) (cs : ℕ → ℕ → ℤ) where
   unfolding amounts
   amount-step p i l =
       rw many-amounts at
-      (chain-step amountStep nan (table (length (it .headers)) (inputSum (it .headers) xs)) (it .steps) p (omega (arith, many-amounts)) (omega (arith, many-amounts)))
+      (chain-step amountStep nan (table (length (it .headers)) (inputSum (it .headers) xs)) (it .steps) p (omega (arith, many-amounts))
+      (omega (arith, many-amounts)))
 
   bar-step : (p : ℕ) → length (it .headers) ≤ p → p < size it → barAt p ≡ barStep (word it p) (take p (bars (it .headers) (it .steps)))
   unfolding bars
@@ -255,7 +257,8 @@ module _ (it : Recipe) (xs : List Float) (cs : ℕ → ℕ → ℤ) where
 
       -- an operand before the place, read off the places before it
       operand : (q : ℕ) → q < p → (64 ≤ barAt q → Fine (exactAt q) (amountAt q))
-          → 64 ≤ getD (take p (bars (it .headers) (it .steps))) q 64 → Fine (valueAt (take p (unlimited it cs)) q) (getD (take p (amounts (it .headers) xs (it .steps))) q nan)
+          → 64 ≤ getD (take p (bars (it .headers) (it .steps))) q 64
+          → Fine (valueAt (take p (unlimited it cs)) q) (getD (take p (amounts (it .headers) xs (it .steps))) q nan)
       operand q u f o =
           rw (getD-take p (unlimited it cs) q noValue u, getD-take p (amounts (it .headers) xs (it .steps)) q nan u)
           (f (rw (getD-take p (bars (it .headers) (it .steps)) q 64 u) at o))
@@ -271,7 +274,8 @@ module _ (it : Recipe) (xs : List Float) (cs : ℕ → ℕ → ℤ) where
           bar-step p i l
           ∙ ap (λ (n : ℕ). barOf s n (getD (take p (bars (it .headers) (it .steps))) (s .a) 64) (getD (take p (bars (it .headers) (it .steps))) (s .b) 64)) e
 
-      amount-is : amountAt p ≡ amountOf s (getD (take p (amounts (it .headers) xs (it .steps))) (s .a) nan) (getD (take p (amounts (it .headers) xs (it .steps))) (s .b) nan)
+      amount-is : amountAt p
+          ≡ amountOf s (getD (take p (amounts (it .headers) xs (it .steps))) (s .a) nan) (getD (take p (amounts (it .headers) xs (it .steps))) (s .b) nan)
       unfolding amountStep
       amount-is = amount-step p i l
 
@@ -303,6 +307,7 @@ module _ (it : Recipe) (xs : List Float) (cs : ℕ → ℕ → ℤ) where
     total-whole p l o = below (suc p) p (omega arith) l o .whole
 
     -- of the answer
-    pub answer-whole : 64 ≤ answerBar (it .headers) (it .steps) → Whole (answerAmount (it .headers) xs (it .steps)) (totalOf (exactAt (lastPlace (it .headers) (it .steps))))
+    pub answer-whole : 64 ≤ answerBar (it .headers) (it .steps)
+        → Whole (answerAmount (it .headers) xs (it .steps)) (totalOf (exactAt (lastPlace (it .headers) (it .steps))))
     unfolding answerBar answerAmount
     answer-whole o = total-whole (lastPlace (it .headers) (it .steps)) (omega (arith, accepts it (z .accepted) .sizes .some)) o

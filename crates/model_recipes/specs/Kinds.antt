@@ -1,6 +1,6 @@
--- REFERENCE 6.2. Document 01, 'Recipes', and document 02, W7: the table of kinds, a row each. What a kind is called, which fields of the
--- step word it uses, the family by which it announces, its operation on the operands' values, and that operation's own
--- gate.
+-- REFERENCE 6.2. Document 01, 'Recipes', and document 02, W7: the table of kinds, a row each. What a kind is called,
+-- which fields of the step word it uses, the family by which it announces, its operation on the operands' values, and
+-- that operation's own gate.
 use Prim.Native.Nat.{ℕ}
 use Prim.Native.String.{String}
 use mathlib.Core.List.{List, [], _∷_}
@@ -84,8 +84,8 @@ negateRow =
       gate = λ s a b n m. oneGate Same (wordOf (a .head)) (length (a .coeffs)) n;
     }
 
--- Document 02, W7: a power of zero, n, in edition 1 is one with the operand's limits and lengths of 1; in edition 0, the
--- source's, it has no variables.
+-- Document 02, W7: a power of zero, n, in edition 1 is one with the operand's limits and lengths of 1; in edition 0,
+-- the source's, it has no variables.
 abbrev pub idle : ℕ → ℕ → Bool
 idle e n = eqb e 1 && eqb n 0
 

@@ -56,7 +56,8 @@ pub data Reason (it : Recipe) : ℕ → ℕ → Type 0 where
   sizes : WrongSizes it → Reason it 64 7
   -- a header that breaks the rules: something is wrong with variable v of it, or with none, by the cause c
   input : (i v c : ℕ) → i < length (it .headers) → i < 64 → HeaderReason (getD (it .headers) i 0) v c → Reason it i 1
-  step : (i n : ℕ) → i < length (it .steps) → length (it .headers) + i < 64 → StepReason (it .edition) (getD (it .steps) i 0) (announcedPlaces (upTo it i)) n → Reason it (length (it .headers) + i) n
+  step : (i n : ℕ) → i < length (it .steps) → length (it .headers) + i < 64 → StepReason (it .edition) (getD (it .steps) i 0) (announcedPlaces (upTo it i)) n
+      → Reason it (length (it .headers) + i) n
 
 -- sizes come first, then the places in order
 abbrev pub turn : ℕ → ℕ

@@ -83,7 +83,8 @@ module _ {it : Recipe} {cs : List Float} {known : List ℕ} {mp ms : ℕ} (g : A
   pub last-start : {starts : List ℕ} → Placing (inputHeads (it .headers)) (announcedSteps it) starts
       → getD starts (length (it .headers) + length (it .steps) - 1) 0 ≡ total (take (length (it .steps) - 1) (announcedSteps it))
   last-start {starts} p =
-      let e : length (it .headers) + length (it .steps) - 1 ≡ length (inputHeads (it .headers)) + (length (it .steps) - 1) = omega (arith, length-map (it .headers) headerOf, run-some) in
+      let e : length (it .headers) + length (it .steps) - 1 ≡ length (inputHeads (it .headers)) + (length (it .steps) - 1) =
+      omega (arith, length-map (it .headers) headerOf, run-some) in
       ap (λ (x : ℕ). getD starts x 0) e ∙ p .steps (length (it .steps) - 1) (omega (arith, length-announced it, run-some))
 
   -- it needs no more scratch than the largest count asks for

@@ -40,7 +40,8 @@ use Rattle.recipes_laws.specs.EachKind.{by-kind}
 use Rattle.recipes_laws.specs.Follows.{length-inputs, follows-known}
 use Rattle.recipes_laws.specs.Ahead.{Clear, ahead-at, clear-at, ready-at, keeps-at, announced-at, length-announced, step-largest}
 use Rattle.recipes_laws.specs.Passed.{StepReady}
-use Rattle.recipes.specs.Standing.{valueIn, plain-fits, lyingAt, Named, StepIn, constant-value, Placing, total-more, At, at-lying, at-lies, at-later, at-new, input-at}
+use Rattle.recipes.specs.Standing.{valueIn, plain-fits, lyingAt, Named, StepIn, constant-value, Placing, total-more, At, at-lying, at-lies, at-later}
+use Rattle.recipes.specs.Standing.{at-new, input-at}
 
 -- ---- operands of a step that is right
 
@@ -136,7 +137,8 @@ pub record Running (it : Recipe) (cs : List Float) (old-known : List ℕ) (old-p
   pub written : (j : ℕ) → j < i → getD known (length (it .headers) + j) 0 ≡ wordOf (valueAt (values (upTo it i) cs) (length (it .headers) + j) .head)
   pub later : (q : ℕ) → length (it .headers) + i ≤ q → getD known q 0 ≡ getD old-known q 0
   pub placed : (j : ℕ) → j < length (it .steps) → getD starts (length (it .headers) + j) 0 ≡ total (take j (announcedSteps it))
-  pub stands : (q : ℕ) → q < length (it .headers) + i → At (ltb q (length (it .headers))) (getD starts q 0) cs (take at pool) (valueAt (values (upTo it i) cs) q)
+  pub stands : (q : ℕ) → q < length (it .headers) + i
+      → At (ltb q (length (it .headers))) (getD starts q 0) cs (take at pool) (valueAt (values (upTo it i) cs) q)
   pub lies : take at pool ≡ laid (take i (announcedSteps it)) (drop (length (it .headers)) (values (upTo it i) cs))
   pub rest : drop at pool ≡ drop at old-pool
 
@@ -155,7 +157,8 @@ module _ {it : Recipe} {cs : List Float} {old-known : List ℕ} {mp ms : ℕ} (g
 
   length-values : (i : ℕ) → i ≤ length (it .steps) → length (values (upTo it i) cs) ≡ k + i
   unfolding values
-  length-values i l = omega (arith, length-chain (stepValue (it .edition)) (inputValues (it .headers) cs) (take i (it .steps)), count-inputs, length-take-le i (it .steps) l)
+  length-values i l = omega
+      (arith, length-chain (stepValue (it .edition)) (inputValues (it .headers) cs) (take i (it .steps)), count-inputs, length-take-le i (it .steps) l)
 
   -- what the word of a place that has no value yet announces
   noted-at : (q : ℕ) → q < k + length (it .steps) → headerOf (getD old-known q 0) ≡ headAt (announcedPlaces it) q
@@ -169,7 +172,8 @@ module _ {it : Recipe} {cs : List Float} {old-known : List ℕ} {mp ms : ℕ} (g
       let e : take k (chain (announcedStep (it .edition)) (inputHeads (it .headers)) (it .steps)) ≡ inputHeads (it .headers) =
       chain-keeps (announcedStep (it .edition)) (inputHeads (it .headers)) (it .steps) k (omega (arith, length-map (it .headers) headerOf))
       ∙ take-all k (inputHeads (it .headers)) (omega (arith, length-map (it .headers) headerOf)) in
-      sym (getD-take k (chain (announcedStep (it .edition)) (inputHeads (it .headers)) (it .steps)) q noHeader l) ∙ (ap (λ (x : List Header). headAt x q) e ∙ input-head (it .headers) cs q)
+      sym (getD-take k (chain (announcedStep (it .edition)) (inputHeads (it .headers)) (it .steps)) q noHeader l)
+      ∙ (ap (λ (x : List Header). headAt x q) e ∙ input-head (it .headers) cs q)
 
   -- ---- at the beginning
   pub running-none : {starts : List ℕ} (pool : List Float) → Placing (inputHeads (it .headers)) (announcedSteps it) starts → 64 ≤ length starts

@@ -30,7 +30,8 @@ pub fn admit(
     known: &mut [u64],
 ) -> Refusal
     requires { ⌜ 64 ≤ length (now known) ⌝ }
-    ensures { λ r. ⌜ Admits (recipeOf edition (now (headers .entry)) (now (steps .entry))) coefficients pool words scratch (now (known .entry)) (now (known .exit)) r ⌝ }
+    ensures { λ r. ⌜ Admits (recipeOf edition (now (headers .entry)) (now (steps .entry))) coefficients pool words scratch (now (known .entry))
+        (now (known .exit)) r ⌝ }
 {
     let refusal = judge(headers, steps, edition, known);
     if refusal.number != 0 {
@@ -72,7 +73,8 @@ pub fn run_admitted(
     ensures words { λ _. ⌜ now (words .exit) ≡ map (λ v. wordOf (v .head))
         (stepValues (recipeOf edition (now (headers .entry)) (now (steps .entry))) (now (coefficients .entry)))
         ++ drop (length (now (steps .entry))) (now (words .entry)) ⌝ }
-    ensures cleared { λ _. ⌜ now (scratch .exit) ≡ cleared (largest (announcedSteps (recipeOf edition (now (headers .entry)) (now (steps .entry))))) (now (scratch .entry)) ⌝ }
+    ensures cleared { λ _. ⌜ now (scratch .exit)
+        ≡ cleared (largest (announcedSteps (recipeOf edition (now (headers .entry)) (now (steps .entry))))) (now (scratch .entry)) ⌝ }
     ensures last { λ r. ⌜ r ≡ total (take (length (now (steps .entry)) - 1) (announcedSteps (recipeOf edition (now (headers .entry)) (now (steps .entry))))) ⌝ }
     ensures spent { λ _. ⌜ length (now (known .exit)) ≡ length (now (known .entry)) ⌝ }
 {

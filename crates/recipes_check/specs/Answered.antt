@@ -40,7 +40,8 @@ passed {it} {old} {new} {r} j z =
       fit = a .sizes .fit;
       part =
           ap (λ (n : ℕ). map headerOf (take n (drop k new))) e
-          ∙ (ap (map headerOf) (sym (drop-take k (length (it .steps)) new)) ∙ (sym (drop-map headerOf k (take (k + length (it .steps)) new)) ∙ ap (drop k) (j .noted z)));
+          ∙ (ap (map headerOf) (sym (drop-take k (length (it .steps)) new))
+          ∙ (sym (drop-map headerOf k (take (k + length (it .steps)) new)) ∙ ap (drop k) (j .noted z)));
       steps = all-drop Regular noHeader none-regular k (places-known it (a .inputs));
       inputs = inputs-known (it .headers) (a .inputs);
     }

@@ -69,7 +69,8 @@ module _ (it : Recipe) where
     pub judged-inputs : (old : List ℕ) {r : Refusal} → r ≡ inputsRefusal 0 (it .headers) → (r .number ≡ 0 → ⊥) → Judged it old old r
     judged-inputs old {r} e z =
         record {
-          answer = sym (after-sizes ∙ (ap (λ (x : Refusal). orElse x (stepsRefusal (it .edition) (inputHeads (it .headers)) (it .steps))) (sym e) ∙ or-first _ z));
+          answer = sym (after-sizes
+              ∙ (ap (λ (x : Refusal). orElse x (stepsRefusal (it .edition) (inputHeads (it .headers)) (it .steps))) (sym e) ∙ or-first _ z));
           len = refl;
           noted = λ y. absurd (z y);
         }
@@ -109,7 +110,8 @@ pub record Accepts (it : Recipe) : Type 0 where
 pub accepts : (it : Recipe) → checkRefusal it .number ≡ 0 → Accepts it
 unfolding checkRefusal
 accepts it e =
-    let a = ask-none (knownEdition (it .edition) && rightSizes (length (it .headers)) (length (it .steps))) 64 (orElse (inputsRefusal 0 (it .headers)) (stepsRefusal (it .edition) (inputHeads (it .headers)) (it .steps))) (λ z. omega (arith, z)) e in
+    let a = ask-none (knownEdition (it .edition) && rightSizes (length (it .headers)) (length (it .steps))) 64
+    (orElse (inputsRefusal 0 (it .headers)) (stepsRefusal (it .edition) (inputHeads (it .headers)) (it .steps))) (λ z. omega (arith, z)) e in
     let b = or-none (inputsRefusal 0 (it .headers)) (stepsRefusal (it .edition) (inputHeads (it .headers)) (it .steps)) (a .1) in
     record { sizes = sizes it (a .0); inputs = b .0; steps = b .1 }
 

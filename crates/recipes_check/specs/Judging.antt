@@ -63,7 +63,8 @@ module _ {ed : ℕ} {ss : List ℕ} {start : List Header} {k : ℕ} {old new : L
     abbrev word : ℕ
     word = getD ss i 0
 
-    refusal-ahead : stepsRefusal ed start ss ≡ orElse (stepRefusal ed word so-far) (stepsRefusal ed (so-far ++ (announcedStep ed word so-far ∷ [])) (drop (suc i) ss))
+    refusal-ahead : stepsRefusal ed start ss
+        ≡ orElse (stepRefusal ed word so-far) (stepsRefusal ed (so-far ++ (announcedStep ed word so-far ∷ [])) (drop (suc i) ss))
     unfolding stepsRefusal
     refusal-ahead = j .left ∙ ap (stepsRefusal ed so-far) (drop-cons ss i 0 l)
 

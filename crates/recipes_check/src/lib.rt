@@ -52,7 +52,8 @@ pub fn note_inputs(headers: &[u64], known: &mut [u64])
 // follow them.
 fn steps_refusal(edition: u64, steps: &[u64], inputs: usize, known: &mut [u64]) -> Refusal
     requires { ⌜ Ready (now steps) inputs (now known) ⌝ }
-    ensures { λ r. ⌜ StepsJudged edition (now (steps .entry)) (map headerOf (take inputs (now (known .entry)))) inputs (now (known .entry)) (now (known .exit)) r ⌝ }
+    ensures { λ r. ⌜ StepsJudged edition (now (steps .entry)) (map headerOf (take inputs (now (known .entry)))) inputs (now (known .entry))
+        (now (known .exit)) r ⌝ }
 {
     let mut i = 0;
     while i < steps.len() {

@@ -1,4 +1,5 @@
--- The answers of a step's gate in the edition ed, by the tests that led to each. ws: the words that the places before the step announce.
+-- The answers of a step's gate in the edition ed, by the tests that led to each. ws: the words that the places before
+-- the step announce.
 use mathlib.Core.Bool.{Bool, true, false, _&&_, cond}
 use mathlib.Core.List.{List, map}
 use mathlib.Core.Path.{_≡_, sym, ap, _∙_}

@@ -112,16 +112,23 @@ chain-step s d xs n ss i e l = ap (λ (k : ℕ). getD (chain s xs ss) (k + i) d)
 module _ (it : Recipe) (i : ℕ) (l : i < length (it .steps)) where
   pub announced-at : headAt (announcedPlaces it) (length (it .headers) + i) ≡ announcedStep (it .edition) (getD (it .steps) i 0) (announcedPlaces (upTo it i))
   unfolding announcedPlaces
-  announced-at = chain-step (announcedStep (it .edition)) noHeader (inputHeads (it .headers)) (length (it .headers)) (it .steps) i (length-map (it .headers) headerOf) l
+  announced-at = chain-step (announcedStep (it .edition)) noHeader (inputHeads (it .headers)) (length (it .headers)) (it .steps) i
+      (length-map (it .headers) headerOf) l
 
   pub value-at : (cs : List Float) → valueAt (values it cs) (length (it .headers) + i) ≡ stepValue (it .edition) (getD (it .steps) i 0) (values (upTo it i) cs)
   unfolding values
-  value-at cs = chain-step (stepValue (it .edition)) noValue (inputValues (it .headers) cs) (length (it .headers)) (it .steps) i (length-inputs (it .headers) cs ∙ length-map (it .headers) headerOf) l
+  value-at cs = chain-step (stepValue (it .edition)) noValue (inputValues (it .headers) cs) (length (it .headers)) (it .steps) i
+      (length-inputs (it .headers) cs ∙ length-map (it .headers) headerOf) l
 
 pub length-announced : (it : Recipe) → length (announcedSteps it) ≡ length (it .steps)
 unfolding announcedSteps announcedPlaces
 length-announced it =
-    omega (arith, length-drop (length (it .headers)) (chain (announcedStep (it .edition)) (inputHeads (it .headers)) (it .steps)), length-chain (announcedStep (it .edition)) (inputHeads (it .headers)) (it .steps), length-map (it .headers) headerOf)
+    omega (
+      arith,
+      length-drop (length (it .headers)) (chain (announcedStep (it .edition)) (inputHeads (it .headers)) (it .steps)),
+      length-chain (announcedStep (it .edition)) (inputHeads (it .headers)) (it .steps),
+      length-map (it .headers) headerOf,
+    )
 
 below-largest : (known : List Header) (p : ℕ) → p < length known → stored (headAt known p) ≤ largest known
 unfolding largest
@@ -136,7 +143,8 @@ step-largest it i l =
     rw (← announced-at it i l, ← getD-drop (length (it .headers)) (announcedPlaces it) i noHeader)
     (below-largest (announcedSteps it) i (omega (arith, length-announced it)))
 
-not-refused-clear : {it : Recipe} {r : Refusal} → Outcome it r → r .number ≡ 0 → ClearSteps (it .edition) (inputHeads (it .headers)) (it .steps) (length (it .steps))
+not-refused-clear : {it : Recipe} {r : Refusal} → Outcome it r → r .number ≡ 0
+    → ClearSteps (it .edition) (inputHeads (it .headers)) (it .steps) (length (it .steps))
 not-refused-clear (by-sizes x) e = absurd (omega (arith, e))
 not-refused-clear (at-input i s l g b) e = absurd (omega (arith, e))
 not-refused-clear (at-step i r s g q l c n) e = absurd (n e)
@@ -164,9 +172,11 @@ module _ (it : Recipe) (cs : List Float) {m : ℕ} (none : checkRefusal it .numb
     clear-at = clear (it .edition) (getD (it .steps) i 0) (announcedPlaces (upTo it i)) (ahead .clear i l)
 
     -- the next step has all that its operation asks for
-    pub ready-at : StepReady (it .edition) (getD (it .steps) i 0) (values (upTo it i) cs) (stored (announcedStep (it .edition) (getD (it .steps) i 0) (announcedPlaces (upTo it i)))) m
+    pub ready-at : StepReady (it .edition) (getD (it .steps) i 0) (values (upTo it i) cs)
+        (stored (announcedStep (it .edition) (getD (it .steps) i 0) (announcedPlaces (upTo it i)))) m
     unfolding announcedPlaces
     ready-at = step-ready (it .edition) (getD (it .steps) i 0) (ahead-at i .now) clear-at (omega arith) (ahead .room i l)
 
-    pub keeps-at : Keeps (announcedStep (it .edition) (getD (it .steps) i 0) (announcedPlaces (upTo it i))) (stepValue (it .edition) (getD (it .steps) i 0) (values (upTo it i) cs))
+    pub keeps-at : Keeps (announcedStep (it .edition) (getD (it .steps) i 0) (announcedPlaces (upTo it i)))
+        (stepValue (it .edition) (getD (it .steps) i 0) (values (upTo it i) cs))
     keeps-at = step-keeps (it .edition) (getD (it .steps) i 0) (ahead-at i .now)

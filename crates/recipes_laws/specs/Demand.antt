@@ -42,7 +42,8 @@ pub record AsAnnounced (h : Header) (v : Poly) : Type 0 where
   pub rules : goodHeader (v .head) ≡ true
   pub full : length (v .coeffs) ≡ stored (v .head)
 
--- the value v of the step s in the edition ed at the place p is its operation's of its operands' values, by its kind; they stand at
+-- the value v of the step s in the edition ed at the place p is its operation's of its operands' values, by its kind;
+-- they stand at
 -- earlier places
 pub record Computed (ed : ℕ) (s : Step) (p : ℕ) (value : ℕ → Poly) (v : Poly) : Type 0 where
   pub kinds : s .kind ≤ 10

@@ -65,11 +65,17 @@ module _ (it : Recipe) where
   known i = chain (announcedStep (it .edition)) (inputHeads (it .headers)) (take i (it .steps))
 
   pub length-known : (i : ℕ) → i < length (it .steps) → length (known i) ≡ length (it .headers) + i
-  length-known i l = omega (arith, length-chain (announcedStep (it .edition)) (inputHeads (it .headers)) (take i (it .steps)), length-take-le i (it .steps) (omega arith), length-map (it .headers) headerOf)
+  length-known i l = omega (
+    arith,
+    length-chain (announcedStep (it .edition)) (inputHeads (it .headers)) (take i (it .steps)),
+    length-take-le i (it .steps) (omega arith),
+    length-map (it .headers) headerOf,
+  )
 
   -- ---- not refused: no reason
 
-  none : Sizes it → GoodInputs (it .headers) (length (it .headers)) → ClearSteps (it .edition) (inputHeads (it .headers)) (it .steps) (length (it .steps)) → {p n : ℕ} → Reason it p n → ⊥
+  none : Sizes it → GoodInputs (it .headers) (length (it .headers)) → ClearSteps (it .edition) (inputHeads (it .headers)) (it .steps) (length (it .steps))
+      → {p n : ℕ} → Reason it p n → ⊥
   unfolding announcedPlaces
   none s g c (sizes x) = sizes-right s x
   none s g c (input i v d l m b) = good-none _ (g i l) b
@@ -107,7 +113,8 @@ module _ (it : Recipe) where
         (decide (ltb j i) (λ t. absurd (good-none _ (g j (ltb-true j i t)) b)) (λ t. omega (arith, ltb-false j i t)))
     input-first i g l (step j n k m x) = rw (turn-place (length (it .headers) + j) m) (omega arith)
 
-    first-input : (i : ℕ) → i < length (it .headers) → GoodInputs (it .headers) i → goodWord (getD (it .headers) i 0) ≡ false → FirstReason it (badWord (getD (it .headers) i 0) i)
+    first-input : (i : ℕ) → i < length (it .headers) → GoodInputs (it .headers) i → goodWord (getD (it .headers) i 0) ≡ false
+        → FirstReason it (badWord (getD (it .headers) i 0) i)
     first-input i l g b =
         let m : i < 64 = omega (arith, s .few) in
         let f = bad-first (getD (it .headers) i 0) b in
@@ -121,7 +128,8 @@ module _ (it : Recipe) where
 
     -- ---- refused at a step
 
-    module _ (g : GoodInputs (it .headers) (length (it .headers))) (i : ℕ) (l : i < length (it .steps)) (c : ClearSteps (it .edition) (inputHeads (it .headers)) (it .steps) i) where
+    module _ (g : GoodInputs (it .headers) (length (it .headers))) (i : ℕ) (l : i < length (it .steps))
+        (c : ClearSteps (it .edition) (inputHeads (it .headers)) (it .steps) i) where
       few : length (it .headers) + i < 64
       few = omega (arith, s .fit)
 
@@ -131,7 +139,8 @@ module _ (it : Recipe) where
       step-first (input j v d k m b) = absurd (good-none _ (g j k) b)
       step-first (step j n k m x) =
           rw (turn-place (length (it .headers) + j) m)
-          (decide (ltb j i) (λ t. absurd (step-clear (it .edition) (getD (it .steps) j 0) (known j) (c j (ltb-true j i t)) n x)) (λ t. omega (arith, ltb-false j i t)))
+          (decide (ltb j i) (λ t. absurd (step-clear (it .edition) (getD (it .steps) j 0) (known j) (c j (ltb-true j i t)) n x))
+          (λ t. omega (arith, ltb-false j i t)))
 
       -- a reason at its place is the step's
       its-own : {p n : ℕ} → Reason it p n → p ≡ length (it .headers) + i → StepReason (it .edition) (getD (it .steps) i 0) (known i) n
@@ -143,7 +152,8 @@ module _ (it : Recipe) where
       first-step : {r : Refusal} → r ≡ refusalOf (it .edition) (inputHeads (it .headers)) (it .steps) i → (r .number ≡ 0 → ⊥) → FirstReason it r
       unfolding announcedPlaces
       first-step {r} e n =
-          let t : Stopped (it .edition) (getD (it .steps) i 0) (known i) r = rw (← e) at (step-stopped (it .edition) (getD (it .steps) i 0) (known i) (rw e at n)) in
+          let t : Stopped (it .edition) (getD (it .steps) i 0) (known i) r =
+          rw (← e) at (step-stopped (it .edition) (getD (it .steps) i 0) (known i) (rw e at n)) in
           let at : r .place ≡ length (it .headers) + i = t .at ∙ length-known i l in
           record {
             reason = rw at (step i (r .number) l few (t .reason));

@@ -59,7 +59,8 @@ ClearSteps ed known ws n = (j : ℕ) → j < n → refusalOf ed known ws j .numb
 
 data StepsOutcome (ed : ℕ) (known : List Header) (ws : List ℕ) : Refusal → Type 0 where
   all-clear : ClearSteps ed known ws (length ws) → StepsOutcome ed known ws noRefusal
-  one-refused : (i : ℕ) (r : Refusal) → r ≡ refusalOf ed known ws i → i < length ws → ClearSteps ed known ws i → (r .number ≡ 0 → ⊥) → StepsOutcome ed known ws r
+  one-refused : (i : ℕ) (r : Refusal) → r ≡ refusalOf ed known ws i → i < length ws → ClearSteps ed known ws i → (r .number ≡ 0 → ⊥)
+      → StepsOutcome ed known ws r
 
 module _ (ed : ℕ) (known : List Header) (w : ℕ) (ws : List ℕ) where
   abbrev longer : List Header
@@ -103,21 +104,29 @@ module _ (it : Recipe) where
 
   pub data Outcome : Refusal → Type 0 where
     by-sizes : WrongSizes it → Outcome (refusedAt 7 64)
-    at-input : (i : ℕ) → Sizes it → i < length (it .headers) → GoodInputs (it .headers) i → goodWord (getD (it .headers) i 0) ≡ false → Outcome (badWord (getD (it .headers) i 0) i)
-    at-step : (i : ℕ) (r : Refusal) → Sizes it → GoodInputs (it .headers) (length (it .headers)) → r ≡ refusalOf (it .edition) (inputHeads (it .headers)) (it .steps) i
+    at-input : (i : ℕ) → Sizes it → i < length (it .headers) → GoodInputs (it .headers) i → goodWord (getD (it .headers) i 0) ≡ false
+        → Outcome (badWord (getD (it .headers) i 0) i)
+    at-step : (i : ℕ) (r : Refusal) → Sizes it → GoodInputs (it .headers) (length (it .headers)) → r
+        ≡ refusalOf (it .edition) (inputHeads (it .headers)) (it .steps) i
         → i < length (it .steps) → ClearSteps (it .edition) (inputHeads (it .headers)) (it .steps) i
         → (r .number ≡ 0 → ⊥) → Outcome r
-    not-refused : Sizes it → GoodInputs (it .headers) (length (it .headers)) → ClearSteps (it .edition) (inputHeads (it .headers)) (it .steps) (length (it .steps)) → Outcome noRefusal
+    not-refused : Sizes it → GoodInputs (it .headers) (length (it .headers))
+        → ClearSteps (it .edition) (inputHeads (it .headers)) (it .steps) (length (it .steps)) → Outcome noRefusal
 
-  after-inputs : Sizes it → GoodInputs (it .headers) (length (it .headers)) → {r : Refusal} → StepsOutcome (it .edition) (inputHeads (it .headers)) (it .steps) r → Outcome r
+  after-inputs : Sizes it → GoodInputs (it .headers) (length (it .headers)) → {r : Refusal}
+      → StepsOutcome (it .edition) (inputHeads (it .headers)) (it .steps) r → Outcome r
   after-inputs s g (all-clear h) = not-refused s g h
   after-inputs s g (one-refused i r e l h n) = at-step i r s g e l h n
 
-  after-sizes : Sizes it → {r : Refusal} → InputsOutcome 0 (it .headers) r → Outcome (orElse r (stepsRefusal (it .edition) (inputHeads (it .headers)) (it .steps)))
-  after-sizes s (all-good h) = rw (or-next noRefusal (stepsRefusal (it .edition) (inputHeads (it .headers)) (it .steps)) refl) (after-inputs s h (steps-outcome (it .edition) (inputHeads (it .headers)) (it .steps)))
+  after-sizes : Sizes it → {r : Refusal} → InputsOutcome 0 (it .headers) r
+      → Outcome (orElse r (stepsRefusal (it .edition) (inputHeads (it .headers)) (it .steps)))
+  after-sizes s (all-good h) =
+      rw (or-next noRefusal (stepsRefusal (it .edition) (inputHeads (it .headers)) (it .steps)) refl)
+      (after-inputs s h (steps-outcome (it .edition) (inputHeads (it .headers)) (it .steps)))
   after-sizes s (one-bad i q e l h b) =
       let f : q ≡ i = omega (arith, e) in
-      rw (f, or-first {r = badWord (getD (it .headers) i 0) i} (stepsRefusal (it .edition) (inputHeads (it .headers)) (it .steps)) (λ z. omega (arith, z))) (at-input i s l h b)
+      rw (f, or-first {r = badWord (getD (it .headers) i 0) i} (stepsRefusal (it .edition) (inputHeads (it .headers)) (it .steps)) (λ z. omega (arith, z)))
+      (at-input i s l h b)
 
   pub outcome : Outcome (checkRefusal it)
   unfolding checkRefusal

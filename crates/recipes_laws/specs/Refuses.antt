@@ -35,7 +35,8 @@ outcome-small : {it : Recipe} {r : Refusal} → Outcome it r → Small 7 64 r
 outcome-small (by-sizes x) = at-small 7 64 (omega arith) (omega arith)
 outcome-small {it} (at-input i s l g b) = word-small (getD (it .headers) i 0) i (omega arith) (omega (arith, s .few))
 outcome-small {it} (at-step i r s g e l c n) =
-    let t : Stopped (it .edition) (getD (it .steps) i 0) (known it i) r = rw (← e) at (step-stopped (it .edition) (getD (it .steps) i 0) (known it i) (rw e at n)) in
+    let t : Stopped (it .edition) (getD (it .steps) i 0) (known it i) r =
+    rw (← e) at (step-stopped (it .edition) (getD (it .steps) i 0) (known it i) (rw e at n)) in
     record {
       number = reason-small (t .reason);
       place = omega (arith, t .at, length-known it i l, s .fit);

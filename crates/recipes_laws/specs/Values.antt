@@ -32,17 +32,21 @@ module _ (it : Recipe) (cs : List Float) {m : ℕ} (none : checkRefusal it .numb
   earlier : (i : ℕ) → i < length (it .steps) → (q : ℕ) → q < length (it .headers) + i → valueAt (values (upTo it i) cs) q ≡ valueAt (values it cs) q
   unfolding values
   earlier i l q h =
-      let e : take (length (it .headers) + i) (chain (stepValue (it .edition)) (inputValues (it .headers) cs) (it .steps)) ≡ chain (stepValue (it .edition)) (inputValues (it .headers) cs) (take i (it .steps)) =
-      ap (λ (k : ℕ). take (k + i) (chain (stepValue (it .edition)) (inputValues (it .headers) cs) (it .steps))) (sym count-inputs) ∙ chain-take (stepValue (it .edition)) (inputValues (it .headers) cs) (it .steps) i (omega arith) in
+      let e : take (length (it .headers) + i) (chain (stepValue (it .edition)) (inputValues (it .headers) cs) (it .steps))
+      ≡ chain (stepValue (it .edition)) (inputValues (it .headers) cs) (take i (it .steps)) =
+      ap (λ (k : ℕ). take (k + i) (chain (stepValue (it .edition)) (inputValues (it .headers) cs) (it .steps))) (sym count-inputs)
+      ∙ chain-take (stepValue (it .edition)) (inputValues (it .headers) cs) (it .steps) i (omega arith) in
       ap (λ (x : List Poly). valueAt x q) (sym e) ∙ getD-take (length (it .headers) + i) (values it cs) q noValue h
 
   pub step-computed : (i : ℕ) → i < length (it .steps)
-      → Computed (it .edition) (stepOf (getD (it .steps) i 0)) (length (it .headers) + i) (valueAt (values it cs)) (valueAt (values it cs) (length (it .headers) + i))
+      → Computed (it .edition) (stepOf (getD (it .steps) i 0)) (length (it .headers) + i) (valueAt (values it cs))
+      (valueAt (values it cs) (length (it .headers) + i))
   unfolding announcedPlaces
   step-computed i l =
       let c = clear-at it cs none full room i l in
       rw (value-at it i l cs)
-      (computed (it .edition) (getD (it .steps) i 0) (length (it .headers) + i) (values (upTo it i) cs) (values it cs) (rw (length-known it i l) at (c .formed)) (earlier i l))
+      (computed (it .edition) (getD (it .steps) i 0) (length (it .headers) + i) (values (upTo it i) cs) (values it cs)
+      (rw (length-known it i l) at (c .formed)) (earlier i l))
 
   pub inputs-first : take (length (it .headers)) (values it cs) ≡ inputValues (it .headers) cs
   unfolding values

@@ -4,7 +4,8 @@
 //
 // A case is words of 16 hex digits, each with one byte behind it. The first says, from its low end: how many headers (8
 // bits), coefficients (16) and steps (8) there are, and how many words are lent (8); the second how many places of pool
-// (16) and of scratch (16) are lent, and the edition (32). Then come the headers, the coefficients, the steps. Every lent buffer is full of a
+// (16) and of scratch (16) are lent, and the edition (32). Then come the headers, the coefficients, the steps. Every
+// lent buffer is full of a
 // sentinel.
 // No contract can say what is read or printed; the functions that do neither (alike.rt, and `sheet`'s that read words)
 // say what they answer.

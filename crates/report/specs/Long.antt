@@ -83,8 +83,10 @@ module _ (it : Recipe) (z : checkRefusal it .number ≡ 0) where
       lines-up
       (lines-then (heads .0)
       (lines-then (heads .1)
-      (lines-then (lines-joined (placeText known (it .steps) (length (it .headers))) 79 n (λ p l. place-lines known (it .steps) (length (it .headers)) g p (omega arith) (λ i. short p i l)))
-      (lines-then (lines-joined (cutsText known (it .steps) (length (it .headers)) fs) 796 n (λ p l. cuts-lines known (it .steps) (length (it .headers)) g fs p (omega arith)))
+      (lines-then (lines-joined (placeText known (it .steps) (length (it .headers))) 79 n
+      (λ p l. place-lines known (it .steps) (length (it .headers)) g p (omega arith) (λ i. short p i l)))
+      (lines-then (lines-joined (cutsText known (it .steps) (length (it .headers)) fs) 796 n
+      (λ p l. cuts-lines known (it .steps) (length (it .headers)) g fs p (omega arith)))
       (lines-joined (endText known (it .steps) (length (it .headers)) (n - 1)) 124 4
       (λ v k. end-lines known (it .steps) (length (it .headers)) g (n - 1) v (omega arith) k (check-ordered it z) (omega arith)))))))
       (omega arith)
@@ -128,7 +130,8 @@ module _ (t : List ℕ) (z : sheetRefusal t .number ≡ 0) where
   unfolding lastValue stepValues sheetRecipe
   keep =
       let e : valueAt (values it cs) (length (it .headers) + last) ≡ lastValue t =
-      sym (getD-drop (length (it .headers)) (values it cs) last noValue) ∙ ap (λ (n : ℕ). getD (drop (length (it .headers)) (values it cs)) (n - 1) noValue) (steps-many t) in
+      sym (getD-drop (length (it .headers)) (values it cs) last noValue)
+      ∙ ap (λ (n : ℕ). getD (drop (length (it .headers)) (values it cs)) (n - 1) noValue) (steps-many t) in
       rw e at (follows-all it cs {m = 8 * largest (announcedSteps it)} (check-none t z) full (omega arith) .keeps (length (it .headers) + last))
 
   last-few : stored (headerOf (wordOf (lastValue t .head))) ≤ 256
@@ -145,7 +148,8 @@ module _ (t : List ℕ) (z : sheetRefusal t .number ≡ 0) where
   done-kept asked =
       let w = wordOf (lastValue t .head) in
       let f = reckoned-lines (announcedPlaces it) (it .headers) cs (it .steps) fs w (lastValue t .coeffs) asked last-few in
-      let v = verdict-lines (announcedPlaces it) (it .steps) (length (it .headers)) (places-known it (accepts-it .inputs)) fs (length (it .headers) + length (it .steps) - 1) in
+      let v = verdict-lines (announcedPlaces it) (it .steps) (length (it .headers)) (places-known it (accepts-it .inputs)) fs
+      (length (it .headers) + length (it .steps) - 1) in
       let k : Kept 95480 (verdictText (announcedPlaces it) (it .steps) (length (it .headers)) fs (length (it .headers) + length (it .steps) - 1)
       ++ reckonedText (announcedPlaces it) (it .headers) cs (it .steps) fs w (lastValue t .coeffs) asked) =
       kept-behind v (record { most = f .most; keeps = f .keeps }) in

@@ -63,11 +63,13 @@ module _ (it : Recipe) (z : checkRefusal it .number ≡ 0) where
   known-early i x l h =
       let e : length (inputHeads (it .headers)) ≡ length (it .headers) = length-map (it .headers) headerOf in
       ap (λ (k : List Header). headAt k x) (sym (chain-take (announcedStep (it .edition)) (inputHeads (it .headers)) (it .steps) i (omega arith)))
-      ∙ getD-take (length (inputHeads (it .headers)) + i) (chain (announcedStep (it .edition)) (inputHeads (it .headers)) (it .steps)) x noHeader (omega (arith, e))
+      ∙ getD-take (length (inputHeads (it .headers)) + i) (chain (announcedStep (it .edition)) (inputHeads (it .headers)) (it .steps)) x noHeader
+      (omega (arith, e))
 
   -- and its limit is its operand's, less n
   step-lowers : (v i : ℕ) → v < 4 → i < length (it .steps) → shiftsIn v (getD (it .steps) i 0) ≡ true
-      → limitAt (announcedPlaces it) v (stepOf (getD (it .steps) i 0) .a) ≡ limitAt (announcedPlaces it) v (length (it .headers) + i) + stepOf (getD (it .steps) i 0) .n
+      → limitAt (announcedPlaces it) v (stepOf (getD (it .steps) i 0) .a)
+      ≡ limitAt (announcedPlaces it) v (length (it .headers) + i) + stepOf (getD (it .steps) i 0) .n
   unfolding shiftsIn announcedStep
   step-lowers v i k l y =
       let w : ℕ = getD (it .steps) i 0 in

@@ -65,7 +65,8 @@ module _ (t : List ℕ) where
   reckonedThen asked =
       reckonedText (sheetKnown t) (sheetHeaders t) (sheetCoefficients t) (sheetSteps t) full (wordOf (lastValue t .head)) (lastValue t .coeffs) asked
 
-  -- behind the edition the line of the place p, what limits cut off it, and what decides the limit of the variable v of the answer stand
+  -- behind the edition the line of the place p, what limits cut off it, and what decides the limit of the variable v of
+  -- the answer stand
   -- before what was put in, the verdict stands behind that, and then come the total and the figures
   pub record Told (asked : Asked) (p v : ℕ) : Type 0 where
     pub place : Within (placeText (sheetKnown t) (sheetSteps t) inputs p) limitsFirst
@@ -84,7 +85,8 @@ module _ (t : List ℕ) where
         is = told-done asked e;
       }
 
--- what is said of limits, and the verdict, know no coefficient: sheets with equal editions, headers and steps have the same
+-- what is said of limits, and the verdict, know no coefficient: sheets with equal editions, headers and steps have the
+-- same
 pub words-decide : (t u : List ℕ) → sheetEdition t ≡ sheetEdition u → sheetHeaders t ≡ sheetHeaders u → sheetSteps t ≡ sheetSteps u
     → (limitsFirst t ≡ limitsFirst u) × (verdictThen t ≡ verdictThen u)
 unfolding limitsFirst verdictThen sheetRecipe

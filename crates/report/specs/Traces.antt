@@ -51,7 +51,8 @@ module _ (it : Recipe) (z : checkRefusal it .number ≡ 0) where
 
   -- n of a shift is below a limit
   pub shift-below : (i : ℕ) → i < length (it .steps) → Shifts (getD (it .steps) i 0)
-      → stepOf (getD (it .steps) i 0) .n < limit (headAt (announcedPlaces (upTo it i)) (stepOf (getD (it .steps) i 0) .a)) (stepOf (getD (it .steps) i 0) .variable)
+      → stepOf (getD (it .steps) i 0) .n < limit (headAt (announcedPlaces (upTo it i)) (stepOf (getD (it .steps) i 0) .a))
+      (stepOf (getD (it .steps) i 0) .variable)
   shift-below i l s =
       let w : ℕ = getD (it .steps) i 0 in
       let most = limit (headAt (announcedPlaces (upTo it i)) (stepOf w .a)) (stepOf w .variable) in

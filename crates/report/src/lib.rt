@@ -97,7 +97,8 @@ fn put_read(
     requires { ⌜ Forecast (now headers) (length (now steps)) (length (now coefficients)) header (length (now xs)) ⌝ }
     ensures { λ r.
         ⌜ Printed (editionText (sheetEdition (now (text .entry)))
-        ++ forecastText (map headerOf (now (known .entry))) (now (headers .entry)) (coefficientsOf (now (text .entry)) (length (now (headers .entry))) (length (now (coefficients .entry))))
+        ++ forecastText (map headerOf (now (known .entry))) (now (headers .entry))
+        (coefficientsOf (now (text .entry)) (length (now (headers .entry))) (length (now (coefficients .entry))))
         (now (steps .entry)) header (now (xs .entry)) asked) (now (output .entry)) (now (output .exit)) r ⌝ }
 {
     fill_floats(text, 1 + headers.len(), coefficients);
@@ -115,7 +116,8 @@ fn put_read(
     )
 }
 
-// What is printed for a sheet, by what the program's arguments ask for, as far as `output` reaches; answers how long it is.
+// What is printed for a sheet, by what the program's arguments ask for, as far as `output` reaches; answers how long it
+// is.
 pub fn answer(text: &[u8], asked: Asked, output: &mut [u8]) -> usize
     ensures { λ r. ⌜ Printed (toldText (now (text .entry)) asked) (now (output .entry)) (now (output .exit)) r ⌝ }
 {

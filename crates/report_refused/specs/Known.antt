@@ -52,7 +52,8 @@ module _ {t hs ss : List ℕ} {ed : ℕ} (ws : List ℕ) (o : Opening t hs ed) (
       let e : p ≡ length (inputHeads hs) + (p - length hs) = omega (arith, length-map hs headerOf) in
       front-heads ws p
       ∙ (ap (take p) ew
-      ∙ (ap (λ (q : ℕ). take q (chain (announcedStep ed) (inputHeads hs) ss)) e ∙ chain-take (announcedStep ed) (inputHeads hs) ss (p - length hs) (omega arith)))
+      ∙ (ap (λ (q : ℕ). take q (chain (announcedStep ed) (inputHeads hs) ss)) e
+      ∙ chain-take (announcedStep ed) (inputHeads hs) ss (p - length hs) (omega arith)))
 
   pub known-is : {r : Refusal} {c : ℕ} → Placed (length hs) (length ss) r → c ≡ total (map headerOf hs) → knownFault r (length hs) c ss ws ≡ recipeFault t r
   unfolding knownFault recipeFault placeFault sheetRecipe

@@ -17,7 +17,8 @@ use Rattle.model_recipes.specs.Recipe.{recipeOf, announcedStep, inputHeads, ann
 use Rattle.model_texts.specs.Cause.{causeText}
 use Rattle.model_texts.specs.Hex.{isDigit, byteAt}
 use Rattle.model_texts.specs.Printed.{refusedWord, space, decimal, refusedText}
-use Rattle.model_texts.specs.Sheet.{lined, inputCount, stepCount, restCount, coefficientCount, sheetHeaders, sheetEdition, sheetSteps, sheetRecipe, readRefusal, sheetRefusal}
+use Rattle.model_texts.specs.Sheet.{lined, inputCount, stepCount, restCount, coefficientCount, sheetHeaders, sheetEdition, sheetSteps, sheetRecipe}
+use Rattle.model_texts.specs.Sheet.{readRefusal, sheetRefusal}
 use Rattle.model_texts.specs.Trace.{stepWord}
 use Rattle.model_faults.specs.Saying.{firstNot}
 use Rattle.model_faults.specs.Broken.{isCapital, isBlank, isShown, byteText, noDigitText, noNewlineText, shortText, byteFault, askedText, endedText}
@@ -185,7 +186,8 @@ module _ (t : List ℕ) where
       (λ b.
       rw b
       (fits-either (eqb (r .number) 7)
-      (fits-up (fits-then (piece 8 (bytes "line 1: ") refl) (word-one-fits (sheetEdition t) (inputCount t) (stepCount t) _ (edition-small t) (count-small t) (step-small t)))
+      (fits-up (fits-then (piece 8 (bytes "line 1: ") refl)
+      (word-one-fits (sheetEdition t) (inputCount t) (stepCount t) _ (edition-small t) (count-small t) (step-small t)))
       (omega arith) (omega arith))
       (fits-up
       (fits-then (where-piece (2 + r .place) (inputCount t) (r .place) (three (2 + r .place) (omega (arith, s .place)))

@@ -58,11 +58,13 @@ lent-nowhere it c p w s =
 
 -- ---- the check, where every header is good
 
-check-placed : (it : Recipe) {r : Refusal} → Outcome it r → GoodInputs (it .headers) (length (it .headers)) → Placed (length (it .headers)) (length (it .steps)) r
+check-placed : (it : Recipe) {r : Refusal} → Outcome it r → GoodInputs (it .headers) (length (it .headers))
+    → Placed (length (it .headers)) (length (it .steps)) r
 check-placed it (by-sizes x) g = nowhere refl
 check-placed it (at-input i s l f b) g = absurd (not-both (goodWord (getD (it .headers) i 0)) (g i l) b)
 check-placed it (at-step i r s f e l c n) g =
-    let t : Stopped (it .edition) (getD (it .steps) i 0) (known it i) r = rw (← e) at (step-stopped (it .edition) (getD (it .steps) i 0) (known it i) (rw e at n)) in
+    let t : Stopped (it .edition) (getD (it .steps) i 0) (known it i) r =
+    rw (← e) at (step-stopped (it .edition) (getD (it .steps) i 0) (known it i) (rw e at n)) in
     let p : r .place ≡ length (it .headers) + i = t .at ∙ length-known it i l in
     record { from = λ m. omega (arith, p); to = λ m. omega (arith, p) }
 check-placed it (not-refused s f c) g = nowhere refl
@@ -70,7 +72,8 @@ check-placed it (not-refused s f c) g = nowhere refl
 or-placed : {k n : ℕ} (a b : Refusal) → Placed k n a → Placed k n b → Placed k n (orElse a b)
 or-placed a b p q = by-refusal a (λ z. rw (or-next a b z) q) (λ z. rw (or-first {r = a} b z) p)
 
-recipe-placed : (it : Recipe) (cs : List Float) → GoodInputs (it .headers) (length (it .headers)) → Placed (length (it .headers)) (length (it .steps)) (recipeRefusal it cs)
+recipe-placed : (it : Recipe) (cs : List Float) → GoodInputs (it .headers) (length (it .headers))
+    → Placed (length (it .headers)) (length (it .steps)) (recipeRefusal it cs)
 unfolding recipeRefusal ownRefusal runRefusal
 recipe-placed it cs g =
     let c = check-placed it (outcome it) g in

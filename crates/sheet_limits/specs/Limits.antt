@@ -56,7 +56,8 @@ pub inputs-first : (it : Recipe) → take (length (it .headers)) (announcedPlace
 unfolding announcedPlaces
 inputs-first it =
     let e : length (it .headers) ≡ length (inputHeads (it .headers)) = sym (length-map (it .headers) headerOf) in
-    chain-keeps (announcedStep (it .edition)) (inputHeads (it .headers)) (it .steps) (length (it .headers)) (omega arith) ∙ take-all (length (it .headers)) (inputHeads (it .headers)) (omega arith)
+    chain-keeps (announcedStep (it .edition)) (inputHeads (it .headers)) (it .steps) (length (it .headers)) (omega arith)
+    ∙ take-all (length (it .headers)) (inputHeads (it .headers)) (omega arith)
 
 pub within-is : (ws : List ℕ) (k : ℕ) {a b c : ℕ} → a ≡ largest (map headerOf ws) → b ≡ total (map headerOf (take k ws))
     → c ≡ total (map headerOf (take (length ws - k) (drop k ws))) → ((leb a 256 && leb b 2048) && leb c 2048) ≡ withinLimits k (map headerOf ws)
@@ -88,11 +89,13 @@ module _ (it : Recipe) (old new : List ℕ) {r : Refusal} (j : Judged it old new
     unfolding announcedSteps
     test e = e ∙ rw (j .noted z, inputs-first it)
 
-    pub own-5 : {b : Bool} → b ≡ withinLimits (length (it .headers)) (heads (length (it .headers) + length (it .steps)) new) → b ≡ false → OwnJudged it old new (refusedBy 5)
+    pub own-5 : {b : Bool} → b ≡ withinLimits (length (it .headers)) (heads (length (it .headers) + length (it .steps)) new) → b ≡ false
+        → OwnJudged it old new (refusedBy 5)
     unfolding ownRefusal
     own-5 e f =
         record { answer = sym (or-next _ _ none ∙ rw (sym (test e) ∙ f)); len = j .len; noted = λ y. absurd (omega (arith, y)) }
 
-    pub own-none : {b : Bool} → b ≡ withinLimits (length (it .headers)) (heads (length (it .headers) + length (it .steps)) new) → b ≡ true → OwnJudged it old new noRefusal
+    pub own-none : {b : Bool} → b ≡ withinLimits (length (it .headers)) (heads (length (it .headers) + length (it .steps)) new) → b ≡ true
+        → OwnJudged it old new noRefusal
     unfolding ownRefusal
     own-none e f = record { answer = sym (or-next _ _ none ∙ rw (sym (test e) ∙ f)); len = j .len; noted = λ _. j .noted z }

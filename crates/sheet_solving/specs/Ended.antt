@@ -97,7 +97,8 @@ module _ {t hs : List ℕ} {ed : ℕ} (o : Opening t hs ed) where
       (or-assoc (checkRefusal (recipeOf ed hs ss)) (ownRefusal (recipeOf ed hs ss)) (ranRefusal (recipeOf ed hs ss) (sheetCoefficients t))))
 
   -- judged, and refused
-  pub judged-refused : {ss old new : List ℕ} {r : Refusal} → ss ≡ sheetSteps t → OwnJudged (recipeOf ed hs ss) old new r → (r .number ≡ 0 → ⊥) → r ≡ sheetRefusal t
+  pub judged-refused : {ss old new : List ℕ} {r : Refusal} → ss ≡ sheetSteps t → OwnJudged (recipeOf ed hs ss) old new r → (r .number ≡ 0 → ⊥) → r
+      ≡ sheetRefusal t
   judged-refused {ss} {old} {new} {r} es j z =
       sym (opening-refusal es ∙ (ap (λ (x : Refusal). orElse x (ranRefusal (recipeOf ed hs ss) (sheetCoefficients t))) (sym (j .answer)) ∙ or-first _ z))
 

@@ -185,7 +185,8 @@ module _ {t : List ℕ} {it : Recipe} {known : List ℕ} {c : ℕ} (pool : List 
       ran-last : LastAt t ps (getD ws (length (it .steps) - 1) 0) f (stored (headerOf (getD ws (length (it .steps) - 1) 0)))
       ran-last =
           let p = in-passed in
-          let l : most ≤ largest (announcedSteps it) = rw (announced-at it (length (it .steps) - 1) last-in) (step-largest it (length (it .steps) - 1) last-in) in
+          let l : most ≤ largest (announcedSteps it) =
+          rw (announced-at it (length (it .steps) - 1) last-in) (step-largest it (length (it .steps) - 1) last-in) in
           record {
             header = word-is;
             count = count-is;
@@ -196,5 +197,6 @@ module _ {t : List ℕ} {it : Recipe} {known : List ℕ} {c : ℕ} (pool : List 
             coefficients = coefficients-are;
           }
 
-      pub ran-done : {s : Solved} → s ≡ solvedBy (length (it .headers)) (length (it .steps)) (getD ws (length (it .steps) - 1) 0) f → Ends t (it .headers) (it .steps) ps s
+      pub ran-done : {s : Solved} → s ≡ solvedBy (length (it .headers)) (length (it .steps)) (getD ws (length (it .steps) - 1) 0) f
+          → Ends t (it .headers) (it .steps) ps s
       ran-done e = rw e (record { refusal = ran-none; none = refl; done = λ z. record { inputs = refl; steps = refl; last = ran-last } })

@@ -102,7 +102,8 @@ module _ {t : List ℕ} {it : Recipe} {known : List ℕ} {c : ℕ} (r : Running 
   unfolding announcedPlaces
   running-many =
       sym (length-map known headerOf) ∙ (ap length (r .places)
-      ∙ (length-chain (announcedStep (it .edition)) (inputHeads (it .headers)) (it .steps) ∙ ap (λ (n : ℕ). n + length (it .steps)) (length-map (it .headers) headerOf)))
+      ∙ (length-chain (announcedStep (it .edition)) (inputHeads (it .headers)) (it .steps)
+      ∙ ap (λ (n : ℕ). n + length (it .steps)) (length-map (it .headers) headerOf)))
 
   pub running-fit : length known ≤ 64
   running-fit = omega (arith, running-many, running-passed .accepts .sizes .fit)
@@ -115,7 +116,8 @@ module _ {t : List ℕ} {it : Recipe} {known : List ℕ} {c : ℕ} (r : Running 
       → RunningIn t it new m p w s
   running-in old {new} e l em ep ew es =
       let rest : List ℕ = drop (length known) old in
-      let front : take (length (it .headers) + length (it .steps)) new ≡ known = rw e (take-at known rest (length (it .headers) + length (it .steps)) running-many) in
+      let front : take (length (it .headers) + length (it .steps)) new ≡ known =
+      rw e (take-at known rest (length (it .headers) + length (it .steps)) running-many) in
       record {
         opened = r .opened;
         steps = r .steps;

@@ -379,7 +379,8 @@ pub extern "C" fn taylor_subst_var(
     word_of(substitution::subst_var(ah, a, bh, b, v as usize, out, scratch))
 }
 
-// Whether a recipe of an edition can be run, from words alone: the pool total, the largest announced step count and the input
+// Whether a recipe of an edition can be run, from words alone: the pool total, the largest announced step count and the
+// input
 // coefficient total; refusals 1, 3, 4, 5, 7.
 #[no_mangle]
 pub extern "C" fn taylor_check(
@@ -402,7 +403,8 @@ pub extern "C" fn taylor_check(
     )
 }
 
-// The steps of a recipe of an edition, their values end to end in the pool and their header words in `words`: refusals 1 to 7; 0 when
+// The steps of a recipe of an edition, their values end to end in the pool and their header words in `words`: refusals
+// 1 to 7; 0 when
 // done.
 #[no_mangle]
 pub extern "C" fn taylor_run(

@@ -10,7 +10,8 @@ use Rattle.recipes.proofs.check.Tie as tie
 abbrev start : tie.Else1 → tie.Start
 start c = c .before .before .before .before .before .before .before
 
-pass : (c : tie.Else1) → Passed (recipeOf (start c .args .edition) (start c .args .headers .now) (start c .args .steps .now)) (c .before .before .before .judge .last .1 .1 .1 .0)
+pass : (c : tie.Else1)
+    → Passed (recipeOf (start c .args .edition) (start c .args .headers .now) (start c .args .steps .now)) (c .before .before .before .judge .last .1 .1 .1 .0)
 pass c = passed (c .before .before .before .judge .ensures) (c .if1 .left)
 
 noted-len : (c : tie.Else1) → length (c .before .before .before .judge .last .1 .1 .1 .0) ≡ 64

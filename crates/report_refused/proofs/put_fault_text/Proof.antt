@@ -48,7 +48,8 @@ returns-2 : tie.Need-returns-2
 returns-2 c =
     let c7 = c .before .before .before .before .before .before .before in
     let start = c7 .before .before .before .before .before .before .before in
-    rw (said-recipe _ (start .pre .0) (start .pre .1) (read-none (c7 .before .before .before .read .ensures) (c7 .if1 .left) (c .before .before .before .before .before .input-count .ensures)))
+    rw (said-recipe _ (start .pre .0) (start .pre .1)
+    (read-none (c7 .before .before .before .read .ensures) (c7 .if1 .left) (c .before .before .before .before .before .input-count .ensures)))
     (c .before .before .put-recipe-fault .ensures)
 
 pub put-fault-text-spec : {M : Type 1} → statement M

@@ -41,7 +41,13 @@ same-length c = search needs
 
 returns : tie.Need-returns
 unfolding reckonedText
-returns c = rw (← c .before .before .before .before .before .before .before .before .before .before .before .before .before .before .first-mixed .ensures, ← c .before .before .before .before .before .before .before .before .before .sums-of .ensures, ← c .before .before .before .before .before .before .before .before .used-total .ensures) (puts-then (c .before .before .before .before .before .before .before .before .before .before .before .before .put-mixed .ensures) (puts-then (c .before .before .before .before .before .before .put-totals .ensures) (c .before .before .put-parts .ensures)))
+returns c = rw (
+  ← c .before .before .before .before .before .before .before .before .before .before .before .before .before .before .first-mixed .ensures,
+  ← c .before .before .before .before .before .before .before .before .before .sums-of .ensures,
+  ← c .before .before .before .before .before .before .before .before .used-total .ensures,
+)
+    (puts-then (c .before .before .before .before .before .before .before .before .before .before .before .before .put-mixed .ensures)
+    (puts-then (c .before .before .before .before .before .before .put-totals .ensures) (c .before .before .put-parts .ensures)))
 
 pub put-reckoned-spec : {M : Type 1} → statement M
 put-reckoned-spec =

@@ -15,7 +15,13 @@ step-count-requires c κs = search needs
 add-result : tie.Need-add-result
 add-result c =
     let start = c .before .before .before .before in
-    omega (arith, c .before .before .input-count .ensures, c .before .step-count .ensures, count-small (start .args .text .now), step-small (start .args .text .now))
+    omega (
+      arith,
+      c .before .before .input-count .ensures,
+      c .before .step-count .ensures,
+      count-small (start .args .text .now),
+      step-small (start .args .text .now),
+    )
 
 edition-of-requires : tie.Need-edition-of-requires
 edition-of-requires c κs = search needs

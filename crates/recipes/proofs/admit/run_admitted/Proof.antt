@@ -29,7 +29,8 @@ fits c =
 placed : (c : tie.After-place) →
     let c12 = c .before .before .before .before .before .before .before .before .before .before .before .before in
     let start = c12 .before .before in
-    Placing (inputHeads (start .args .headers .now)) (announcedSteps (recipeOf (start .args .edition) (start .args .headers .now) (start .args .steps .now))) (c .place .last .1 .1 .0)
+    Placing (inputHeads (start .args .headers .now)) (announcedSteps (recipeOf (start .args .edition) (start .args .headers .now) (start .args .steps .now)))
+    (c .place .last .1 .1 .0)
 placed c =
     let c12 = c .before .before .before .before .before .before .before .before .before .before .before .before in
     let start = c12 .before .before in
@@ -175,7 +176,8 @@ returns c =
             ))
             (c6 .note-inputs .ensures),
         (
-          scratch-end (largest (announcedSteps (recipeOf (start .args .edition) (start .args .headers .now) (start .args .steps .now)))) (start .args .scratch .now) (c16 .run-steps .last .1 .1 .1 .1 .1 .1 .1 .0) (ap (λ (k :
+          scratch-end (largest (announcedSteps (recipeOf (start .args .edition) (start .args .headers .now) (start .args .steps .now))))
+              (start .args .scratch .now) (c16 .run-steps .last .1 .1 .1 .1 .1 .1 .1 .0) (ap (λ (k :
               ℕ). 8 * k) (most-is c26)) (used c16) (c .before .before .clear .ensures) (length-take-le _ _ (again c16)),
           (last-start (start .pre .0) (placed c22), same-length c),
         ),

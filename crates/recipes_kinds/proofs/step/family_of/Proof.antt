@@ -18,7 +18,8 @@ rest-constant c =
     let s = c .before .args .s in
     decide (eqb (s .kind) 0)
     (λ e. simp (eqb-true (s .kind) 0 e))
-    (λ e. let ne = eqb-false (s .kind) 0 e in sym (List·getD-eq-default (families (c .before .args .edition) s) Constant (past-kinds (omega arith) (c .match .rest))))
+    (λ e. let ne = eqb-false (s .kind) 0 e in
+    sym (List·getD-eq-default (families (c .before .args .edition) s) Constant (past-kinds (omega arith) (c .match .rest))))
 
 returns : tie.Need-returns
 unfolding families

@@ -21,7 +21,8 @@ same-length c = search needs
 
 returns : tie.Need-returns
 unfolding totalText
-returns c = rw (← c .before .before .before .before .before .is-total .ensures, c .before .before .before .before .if1 .taken) (c .before .before .put-shares .ensures)
+returns c = rw (← c .before .before .before .before .before .is-total .ensures, c .before .before .before .before .if1 .taken)
+    (c .before .before .put-shares .ensures)
 
 put-no-parts-requires : tie.Need-put-no-parts-requires
 put-no-parts-requires c κs = search needs
@@ -31,7 +32,8 @@ same-length-2 c = search needs
 
 returns-2 : tie.Need-returns-2
 unfolding totalText
-returns-2 c = rw (← c .before .before .before .before .before .is-total .ensures, c .before .before .before .before .if1 .left) (c .before .before .put-no-parts .ensures)
+returns-2 c = rw (← c .before .before .before .before .before .is-total .ensures, c .before .before .before .before .if1 .left)
+    (c .before .before .put-no-parts .ensures)
 
 pub put-total-spec : {M : Type 1} → statement M
 put-total-spec =
