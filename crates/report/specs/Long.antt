@@ -220,7 +220,7 @@ module _ (t : List ℕ) (z : sheetRefusal t .number ≡ 0) where
       let w = wordOf (lastValue t .head) in
       let f = reckoned-lines (announcedPlaces hs ss) hs cs ss fs w (lastValue t .coeffs) asked last-few in
       let v = verdict-lines (announcedPlaces hs ss) ss (length hs) (places-known hs ss (accepts-it .inputs)) fs (length hs + length ss - 1) in
-      let k : Kept 95480 (verdictText (announcedPlaces hs ss) ss (length hs) fs (length hs + length ss - 1)
+      let k : Kept 95680 (verdictText (announcedPlaces hs ss) ss (length hs) fs (length hs + length ss - 1)
       ++ reckonedText (announcedPlaces hs ss) hs cs ss fs w (lastValue t .coeffs) asked) =
       kept-behind v (record { most = f .most; keeps = f .keeps }) in
       let m = kept-behind (limits-lines hs ss (check-none t z) fs)

@@ -100,7 +100,8 @@ fn put_read(
     )
 }
 
-// What is printed for a sheet, by what the program's arguments ask for, as far as `output` reaches; answers how long it is.
+// What is printed for a sheet, by what the program's arguments ask for, as far as `output` reaches; answers how long it
+// is.
 pub fn answer(text: &[u8], asked: Asked, output: &mut [u8]) -> usize
     ensures { λ r. ⌜ Printed (toldText (now (text .entry)) asked) (now (output .entry)) (now (output .exit)) r ⌝ }
 {

@@ -38,7 +38,8 @@ array-share-prefix-found : tie.Need-array-share-prefix-found Inv-loop μ-loop
 array-share-prefix-found c = omega (arith, c .before .before .loop .inv .0, (c .before .before .before .before .before) .pre)
 
 slice-aggregate-bar-step : tie.Need-slice-aggregate-bar-step Inv-loop μ-loop
-slice-aggregate-bar-step c = sym (length-take-le _ _ (omega (arith, c .before .before .before .loop .inv .0, (c .before .before .before .before .before .before) .pre)))
+slice-aggregate-bar-step c =
+    sym (length-take-le _ _ (omega (arith, c .before .before .before .loop .inv .0, (c .before .before .before .before .before .before) .pre)))
 
 bar-step-requires : tie.Need-bar-step-requires Inv-loop μ-loop
 bar-step-requires c κs = search needs
@@ -56,7 +57,11 @@ loop-less : tie.Need-loop-less Inv-loop μ-loop
 loop-less c = omega (arith, c .before .before .before .loop-test .taken)
 
 loop-again : tie.Need-loop-again Inv-loop μ-loop
-loop-again c = (simp length-set (c .before .before .before .before .loop .inv .0), tabled-more _ _ (c .before .before .before .before .loop .inv .1) (c .bar-step .ensures) (c .before .before .before .loop-test .taken))
+loop-again c = (
+  simp length-set (c .before .before .before .before .loop .inv .0),
+  tabled-more _ _ (c .before .before .before .before .loop .inv .1) (c .bar-step
+      .ensures) (c .before .before .before .loop-test .taken),
+)
 
 returns : tie.Need-returns Inv-loop μ-loop
 unfolding bars
