@@ -83,7 +83,7 @@ fn both() -> Heard {
 }
 
 // What the arguments ask for: nothing, one number or two.
-pub fn heard() -> Heard {
+pub fn hear() -> Heard {
     let count = os::arg_count();
     if count == 3 {
         return one();

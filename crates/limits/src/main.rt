@@ -4,7 +4,7 @@
 // much of it as is read here decides (told-front), and it is printed whole (told-whole).
 mod heard;
 
-use heard::heard;
+use heard::hear;
 use heard::say_help;
 use libc::STDIN_FILENO;
 use libc::STDOUT_FILENO;
@@ -29,7 +29,7 @@ fn tell(asked: Asked) {
 }
 
 fn main() {
-    let h = heard();
+    let h = hear();
     let chance = h.chance;
     let total = h.total;
     let asked = Asked { chance, total };
