@@ -19,6 +19,15 @@ HEAD = (
     "limit/most it stores. Operands are places, v is a variable, n a number.\n"
 )
 EDITION = "Edition 1: a power of 0 is one with its operand's limits.\n"
+HELP = (
+    "usage: limits [chance Q] [total T] < SHEET\n"
+    "  SHEET      a recipe, one word of 16 hex digits a line\n"
+    "  chance Q   how many tubes cover this chance, as 0.95\n"
+    "  total T    take parts of this total, as 1, and not of the inputs' own\n"
+    "Q and T are digits, or digits, a point and digits: at most 15 from the first\n"
+    "that is not 0, at most 22 behind the point. Nothing was read.\n"
+    "example: limits chance 0.95 < examples/chances.sheet\n"
+)
 
 
 def unpack(w):
@@ -226,7 +235,11 @@ def limits_text(inputs, steps, known):
         if mixed
         else ""
     )
-    return "".join(out), verdict, wrong, not lost
+    short = "No limit left anything out: the answer itself does not reach it.\n"
+    if lost:
+        by = who(way(lost[0], passing(lost[0])[0])[0])
+        short = "The table was cut at place %d, by the limit of %s;\na larger limit belongs there.\n" % (lost[0], by)
+    return "".join(out), verdict, wrong, not lost, short
 
 
 def number(x):
@@ -292,6 +305,20 @@ def totals_text(steps, inputs, total, given, shown, whole, one):
     return total_text("taking each input as whole", total, shown, "nothing lies past the limits." if whole else "%s lie past the limits.")
 
 
+def chance_text(chance, one, xs, total, short):
+    """How many tubes cover a chance, in an answer of one variable."""
+    if chance is None:
+        return ""
+    if not one:
+        return "How many tubes cover a chance is told for an answer of one variable only.\n"
+    if not good(total):
+        return "With no total above zero, no number of tubes covers a chance.\n"
+    for k, sum_ in enumerate(running(xs)):
+        if sum_ >= chance * total:
+            return "%d %s a chance of %s.\n" % (k, "tube covers" if k == 1 else "tubes cover", number(chance))
+    return "No number of tubes shown covers a chance of %s.\n%s" % (number(chance), short)
+
+
 def cell(column, width, text):
     """A text in a column; one that is too wide ends its line, and the next column begins below at its own place."""
     return text + (" " * (width - len(text)) if len(text) < width else "\n" + " " * (column + width))
@@ -342,8 +369,22 @@ def floating(digits):
     return struct.unpack(">d", bytes.fromhex(digits))[0]
 
 
-def told(text, said, given=None):
-    """What `limits` prints for a sheet, said what `recipe` printed for it; given: a total that its arguments give."""
+def asked(rng):
+    """Arguments, whether they are right, and the chance and the total that they give."""
+    typed = lambda: rng.choice(["0", "0.95", "0.5", "1", "1.0", "2", "0.%d" % rng.randrange(10**6), "%d.25" % rng.randrange(300), "0.000000000000000000001"])
+    wrong = lambda: rng.choice(["", "-1", "1e3", ".5", "5.", "0.9.5", "inf", "1234567890123456", "0.95 ", "+1", "a"])
+    q, t = typed(), typed()
+    kind = rng.choice(["none"] * 4 + ["chance", "total", "both", "turned", "wrong"])
+    if kind == "wrong":
+        words = [["help"], ["chance"], ["chance", wrong()], ["total", wrong()], ["chance", q, "chance", q], ["chance", q, "total"]]
+        return rng.choice(words + [["Chance", q], ["chances", q], ["chance", q, "total", wrong()], ["total", t, "chance", q, "x"]]), False, None, None
+    words = {"none": [], "chance": ["chance", q], "total": ["total", t], "both": ["chance", q, "total", t], "turned": ["total", t, "chance", q]}
+    given = words[kind]
+    return given, True, float(q) if "chance" in given else None, float(t) if "total" in given else None
+
+
+def told(text, said, chance=None, given=None):
+    """What `limits` prints for a sheet, said what `recipe` printed for it; chance and given: what its arguments give."""
     if said.startswith("refused"):
         return said + sentence(text.encode("latin-1"), *map(int, said.split()[1:]), announce)
     words = [int(l, 16) for l in text.split()]
@@ -360,11 +401,12 @@ def told(text, said, given=None):
         known.append(announce(w, known, edition))
     answer = said.split("\n")[1:-1]
     xs = [floating(l) for l in answer[1:]]
-    limits, verdict, wrong, whole = limits_text(inputs, steps, known)
+    limits, verdict, wrong, whole, short = limits_text(inputs, steps, known)
     word = int(answer[0], 16)
     own = totals(steps, [running(c)[-1] for c in coefficients])[-1]
     total = given if given is not None else 1.0 if isinstance(own, int) else own
     said = totals_text(steps, inputs, own, given, running(xs)[-1], whole, word >> 61 == 1)
+    said += chance_text(chance, word >> 61 == 1, xs, total, short)
     figures = figures_text(word, xs, total if good(total) else None)
     first = EDITION if edition else ""
     return first + limits + inputs_text(heads, coefficients) + verdict + wrong + said + figures
@@ -422,12 +464,14 @@ def main():
     rng, count = random.Random(int(given[0])), int(given[1])
     limits, recipe = given[2:between], given[between + 1 :]
     run = lambda program, text: subprocess.run(program, input=text.encode("latin-1"), stdout=subprocess.PIPE).stdout.decode()
-    kinds, sentences = {"refused": 0, "WHOLE": 0, "CUT": 0}, set()
+    kinds = {"refused": 0, "WHOLE": 0, "CUT": 0, "usage": 0, "cover a chance": 0, "No number of tubes": 0}
+    sentences = set()
     for i in range(count):
         text = sheet(rng)
-        expected, found = told(text, run(recipe, text)), run(limits, text)
+        words, right, chance, given = asked(rng)
+        expected, found = told(text, run(recipe, text), chance, given) if right else HELP, run(limits + words, text)
         if expected != found:
-            print("sheet %d differs:\n%s\nexpected:\n%s\nfound:\n%s" % (i, text, expected, found))
+            print("sheet %d differs, arguments %s:\n%s\nexpected:\n%s\nfound:\n%s" % (i, words, text, expected, found))
             return 1
         if any(len(l) > 80 for l in found.split("\n")):
             print("sheet %d has a line of more than 80 columns:\n%s" % (i, found))

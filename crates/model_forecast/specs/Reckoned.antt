@@ -1,5 +1,5 @@
--- REFERENCE 9.7 to 9.9. What `limits` prints behind the verdict: whether the figures may be wrong, what is said of the
--- total, and the figures, with parts of the total where W1 takes any.
+-- REFERENCE 9.7 to 9.10. What `limits` prints behind the verdict: whether the figures may be wrong, what is said of the
+-- total and of a wanted chance, and the figures, with parts of the total where W1 takes any.
 use Prim.Native.Nat.{ℕ}
 use mathlib.Core.List.{List, _++_}
 use lib.Ieee.{Float}
@@ -18,6 +18,7 @@ use Rattle.model_forecast.specs.declared.Sums.{Sums}
 use Rattle.model_forecast.specs.Totals.{lastPlace, answerAmount, answerBar}
 use Rattle.model_forecast.specs.Mixed.{firstMixed, mixedText}
 use Rattle.model_forecast.specs.Shares.{usedTotal, totalsText}
+use Rattle.model_forecast.specs.Covered.{chanceText}
 
 -- the figures, with parts of the total where W1 takes any; w the header word of the answer, xs its coefficients
 unfoldable pub partsText : ℕ → List Float → Float → List ℕ
@@ -39,5 +40,7 @@ module _ (known : List Header) (hs : List ℕ) (cs : List Float) (ss fs : List �
 
   unfoldable pub reckonedText : Asked → List ℕ
   reckonedText asked =
+      let total = usedTotal (asked .total) sumsOf in
       mixedText (firstMixed known ss (length hs) fs (lastPlace hs ss))
-      ++ (totalsText (asked .total) sumsOf ++ partsText w xs (usedTotal (asked .total) sumsOf))
+      ++ (totalsText (asked .total) sumsOf
+      ++ (chanceText known ss (length hs) fs (lastPlace hs ss) (headerOf w) xs total (asked .chance) ++ partsText w xs total))

@@ -150,7 +150,7 @@ module _ (t : List ℕ) (z : sheetRefusal t .number ≡ 0) where
       let f = reckoned-lines (announcedPlaces it) (it .headers) cs (it .steps) fs w (lastValue t .coeffs) asked last-few in
       let v = verdict-lines (announcedPlaces it) (it .steps) (length (it .headers)) (places-known it (accepts-it .inputs)) fs
       (length (it .headers) + length (it .steps) - 1) in
-      let k : Kept 95480 (verdictText (announcedPlaces it) (it .steps) (length (it .headers)) fs (length (it .headers) + length (it .steps) - 1)
+      let k : Kept 95680 (verdictText (announcedPlaces it) (it .steps) (length (it .headers)) fs (length (it .headers) + length (it .steps) - 1)
       ++ reckonedText (announcedPlaces it) (it .headers) cs (it .steps) fs w (lastValue t .coeffs) asked) =
       kept-behind v (record { most = f .most; keeps = f .keeps }) in
       let m = kept-behind (limits-lines it (check-none t z) fs)

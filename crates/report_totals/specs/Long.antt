@@ -27,6 +27,7 @@ use Rattle.model_forecast.specs.Reckoned.{sumsOf, partsText, reckonedText}
 use Rattle.report_lines.specs.Columns.{inColumns, columnAfter, Piece, piece, piece-up, piece-either, piece-named, tell-two}
 use Rattle.report_lines.specs.Columns.{Rest, newline-rest, rest-up, rest-then, rest-either, rest-broken}
 use Rattle.report_lines.specs.Columns.{Lines, lines, written, lines-up, lines-none, lines-then, lines-either, lines-if}
+use Rattle.report_cover.specs.Long.{chance-lines}
 use Rattle.report_figures.specs.Lines.{word-lengths}
 use Rattle.report_figures.specs.Number.{float-piece}
 use Rattle.report_figures.specs.Long.{figures-lines}
@@ -115,12 +116,14 @@ mixed-lines m =
 -- ---- all of it
 
 module _ (known : List Header) (hs : List ℕ) (cs : List Float) (ss fs : List ℕ) (w : ℕ) (xs : List Float) where
-  pub reckoned-lines : (asked : Asked) → stored (headerOf w) ≤ 256 → Lines 95400 (reckonedText known hs cs ss fs w xs asked)
+  pub reckoned-lines : (asked : Asked) → stored (headerOf w) ≤ 256 → Lines 95600 (reckonedText known hs cs ss fs w xs asked)
   unfolding reckonedText partsText
   reckoned-lines asked l =
       let s = sumsOf known hs cs ss fs w xs in
       let t = usedTotal (asked .total) s in
       lines-up
       (lines-then (mixed-lines (firstMixed known ss (length hs) fs (lastPlace hs ss)))
-      (lines-then (totals-lines (asked .total) s) (figures-lines (headerOf w) xs t (goodTotal t) (word-lengths w) l)))
+      (lines-then (totals-lines (asked .total) s)
+      (lines-then (chance-lines known ss (length hs) fs (lastPlace hs ss) (headerOf w) xs t (asked .chance))
+      (figures-lines (headerOf w) xs t (goodTotal t) (word-lengths w) l))))
       (omega arith)

@@ -13,11 +13,12 @@ use model_forecast::Asked;
 use model_forecast::Sums;
 use readings_sums::sum_to;
 use recipes_kinds::step::step_of;
+use report_cover::is_total;
+use report_cover::put_chance;
 use report_figures::line::put_figures;
 use report_trace::decide::step_word;
 use report_trace::whole::first_out;
 use shape_words::word::header_of;
-use share::is_total;
 use share::put_totals;
 use share::used_total;
 ghost use mathlib.Core.Path.{_≡_};
@@ -98,5 +99,19 @@ pub fn put_reckoned(
     let given = asked.total;
     let total = used_total(given, s);
     let b = put_totals(given, s, a, to);
-    put_parts(header, xs, total, b, to)
+    let chance = asked.chance;
+    let c = put_chance(
+        known,
+        steps,
+        inputs,
+        full,
+        last,
+        header,
+        xs,
+        total,
+        chance,
+        b,
+        to,
+    );
+    put_parts(header, xs, total, c, to)
 }

@@ -2,23 +2,15 @@
 use decimals::put_float;
 use model_forecast::Given;
 use model_forecast::Sums;
+use report_cover::is_total;
 use report_lines::lines::put_kind;
 use report_lines::put::put;
 use report_lines::put::put_either;
 use report_lines::put::put_if;
 use report_lines::put::tell;
 ghost use mathlib.Core.Path.{_≡_};
-ghost use Rattle.model.specs.Gates.{goodTotal};
 ghost use Rattle.model_forecast.specs.Shares.{usedTotal, originText, lostText, sharesText, noPartsText, totalText, barText, totalsText};
 ghost use Rattle.report_lines.specs.Puts.{Puts};
-
-// Whether a total is finite and above zero.
-pub fn is_total(total: f64) -> bool
-    ensures { λ r. ⌜ r ≡ goodTotal total ⌝ }
-{
-    let infinity = f64::from_bits(0x7ff0000000000000);
-    (0.0 < total) & (total < infinity)
-}
 
 // The total that parts are taken of.
 pub fn used_total(given: Given, s: Sums) -> f64

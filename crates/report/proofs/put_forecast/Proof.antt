@@ -40,11 +40,10 @@ array-share-prefix-full-2 c = search needs
 
 slice-aggregate-put-verdict : tie.Need-slice-aggregate-put-verdict
 slice-aggregate-put-verdict c =
-    sym (length-take-le _ _
-    (omega (
+    sym (length-take-le _ _ (omega (
       arith,
-      (c .before .before .before .before .before .before .before .before .before .before .before .before .before .before .before .before
-          .before) .pre .fit,
+      (c .before .before .before .before .before .before .before .before .before .before .before .before .before
+          .before .before .before .before) .pre .fit,
     )))
 
 sub-put-verdict : tie.Need-sub-put-verdict
@@ -58,11 +57,10 @@ array-share-prefix-full-3 c = search needs
 
 slice-aggregate-put-reckoned : tie.Need-slice-aggregate-put-reckoned
 slice-aggregate-put-reckoned c =
-    sym (length-take-le _ _
-    (omega (
+    sym (length-take-le _ _ (omega (
       arith,
-      (c .before .before .before .before .before .before .before .before .before .before .before .before .before .before .before .before .before
-          .before .before .before .before .before) .pre .fit,
+      (c .before .before .before .before .before .before .before .before .before .before .before .before .before
+          .before .before .before .before .before .before .before .before .before) .pre .fit,
     )))
 
 put-reckoned-requires : tie.Need-put-reckoned-requires
@@ -73,11 +71,12 @@ same-length c = search needs
 
 returns : tie.Need-returns
 unfolding forecastText
-returns c = rw (← c .before .before .before .before .before .before .before .before .before .before .before .before .before .before .before .before .before
-    .before .before .fulls .ensures) (puts-then (c .before .before .before .before .before .before .before .before .before .before .before .before .before
-    .before .before .before .put-limit-lines .ensures) (puts-then
-    (c .before .before .before .before .before .before .before .before .before .before .before .before .put-inputs .ensures)
-    (puts-then (c .before .before .before .before .before .before .before .put-verdict .ensures) (c .before .before .put-reckoned .ensures))))
+returns c =
+    rw (← c .before .before .before .before .before .before .before .before .before .before .before .before .before .before .before .before .before
+    .before .before .fulls .ensures) (puts-then (c .before .before .before .before .before .before .before .before .before .before .before .before
+    .before .before .before .before .put-limit-lines .ensures) (puts-then (c .before .before .before .before .before .before .before .before .before
+    .before .before .before .put-inputs .ensures) (puts-then (c .before .before .before .before .before .before .before .put-verdict .ensures) (c
+    .before .before .put-reckoned .ensures))))
 
 pub put-forecast-spec : {M : Type 1} → statement M
 put-forecast-spec =

@@ -5,7 +5,7 @@ use Rattle.report_totals.proofs.put_parts.Tie as tie
 use Rattle.report_totals.proofs.put_parts.Reads as reads
 use Rattle.report_totals.proofs.put_parts.Lts as lts
 use Rattle.report_figures.proofs.line.put_figures.Reads as put-figures-reads
-use Rattle.report_totals.proofs.share.is_total.Reads as is-total-reads
+use Rattle.report_cover.proofs.is_total.Reads as is-total-reads
 
 is-total-requires : tie.Need-is-total-requires
 is-total-requires c κs = search needs

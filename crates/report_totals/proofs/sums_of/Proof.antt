@@ -40,10 +40,11 @@ header-of-requires : tie.Need-header-of-requires
 header-of-requires c κs = search needs
 
 returns : tie.Need-returns
-returns c = sums-is _ _ _ _ _ _ _ (c .before .before .before .before .before .before .first-out .ensures)
-    (c .before .before .before .before .before .answer-bar .ensures) (c .before .before .before .before .step-word .ensures)
-    (c .before .before .before .step-of .ensures) (c .before .before .answer-amount .ensures) (c .before .sum-to .ensures)
-    ((c .before .before .before .before .before .before .before .before .before .before .before .before .before) .pre .full) (c .header-of .ensures)
+returns c =
+    sums-is _ _ _ _ _ _ _ (c .before .before .before .before .before .before .first-out .ensures) (c .before .before .before .before .before
+    .answer-bar .ensures) (c .before .before .before .before .step-word .ensures) (c .before .before .before .step-of .ensures) (c .before .before
+    .answer-amount .ensures) (c .before .sum-to .ensures) ((c .before .before .before .before .before .before .before .before .before .before .before
+    .before .before) .pre .full) (c .header-of .ensures)
 
 pub sums-of-spec : {M : Type 1} → statement M
 sums-of-spec =

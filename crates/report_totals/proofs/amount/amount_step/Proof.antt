@@ -21,8 +21,9 @@ amount-of-requires : tie.Need-amount-of-requires
 amount-of-requires c κs = search needs
 
 returns : tie.Need-returns
-returns c = amount-is _ _ (c .before .before .before .step-of .ensures) (c .before .before .amount-at .ensures) (c .before .amount-at2 .ensures)
-    (c .amount-of .ensures)
+returns c =
+    amount-is _ _ (c .before .before .before .step-of .ensures) (c .before .before .amount-at .ensures) (c .before .amount-at2 .ensures) (c .amount-of
+    .ensures)
 
 pub amount-step-spec : {M : Type 1} → statement M
 amount-step-spec =

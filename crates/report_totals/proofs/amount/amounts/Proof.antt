@@ -16,8 +16,8 @@ use Rattle.report_totals.proofs.amount.amount_step.Reads as amount-step
 use Rattle.report_totals.proofs.amount.input_sums.Reads as input-sums-reads
 
 abbrev Inv-loop : tie.InvT-loop
-Inv-loop headers xs steps inputs found₀ i₀ found i = (length found ≡ 64)
-    × Chained amountStep (table (length headers) (inputSum headers xs)) steps found₀ found i
+Inv-loop headers xs steps inputs found₀ i₀ found i =
+    (length found ≡ 64) × Chained amountStep (table (length headers) (inputSum headers xs)) steps found₀ found i
 
 abbrev μ-loop : tie.MeasureT-loop
 μ-loop headers xs steps inputs found₀ i₀ found i = length steps - i
@@ -45,22 +45,33 @@ array-share-prefix-found c = omega (arith, c .before .before .loop .inv .0, (c .
 
 slice-aggregate-amount-step : tie.Need-slice-aggregate-amount-step Inv-loop μ-loop
 slice-aggregate-amount-step c =
-    sym (length-take-le _ _
-    (omega (arith, c .before .before .before .loop .inv .0, (c .before .before .before .before .before .before .before .before) .pre .1)))
+    sym (length-take-le _ _ (omega (
+      arith,
+      c .before .before .before .loop .inv .0,
+      (c .before .before .before .before .before .before .before
+          .before) .pre .1,
+    )))
 
 amount-step-requires : tie.Need-amount-step-requires Inv-loop μ-loop
 amount-step-requires c κs = search needs
 
 mul-found : tie.Need-mul-found Inv-loop μ-loop
-mul-found c = omega (
-  arith,
-  c .before .before .before .before .loop .inv .0,
-  (c .before .before .before .before .before .before .before .before .before) .pre .1,
-)
+mul-found c =
+    omega (
+      arith,
+      c .before .before .before .before .loop .inv .0,
+      (c .before .before .before .before .before .before .before .before .before) .pre
+          .1,
+    )
 
 array-write-found : tie.Need-array-write-found Inv-loop μ-loop
 array-write-found c =
-    omega (arith, c .before .before .before .before .loop .inv .0, (c .before .before .before .before .before .before .before .before .before) .pre .1)
+    omega (
+      arith,
+      c .before .before .before .before .loop .inv .0,
+      (c .before .before .before .before .before .before .before .before .before) .pre
+          .1,
+    )
 
 add-i : tie.Need-add-i Inv-loop μ-loop
 add-i c = omega (arith, (c .before .before .before .before .before .before .before .before .before) .pre .1)
@@ -71,7 +82,8 @@ loop-less c = omega (arith, c .before .before .before .loop-test .taken)
 loop-again : tie.Need-loop-again Inv-loop μ-loop
 loop-again c = (
   simp length-set (c .before .before .before .before .loop .inv .0),
-  tabled-more _ _ (c .before .before .before .before .loop .inv .1) (c .amount-step .ensures) (c .before .before .before .loop-test .taken),
+  tabled-more _ _ (c .before .before .before .before .loop .inv .1) (c
+      .amount-step .ensures) (c .before .before .before .loop-test .taken),
 )
 
 returns : tie.Need-returns Inv-loop μ-loop

@@ -36,8 +36,8 @@ returns : tie.Need-returns
 unfolding answerAmount
 returns c =
     let start = c .before .before .before .before .before .before in
-    c .amount-at .ensures
-    ∙ ap (λ (l : List Float). getD l (lastPlace (start .args .headers .now) (start .args .steps .now)) nan) (c .before .before .amounts .ensures)
+    c .amount-at .ensures ∙ ap (λ (l : List Float). getD l (lastPlace (start .args .headers .now) (start .args .steps .now)) nan) (c .before .before
+    .amounts .ensures)
 
 pub answer-amount-spec : {M : Type 1} → statement M
 answer-amount-spec =

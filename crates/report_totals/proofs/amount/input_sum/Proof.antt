@@ -19,7 +19,8 @@ slice-aggregate-total-of c = sym (length-take-le _ _ (omega arith))
 total-of-requires : tie.Need-total-of-requires
 total-of-requires c κs = (
   front-known ((c .before .before .before) .pre .0) ((c .before .before .before) .args .i),
-  front-few ((c .before .before .before) .pre .0) ((c .before .before .before) .args .i),
+  front-few ((c .before .before .before) .pre .0) ((c
+      .before .before .before) .args .i),
 )
 
 mul-header-of : tie.Need-mul-header-of
@@ -33,35 +34,40 @@ header-of-requires c κs = search needs
 
 stored-of-requires : tie.Need-stored-of-requires
 stored-of-requires c κs =
-    rw (c .header-of .ensures)
-    (ruled ((c .before .before .before .before .before .before) .pre .0) ((c .before .before .before .before .before .before) .args .i))
+    rw (c .header-of .ensures) (ruled ((c .before .before .before .before .before .before) .pre .0) ((c .before .before .before .before .before
+    .before) .args .i))
 
 mul-sum-to : tie.Need-mul-sum-to
-mul-sum-to c = omega (
-  arith,
-  c .before .before .before .total-of .ensures,
-  front-full ((c .before .before .before .before .before .before .before) .pre .0)
-      ((c .before .before .before .before .before .before .before) .args .i) ((c .before .before .before .before .before .before .before) .pre .1),
-  (c .before .before .before .before .before .before .before) .pre .0 .small,
-)
+mul-sum-to c =
+    omega (
+      arith,
+      c .before .before .before .total-of .ensures,
+      front-full ((c .before .before .before .before .before .before .before) .pre .0) ((c
+          .before .before .before .before .before .before .before) .args .i) ((c .before .before .before .before .before .before .before) .pre .1),
+      (c
+          .before .before .before .before .before .before .before) .pre .0 .small,
+    )
 
 sub-sum-to : tie.Need-sub-sum-to
-sub-sum-to c = omega (
-  arith,
-  c .before .before .before .total-of .ensures,
-  front-full ((c .before .before .before .before .before .before .before) .pre .0)
-      ((c .before .before .before .before .before .before .before) .args .i) ((c .before .before .before .before .before .before .before) .pre .1),
-  (c .before .before .before .before .before .before .before) .pre .0 .small,
-)
+sub-sum-to c =
+    omega (
+      arith,
+      c .before .before .before .total-of .ensures,
+      front-full ((c .before .before .before .before .before .before .before) .pre .0) ((c
+          .before .before .before .before .before .before .before) .args .i) ((c .before .before .before .before .before .before .before) .pre .1),
+      (c
+          .before .before .before .before .before .before .before) .pre .0 .small,
+    )
 
 part-sum-to-start : tie.Need-part-sum-to-start
 part-sum-to-start c =
     omega (
       arith,
       c .before .before .before .total-of .ensures,
-      front-full ((c .before .before .before .before .before .before .before) .pre .0)
-          ((c .before .before .before .before .before .before .before) .args .i) ((c .before .before .before .before .before .before .before) .pre .1),
-      (c .before .before .before .before .before .before .before) .pre .0 .small,
+      front-full ((c .before .before .before .before .before .before .before) .pre .0) ((c
+          .before .before .before .before .before .before .before) .args .i) ((c .before .before .before .before .before .before .before) .pre .1),
+      (c
+          .before .before .before .before .before .before .before) .pre .0 .small,
     )
 
 part-sum-to-end : tie.Need-part-sum-to-end
@@ -69,21 +75,22 @@ part-sum-to-end c = search needs
 
 sum-to-requires : tie.Need-sum-to-requires
 sum-to-requires c κs =
-    rw (c .before .stored-of .ensures, c .before .before .header-of .ensures)
-    (omega (
+    rw (c .before .stored-of .ensures, c .before .before .header-of .ensures) (omega (
       arith,
-      rest-length ((c .before .before .before .before .before .before .before .before) .args .xs .now)
-          (c .before .before .before .before .total-of .result),
-      c .before .before .before .before .total-of .ensures,
-      front-full ((c .before .before .before .before .before .before .before .before) .pre .0)
-          ((c .before .before .before .before .before .before .before .before) .args .i)
-          ((c .before .before .before .before .before .before .before .before) .pre .1),
-      (c .before .before .before .before .before .before .before .before) .pre .0 .small,
+      rest-length ((c .before .before .before .before .before
+          .before .before .before) .args .xs .now) (c .before .before .before .before .total-of .result),
+      c .before .before .before .before .total-of
+          .ensures,
+      front-full ((c .before .before .before .before .before .before .before .before) .pre .0) ((c .before .before .before .before .before
+          .before .before .before) .args .i) ((c .before .before .before .before .before .before .before .before) .pre .1),
+      (c .before .before .before
+          .before .before .before .before .before) .pre .0 .small,
     ))
 
 returns : tie.Need-returns
-returns c = sum-is _ _ _ (c .before .before .before .before .before .total-of .ensures) (c .before .before .before .header-of .ensures)
-    (c .before .before .stored-of .ensures) (c .sum-to .ensures)
+returns c =
+    sum-is _ _ _ (c .before .before .before .before .before .total-of .ensures) (c .before .before .before .header-of .ensures) (c .before .before
+    .stored-of .ensures) (c .sum-to .ensures)
 
 pub input-sum-spec : {M : Type 1} → statement M
 input-sum-spec =

@@ -39,14 +39,18 @@ loop-less c = search needs
 loop-again : tie.Need-loop-again Inv-loop μ-loop
 loop-again c = (
   omega arith,
-  filled-more (c .before .before .loop .inv .1) (c .input-sum .ensures) (omega (arith, (c .before .before .before .before .before) .pre .few)),
+  filled-more (c .before .before .loop .inv .1) (c .input-sum .ensures) (omega (
+    arith,
+    (c .before .before .before .before .before)
+        .pre .few,
+  )),
 )
 
 returns : tie.Need-returns Inv-loop μ-loop
 returns c = (
   c .before .loop .inv .1 .len ∙ refl,
-  ap (take (length ((c .before .before .before .before) .args .headers .now)))
-      (filled-end (c .before .loop .inv .1) (c .before .loop .inv .0) (c .loop-test .left)) ∙ take-at _ _ _ (length-table _ _),
+  ap (take (length ((c .before .before .before .before) .args .headers .now))) (filled-end (c .before .loop
+      .inv .1) (c .before .loop .inv .0) (c .loop-test .left)) ∙ take-at _ _ _ (length-table _ _),
 )
 
 pub input-sums-spec : {M : Type 1} → statement M

@@ -59,7 +59,8 @@ loop-less c = omega (arith, c .before .before .before .loop-test .taken)
 loop-again : tie.Need-loop-again Inv-loop μ-loop
 loop-again c = (
   simp length-set (c .before .before .before .before .loop .inv .0),
-  tabled-more _ _ (c .before .before .before .before .loop .inv .1) (c .bar-step .ensures) (c .before .before .before .loop-test .taken),
+  tabled-more _ _ (c .before .before .before .before .loop .inv .1) (c .bar-step
+      .ensures) (c .before .before .before .loop-test .taken),
 )
 
 returns : tie.Need-returns Inv-loop μ-loop

@@ -57,8 +57,9 @@ mixed-next-requires-2 c κs = search needs
 
 returns : tie.Need-returns Inv-loop μ-loop
 unfolding mixeds
-returns c = c .mixed-next2 .ensures
-    ∙ ap (mixedNext _ _ _ _) (grown-end (c .before .before .before .loop .inv .1) (c .before .before .before .loop .inv .0) (omega arith))
+returns c =
+    c .mixed-next2 .ensures ∙ ap (mixedNext _ _ _ _) (grown-end (c .before .before .before .loop .inv .1) (c .before .before .before .loop .inv .0)
+    (omega arith))
 
 pub first-mixed-spec : {M : Type 1} → statement M
 first-mixed-spec =

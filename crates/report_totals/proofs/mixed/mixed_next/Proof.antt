@@ -66,18 +66,17 @@ least-requires-2 : tie.Need-least-requires-2
 least-requires-2 c κs = search needs
 
 returns-2 : tie.Need-returns-2
-returns-2 c = mixed-is _ _ _ _ _
-    (c .before .before .before .before .before .before .before .before .before .before .before .before .before .before .before .if1 .left)
-    (c .before .before .before .before .before .before .before .before .before .before .before .before .before .before .step-word .ensures)
-    (c .before .before .before .before .before .before .before .before .before .before .before .before .before .step-of .ensures)
-    (c .before .before .before .before .before .before .before .before .before .before .before .before .full-at .ensures)
-    (c .before .before .before .before .before .before .before .before .before .before .before .mixes .ensures)
-    (c .before .before .before .before .before .before .before .before .before .before .pick .ensures)
-    (c .before .before .before .before .before .before .before .before .before .family-of .ensures)
-    (c .before .before .before .before .before .before .before .before .needs-first .ensures)
-    (c .before .before .before .before .before .before .before .found-at .ensures) (c .before .before .before .before .before .before .pick2 .ensures)
-    (c .before .before .before .before .before .family-of2 .ensures) (c .before .before .before .before .needs-second .ensures)
-    (c .before .before .before .found-at2 .ensures) (c .before .before .pick3 .ensures) (c .before .least .ensures) (c .least2 .ensures)
+returns-2 c =
+    mixed-is _ _ _ _ _ (c .before .before .before .before .before .before .before .before .before .before .before .before .before .before .before .if1
+    .left) (c .before .before .before .before .before .before .before .before .before .before .before .before .before .before .step-word .ensures) (c
+    .before .before .before .before .before .before .before .before .before .before .before .before .before .step-of .ensures) (c .before .before
+    .before .before .before .before .before .before .before .before .before .before .full-at .ensures) (c .before .before .before .before .before
+    .before .before .before .before .before .before .mixes .ensures) (c .before .before .before .before .before .before .before .before .before
+    .before .pick .ensures) (c .before .before .before .before .before .before .before .before .before .family-of .ensures) (c .before .before .before
+    .before .before .before .before .before .needs-first .ensures) (c .before .before .before .before .before .before .before .found-at .ensures) (c
+    .before .before .before .before .before .before .pick2 .ensures) (c .before .before .before .before .before .family-of2 .ensures) (c .before
+    .before .before .before .needs-second .ensures) (c .before .before .before .found-at2 .ensures) (c .before .before .pick3 .ensures) (c .before
+    .least .ensures) (c .least2 .ensures)
 
 pub mixed-next-spec : {M : Type 1} → statement M
 mixed-next-spec =

@@ -37,10 +37,10 @@ same-length c = search needs
 
 returns-2 : tie.Need-returns-2
 unfolding mixedText bytes
-returns-2 c = rw (lt-ltb _ _
-    (c .before .before .before .before .before .before .before .before .before .before .before .before .before .before .before .if1 .left))
-    (puts-then (c .before .before .before .before .before .before .before .before .before .before .before .before .tell .ensures)
-    (puts-then (c .before .before .before .before .before .before .before .put .ensures) (c .before .before .put2 .ensures)))
+returns-2 c =
+    rw (lt-ltb _ _ (c .before .before .before .before .before .before .before .before .before .before .before .before .before .before .before .if1
+    .left)) (puts-then (c .before .before .before .before .before .before .before .before .before .before .before .before .tell .ensures) (puts-then
+    (c .before .before .before .before .before .before .before .put .ensures) (c .before .before .put2 .ensures)))
 
 pub put-mixed-spec : {M : Type 1} → statement M
 put-mixed-spec =

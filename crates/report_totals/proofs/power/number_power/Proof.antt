@@ -35,8 +35,9 @@ loop-again : tie.Need-loop-again Inv-loop μ-loop
 loop-again c = raising-next (c .before .before .loop .inv) (c .take-bit .ensures) (c .before .loop-test .taken)
 
 returns-3 : tie.Need-returns-3 Inv-loop μ-loop
-returns-3 c = raising-last (c .before .loop .inv) (omega (arith, c .loop-test .left))
-    ∙ power-more _ _ (c .before .before .before .if1 .left) (c .before .before .if2 .left)
+returns-3 c =
+    raising-last (c .before .loop .inv) (omega (arith, c .loop-test .left)) ∙ power-more _ _ (c .before .before .before .if1 .left) (c .before .before
+    .if2 .left)
 
 pub number-power-spec : {M : Type 1} → statement M
 number-power-spec =

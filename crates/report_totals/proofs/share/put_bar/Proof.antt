@@ -43,12 +43,12 @@ same-length c = search needs
 
 returns : tie.Need-returns
 unfolding barText bytes
-returns c = puts-then
-    (c .before .before .before .before .before .before .before .before .before .before .before .before .before .before .before .before .before .before
-    .before .before .before .tell .ensures) (puts-then (c .before .before .before .before .before .before .before .before .before .before .before .before
-    .before .before .before .before .put .ensures) (puts-then
-    (c .before .before .before .before .before .before .before .before .before .before .before .before .put-kind .ensures)
-    (puts-then (c .before .before .before .before .before .before .before .put2 .ensures) (c .before .before .put-if .ensures))))
+returns c =
+    puts-then (c .before .before .before .before .before .before .before .before .before .before .before .before .before .before .before .before
+    .before .before .before .before .before .tell .ensures) (puts-then (c .before .before .before .before .before .before .before .before .before
+    .before .before .before .before .before .before .before .put .ensures) (puts-then (c .before .before .before .before .before .before .before
+    .before .before .before .before .before .put-kind .ensures) (puts-then (c .before .before .before .before .before .before .before .put2 .ensures)
+    (c .before .before .put-if .ensures))))
 
 pub put-bar-spec : {M : Type 1} → statement M
 put-bar-spec =

@@ -23,8 +23,9 @@ same-length c = search needs
 
 returns : tie.Need-returns
 unfolding lostText bytes
-returns c = rw (c .before .before .before .before .before .before .before .before .before .if1 .taken)
-    (puts-then (c .before .before .before .before .before .before .before .put-float .ensures) (c .before .before .put .ensures))
+returns c =
+    rw (c .before .before .before .before .before .before .before .before .before .if1 .taken) (puts-then (c .before .before .before .before .before
+    .before .before .put-float .ensures) (c .before .before .put .ensures))
 
 slice-aggregate-put-2 : tie.Need-slice-aggregate-put-2
 slice-aggregate-put-2 c = search needs
@@ -37,8 +38,9 @@ same-length-2 c = search needs
 
 returns-2 : tie.Need-returns-2
 unfolding lostText bytes
-returns-2 c = rw (c .before .before .before .before .before .before .if1 .left, c .before .before .before .before .before .if2 .taken)
-    (c .before .before .put2 .ensures)
+returns-2 c =
+    rw (c .before .before .before .before .before .before .if1 .left, c .before .before .before .before .before .if2 .taken) (c .before .before .put2
+    .ensures)
 
 put-float-requires-2 : tie.Need-put-float-requires-2
 put-float-requires-2 c κs = search needs
@@ -54,11 +56,13 @@ same-length-3 c = search needs
 
 returns-3 : tie.Need-returns-3
 unfolding lostText bytes
-returns-3 c = rw (
-  c .before .before .before .before .before .before .before .before .before .before .if1 .left,
-  c .before .before .before .before .before .before .before .before .before .if2 .left,
-)
-    (puts-then (c .before .before .before .before .before .before .before .put-float2 .ensures) (c .before .before .put3 .ensures))
+returns-3 c =
+    rw (
+      c .before .before .before .before .before .before .before .before .before .before .if1 .left,
+      c .before .before .before .before .before
+          .before .before .before .before .if2 .left,
+    ) (puts-then (c .before .before .before .before .before .before .before .put-float2 .ensures) (c .before
+    .before .put3 .ensures))
 
 pub put-lost-spec : {M : Type 1} → statement M
 put-lost-spec =

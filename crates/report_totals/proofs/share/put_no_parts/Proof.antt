@@ -39,12 +39,12 @@ same-length c = search needs
 
 returns : tie.Need-returns
 unfolding noPartsText bytes
-returns c = puts-then
-    (c .before .before .before .before .before .before .before .before .before .before .before .before .before .before .before .before .before .before
-    .before .before .put .ensures) (puts-then (c .before .before .before .before .before .before .before .before .before .before .before .before .before
-    .before .before .before .put-origin .ensures) (puts-then
-    (c .before .before .before .before .before .before .before .before .before .before .before .put2 .ensures)
-    (puts-then (c .before .before .before .before .before .before .before .put-float .ensures) (c .before .before .put3 .ensures))))
+returns c =
+    puts-then (c .before .before .before .before .before .before .before .before .before .before .before .before .before .before .before .before
+    .before .before .before .before .put .ensures) (puts-then (c .before .before .before .before .before .before .before .before .before .before
+    .before .before .before .before .before .before .put-origin .ensures) (puts-then (c .before .before .before .before .before .before .before
+    .before .before .before .before .put2 .ensures) (puts-then (c .before .before .before .before .before .before .before .put-float .ensures) (c
+    .before .before .put3 .ensures))))
 
 pub put-no-parts-spec : {M : Type 1} → statement M
 put-no-parts-spec =

@@ -52,20 +52,17 @@ same-length c = search needs
 
 returns : tie.Need-returns
 unfolding sharesText bytes
-returns c = puts-then
-    (c .before .before .before .before .before .before .before .before .before .before .before .before .before .before .before .before .before .before
-    .before .before .before .before .before .before .before .before .before .before .before .before .before .before .before .put .ensures)
-    (puts-then (c .before .before .before .before .before .before .before .before .before .before .before .before .before .before .before .before
-    .before .before .before .before .before .before .before .before .before .before .before .before .before .put-float .ensures)
-    (puts-then (c .before .before .before .before .before .before .before .before .before .before .before .before .before .before .before
-    .before .before .before .before .before .before .before .before .before .put2 .ensures)
-    (puts-then (c .before .before .before .before .before .before .before .before .before .before .before .before .before .before
-    .before .before .before .before .before .before .put-origin .ensures)
-    (puts-then (c .before .before .before .before .before .before .before .before .before .before .before .before .before
-    .before .before .put3 .ensures)
-    (puts-then (c .before .before .before .before .before .before .before .before .before .before .before .put-float2
-    .ensures) (puts-then (c .before .before .before .before .before .before .put4 .ensures)
-    (c .before .before .put-lost .ensures)))))))
+returns c =
+    puts-then (c .before .before .before .before .before .before .before .before .before .before .before .before .before .before .before .before
+    .before .before .before .before .before .before .before .before .before .before .before .before .before .before .before .before .before .put
+    .ensures) (puts-then (c .before .before .before .before .before .before .before .before .before .before .before .before .before .before .before
+    .before .before .before .before .before .before .before .before .before .before .before .before .before .before .put-float .ensures) (puts-then (c
+    .before .before .before .before .before .before .before .before .before .before .before .before .before .before .before .before .before .before
+    .before .before .before .before .before .before .put2 .ensures) (puts-then (c .before .before .before .before .before .before .before .before
+    .before .before .before .before .before .before .before .before .before .before .before .before .put-origin .ensures) (puts-then (c .before
+    .before .before .before .before .before .before .before .before .before .before .before .before .before .before .put3 .ensures) (puts-then (c
+    .before .before .before .before .before .before .before .before .before .before .before .put-float2 .ensures) (puts-then (c .before .before
+    .before .before .before .before .put4 .ensures) (c .before .before .put-lost .ensures)))))))
 
 pub put-shares-spec : {M : Type 1} → statement M
 put-shares-spec =

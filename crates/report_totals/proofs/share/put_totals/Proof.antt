@@ -25,8 +25,9 @@ same-length c = search needs
 
 returns : tie.Need-returns
 unfolding totalsText
-returns c = rw (c .before .before .before .before .before .before .enum-told .given .1, le-leb _ _ (c .before .before .before .before .if1 .taken))
-    (c .before .before .put-total2 .ensures)
+returns c =
+    rw (c .before .before .before .before .before .before .enum-told .given .1, le-leb _ _ (c .before .before .before .before .if1 .taken)) (c .before
+    .before .put-total2 .ensures)
 
 put-bar-requires : tie.Need-put-bar-requires
 put-bar-requires c κs = search needs
@@ -43,8 +44,9 @@ same-length-3 c = search needs
 
 returns-3 : tie.Need-returns-3
 unfolding totalsText
-returns-3 c = rw (c .before .before .before .before .before .before .enum-told .given .1, lt-leb _ _ (c .before .before .before .before .if1 .left))
-    (c .before .before .put-bar .ensures)
+returns-3 c =
+    rw (c .before .before .before .before .before .before .enum-told .given .1, lt-leb _ _ (c .before .before .before .before .if1 .left)) (c .before
+    .before .put-bar .ensures)
 
 pub put-totals-spec : {M : Type 1} → statement M
 put-totals-spec =

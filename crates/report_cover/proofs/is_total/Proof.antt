@@ -1,10 +1,10 @@
 use lib.Ieee.{nanBits}
 use Rattle.gates.specs.Sole.{total-is}
 use borrow.Author.Needs.{needs}
-use Rattle.report_totals.proofs.share.is_total.Statement.{statement}
-use Rattle.report_totals.proofs.share.is_total.Tie as tie
-use Rattle.report_totals.proofs.share.is_total.Reads as reads
-use Rattle.report_totals.proofs.share.is_total.Lts as lts
+use Rattle.report_cover.proofs.is_total.Statement.{statement}
+use Rattle.report_cover.proofs.is_total.Tie as tie
+use Rattle.report_cover.proofs.is_total.Reads as reads
+use Rattle.report_cover.proofs.is_total.Lts as lts
 
 float-from-bits-infinity : tie.Need-float-from-bits-infinity
 unfolding nanBits

@@ -2,10 +2,10 @@ use native.Mathlib.Omega.{arith}
 use mathlib.Core.Path.{sym}
 use lib.Seq.{length-take-le}
 use borrow.Author.Needs.{needs}
-use Rattle.limits.proofs.main.Statement.{statement}
-use Rattle.limits.proofs.main.Tie as tie
-use Rattle.limits.proofs.main.Reads as reads
-use Rattle.limits.proofs.main.Lts as lts
+use Rattle.limits.proofs.tell.Statement.{statement}
+use Rattle.limits.proofs.tell.Tie as tie
+use Rattle.limits.proofs.tell.Reads as reads
+use Rattle.limits.proofs.tell.Lts as lts
 use Rattle.io.proofs.read_full.Reads as read-full-reads
 use Rattle.io.proofs.write_all.Reads as write-all-reads
 use Rattle.limits.proofs.answer_memory.Reads as answer-memory-reads
@@ -15,8 +15,8 @@ use Rattle.report.proofs.answer.Reads as answer-reads
 slice-aggregate-write-all : tie.Need-slice-aggregate-write-all
 slice-aggregate-write-all c = sym (length-take-le _ _ (omega (arith, c .before .before .answer .ensures .behind)))
 
-pub main-spec : {M : Type 1} → statement M
-main-spec =
+pub tell-spec : {M : Type 1} → statement M
+tell-spec =
     tie.close
     (tie.spec
     (λ c κs. search needs)
