@@ -6,6 +6,7 @@ use mathlib.Core.List.{List}
 use mathlib.Core.Path.{_≡_, sym, ap, _∙_, subst}
 use lib.IntN.{ℤ, pos, natAbs, negℤ, _+ℤ_, _-ℤ_, +ℤ-idl, +ℤ-idr, +ℤ-comm}
 use lib.Ieee.{Float, sub, binary64}
+use Rattle.model_recipes.specs.Recipe.{Recipe}
 use Rattle.lists.specs.Test.{decide}
 use Rattle.model.specs.Places.{inside}
 use Rattle.model_textbook.specs.Sum.{addZ}

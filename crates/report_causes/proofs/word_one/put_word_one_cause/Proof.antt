@@ -11,7 +11,7 @@ returns c = rw (lt-leb _ _ (c .before .before .before .before .before .before .i
 
 returns-2 : tie.Need-returns-2
 unfolding wordOneCause
-returns-2 c = rw (le-leb _ _ (c .before .before .before .if1 .left)) (c .before .before .put-sizes-cause .ensures)
+returns-2 c = rw (le-leb _ _ (c .before .before .before .before .if1 .left)) (c .before .before .put-sizes-cause .ensures)
 
 pub put-word-one-cause-spec : {M : Type 1} → statement M
 put-word-one-cause-spec =
