@@ -133,6 +133,7 @@ module _ {t headers steps known : List ℕ} {pool : List Float} {s : Solved} (d 
     -- what a forecast is printed from
     pub solved-forecast : Forecast (take (s .inputs) headers) (length (take (s .steps) steps)) n (s .header)
         (length (take (s .from + s .count - s .from) (drop (s .from) pool)))
+    unfolding sheetRecipe
     solved-forecast =
         let f : s .from + s .count - s .from ≡ s .count = omega arith in
         record {

@@ -13,15 +13,15 @@ fill-floats-requires c κs =
 
 put-forecast-requires : tie.Need-put-forecast-requires
 put-forecast-requires c κs =
-    let c5 = c .before .before .before .before .before in
-    let c14 = c5 .before .before .before .before .before .before .before .before .before in
-    rw (c5 .fill-floats .ensures, length-table) (c14 .pre)
+    let c8 = c .before .before .before .before .before .before .before .before in
+    let start = c8 .before .before .before .before .before .before .before .before .before in
+    rw (c8 .fill-floats .ensures, length-table) (start .pre)
 
 returns : tie.Need-returns
 returns c =
-    let c5 = c .before .before .before .before .before in
-    let c8 = c5 .before .before .before in
-    rw (← c8 .fill-floats .ensures) (c .before .before .put-forecast .ensures _ _ (c5 .put-edition .ensures))
+    let c7 = c .before .before .before .before .before .before .before in
+    let c11 = c7 .before .before .before .before in
+    rw (← c11 .fill-floats .ensures) (c .before .before .put-forecast .ensures _ _ (c7 .put-edition .ensures))
 
 pub put-read-spec : {M : Type 1} → statement M
 put-read-spec =
