@@ -1,4 +1,5 @@
 pub mod Exact
 pub mod Head
 pub mod Constant
+pub mod Step
 pub mod Promises

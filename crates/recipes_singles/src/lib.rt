@@ -1,20 +1,22 @@
 // Steps of one operand. Where it is negated or shifted, the value is made in scratch and copied to the pool; a power is
-// made in the pool.
+// made in the pool; an exponential, which needs the scratch to work in, is made in memory of its own and copied.
 use gates::stored_of;
 use model::Header;
 ghost use mathlib.Core.Path.{_≡_};
-ghost use Prim.Native.Nat.{_+_, _≤_, _<_};
+ghost use Prim.Native.Nat.{_+_, _*_, _≤_, _<_};
 ghost use lib.ListN.{length, take};
 ghost use Rattle.lists.specs.Part.{Kept};
 ghost use Rattle.model.specs.Header.{stored};
 ghost use Rattle.model.specs.Refusals.{padded};
 ghost use Rattle.model.specs.Poly.{poly};
 ghost use Rattle.model.specs.Power.{powerPoly};
+ghost use Rattle.model_exponential.specs.Step.{exponentialPoly};
 ghost use Rattle.shape_words.specs.Rules.{Ruled};
 ghost use Rattle.power.specs.Room.{Loaded};
 ghost use Rattle.shape_operands.specs.Lent.{source, lying, Lies, Lent};
 ghost use Rattle.recipes_singles.specs.Change.{changedPoly, Changing};
 ghost use Rattle.recipes_singles.specs.Power.{Powering};
+ghost use Rattle.recipes_singles.specs.Exponential.{Exponential};
 
 // The value with +0.0 past it: h is the header of `a`, r the announced one; answers the true one.
 fn changed(
@@ -163,4 +165,74 @@ pub fn power_to(
         limits,
         lengths: r,
     }
+}
+
+// Memory for the value of an exponential.
+fn block() -> [f64; 4096]
+    ensures { λ r. ⌜ length r ≡ 4096 ⌝ }
+{
+    [0.0f64; 4096]
+}
+
+// The exponential of an operand where it lies, the head by its constant: x is its header, h the announced one, n its
+// count.
+fn exp_from<'a>(
+    x: Header,
+    input: bool,
+    from: usize,
+    h: Header,
+    n: usize,
+    coefficients: &'a [f64],
+    pool: &'a [f64],
+    to: &mut [f64],
+    work: &mut [f64],
+)
+    requires { ⌜ Exponential x h n ⌝ ∗ ⌜ from + stored x ≤ length (source input (now coefficients) (now pool)) ⌝
+        ∗ ⌜ (length (now to) ≡ n) × (length (now work) ≡ 8 * n) ⌝ }
+    ensures { λ _. ⌜ now (to .exit) ≡ exponentialPoly (lying input (now (coefficients .entry)) (now (pool .entry)) from x) .coeffs ⌝ }
+    ensures spent { λ _. ⌜ length (now (work .exit)) ≡ length (now (work .entry)) ⌝ }
+{
+    let given = stored_of(x);
+    let a = shape_operands::stretch(input, coefficients, pool, from, given);
+    let head = exponential_head::exp_head(a[0]);
+    let la = x.lengths;
+    let r = h.lengths;
+    series_exp::exp_into(head, a, la, r, n, to, work);
+}
+
+// The exponential to the pool, n places from `at` on.
+pub fn exp_to(
+    x: Header,
+    input: bool,
+    from: usize,
+    h: Header,
+    n: usize,
+    coefficients: &[f64],
+    pool: &mut [f64],
+    at: usize,
+    scratch: &mut [f64],
+) -> Header
+    requires { ⌜ Exponential x h n ⌝ ∗ ⌜ Lies x input from at (length (now coefficients)) ⌝ ∗ ⌜ Lent n at (length (now pool)) (length (now scratch)) ⌝ }
+    ensures head { λ r. ⌜ r ≡ exponentialPoly (lying input (now (coefficients .entry)) (take at (now (pool .entry))) from x) .head ⌝ }
+    ensures kept { λ r.
+        ⌜ Kept at (at + n)
+        (padded n (exponentialPoly (lying input (now (coefficients .entry)) (take at (now (pool .entry))) from x) .coeffs))
+        (now (pool .entry)) (now (pool .exit)) ⌝ }
+    ensures spent { λ _. ⌜ length (now (scratch .exit)) ≡ length (now (scratch .entry)) ⌝ }
+{
+    let room = 8 * n;
+    let mut value = block();
+    exp_from(
+        x,
+        input,
+        from,
+        h,
+        n,
+        coefficients,
+        &pool[..at],
+        &mut value[..n],
+        &mut scratch[..room],
+    );
+    product::kernel::keep(&value, n, pool, at);
+    h
 }
