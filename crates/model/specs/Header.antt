@@ -68,4 +68,4 @@ twoAtMost v k l = cond (eqb k v) (min 2 l) 1
 
 -- x + v: length min(2, limit) in v
 unfoldable pub varWith : ℕ → ℕ → List ℕ → Header
-varWith v vars l = header vars (zeroWith vars l .limits) (four (λ k. twoAtMost v k (limit (zeroWith vars l) k)))
+varWith v vars l = withLengths (zeroWith vars l) (four (λ k. twoAtMost v k (limit (zeroWith vars l) k)))

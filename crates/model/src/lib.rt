@@ -117,9 +117,9 @@ impl Header {
         }
     }
 
-    // The headers of the constructors.
+    // The headers of the constructors, each under its name; the value does not matter to them.
 
-    // `zero`, `one`, `from_u32`: a constant with no variables.
+    // A constant with no variables.
     pub fn none() -> Header
         ensures { λ r. ⌜ r ≡ noHeader ⌝ }
     {
@@ -130,7 +130,25 @@ impl Header {
         }
     }
 
-    // `zero_with`, `from_u32_with`: a constant that carries the first `vars` of these limits.
+    pub fn zero() -> Header
+        ensures { λ r. ⌜ r ≡ noHeader ⌝ }
+    {
+        Header::none()
+    }
+
+    pub fn one() -> Header
+        ensures { λ r. ⌜ r ≡ noHeader ⌝ }
+    {
+        Header::none()
+    }
+
+    pub fn from_u32() -> Header
+        ensures { λ r. ⌜ r ≡ noHeader ⌝ }
+    {
+        Header::none()
+    }
+
+    // A constant that carries the first `vars` of these limits.
     pub fn zero_with(vars: usize, limits: [usize; 4]) -> Header
         ensures { λ r. ⌜ r ≡ zeroWith vars limits ⌝ }
     {
@@ -146,30 +164,42 @@ impl Header {
         }
     }
 
-    // `var_with_degrees_p1`: x + v, as far as the limit of v lets it.
+    pub fn from_u32_with(vars: usize, limits: [usize; 4]) -> Header
+        ensures { λ r. ⌜ r ≡ zeroWith vars limits ⌝ }
+    {
+        Header::zero_with(vars, limits)
+    }
+
+    // x + v, as far as the limit of v lets it.
     pub fn var_with_degrees_p1(v: usize, vars: usize, limits: [usize; 4]) -> Header
         ensures { λ r. ⌜ r ≡ varWith v vars limits ⌝ }
     {
         let h = Header::zero_with(vars, limits);
         let l = h.limits;
-        Header {
-            vars,
-            limits: l,
-            lengths: [
+        Header::with_lengths(
+            h,
+            [
                 two_at_most(v, 0, l[0]),
                 two_at_most(v, 1, l[1]),
                 two_at_most(v, 2, l[2]),
                 two_at_most(v, 3, l[3]),
             ],
-        }
+        )
     }
 
-    // `var`, `var_at_zero`: every variable up to v under one limit.
+    // x + v, every variable up to v under one limit.
     pub fn var(v: usize, limit: usize) -> Header
         requires { ⌜ v < 4 ⌝ }
         ensures { λ r. ⌜ r ≡ varHeader v limit ⌝ }
     {
         Header::var_with_degrees_p1(v, v + 1, [limit, limit, limit, limit])
+    }
+
+    pub fn var_at_zero(v: usize, limit: usize) -> Header
+        requires { ⌜ v < 4 ⌝ }
+        ensures { λ r. ⌜ r ≡ varHeader v limit ⌝ }
+    {
+        Header::var(v, limit)
     }
 }
 

@@ -67,14 +67,15 @@ same-length-2 c = search needs
 
 returns : tie.Need-returns
 returns c =
-    let c9 = c .before .before .before .before .before .before .before .before .before in
+    let c9 = c .before .before .before .before .before .before .before .before .before .before in
     let start = c9 .before .before .before .before .before .before .before .before in (
-      value-head (start .pre .0) (taken (start .args .p) (start .args .a .now) (take (start .args .at) (start .args .out .now)) .coeffs)
+      c .with-lengths .ensures
+          ∙ value-head (start .pre .0) (taken (start .args .p) (start .args .a .now) (take (start .args .at) (start .args .out .now)) .coeffs)
           (taken (start .args .q) (start .args .b .now) (take (start .args .at) (start .args .out .now)) .coeffs) (full start) (c9 .front-to .ensures .0),
       (
         value-kept (start .pre .0) (taken (start .args .p) (start .args .a .now) (take (start .args .at) (start .args .out .now)) .coeffs)
             (taken (start .args .q) (start .args .b .now) (take (start .args .at) (start .args .out .now)) .coeffs) (full start) (c9 .front-to .ensures .0)
-            (c .before .before .before .before .count-of .ensures) (c .before .before .pad .ensures),
+            (c .before .before .before .before .before .count-of .ensures) (c .before .before .before .pad .ensures),
         same-length-2 c,
       ),
     )
@@ -84,4 +85,4 @@ substitute-to-spec =
     tie.close
     (tie.spec
     (λ c. search needs) (λ c. search needs) slice-aggregate-front-to front-to-requires count-of-requires add-pad
-    add-pad-2 pad-requires (λ c. search needs) same-length-2 returns)
+    add-pad-2 pad-requires (λ c κs. search needs) (λ c. search needs) same-length-2 returns)
