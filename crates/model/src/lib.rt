@@ -7,12 +7,13 @@ ghost use Rattle.model.specs.Faults.{noFault, fault, unless};
 ghost use Rattle.model.specs.Refusals.{noRefusal, refusedBy, refusedAt, refusedFor};
 ghost use Rattle.model.specs.Linear.{noLinear};
 
-// A polynomial's number of variables, its limits (the Rust's `degrees_p1`) and its stored lengths; 1 and 1 for a
-// missing variable.
+// A polynomial's number of variables, its limits (the Rust's `degrees_p1`), its stored lengths, 1 and 1 for a missing
+// variable, and its cap on the total degree, 0 for none (document 02, W10).
 pub struct Header {
     pub vars: usize,
     pub limits: [usize; 4],
     pub lengths: [usize; 4],
+    pub cap: usize,
 }
 
 // What is wrong with a header word, or with limits that a constructor is given (document 02, W5): the variable, 4 for
@@ -105,7 +106,10 @@ impl Header {
     // The most stored places.
     pub const COUNT: usize = 4096;
 
-    // The same variables and limits, other lengths.
+    // The largest cap: none yet.
+    pub const CAP: usize = 0;
+
+    // The same variables, limits and cap, other lengths.
     pub fn with_lengths(h: Header, lengths: [usize; 4]) -> Header
         ensures { λ r. ⌜ r ≡ withLengths h lengths ⌝ }
     {
@@ -114,6 +118,7 @@ impl Header {
             vars: h.vars,
             limits,
             lengths,
+            cap: h.cap,
         }
     }
 
@@ -127,6 +132,7 @@ impl Header {
             vars: 0,
             limits: [1, 1, 1, 1],
             lengths: [1, 1, 1, 1],
+            cap: 0,
         }
     }
 
@@ -161,6 +167,7 @@ impl Header {
                 limit_or_one(vars, 3, limits[3]),
             ],
             lengths: [1, 1, 1, 1],
+            cap: 0,
         }
     }
 

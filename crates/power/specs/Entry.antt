@@ -71,7 +71,7 @@ block-value e p g =
     decide (eqb e 0)
     (λ t. rw t)
     (λ t. rw t (decide (eqb e 1)
-    (λ u. rw u (ap (λ (l : List ℕ). poly (header (p .head .vars) l (p .head .lengths)) (p .coeffs)) (single-limits (Power e) g (λ k. refl))))
+    (λ u. rw u (ap (λ (l : List ℕ). poly (header (p .head .vars) l (p .head .lengths) (p .head .cap)) (p .coeffs)) (single-limits (Power e) g (λ k. refl))))
     (λ u. rw u)))
 
 module _ (w : ℕ) (a : List Float) (e : ℕ) {x h : Header} (ex : x ≡ headerOf w)

@@ -55,7 +55,7 @@ module _ {w u ma mb mo ms : ℕ} (g : PairReady Quotient w ma u mb mo ms) {x y h
     unfolding quotientPoly
     entry-head t =
         let e : h ≡ withLengths h (divided (h .limits) (block (x .lengths) (take na a)) (block (y .lengths) (take nb b)) .lengths) =
-        λ i. record { vars = h .vars; limits = h .limits; lengths = sym (into-lengths t (take na a) (take nb b)) i } in
+        λ i. record { vars = h .vars; limits = h .limits; lengths = sym (into-lengths t (take na a) (take nb b)) i; cap = h .cap } in
         e ∙ rw (eh, ea, eb, ex, ey)
 
     -- the value

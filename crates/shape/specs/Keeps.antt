@@ -56,11 +56,12 @@ ones-keeps {h} x r =
                   v1 = ones-var (g .v1);
                   v2 = ones-var (g .v2);
                   v3 = ones-var (g .v3);
+                  low = g .low;
                 };
             ls = r .ls;
             ns = refl;
           };
-      under = record { vars = refl; limits = refl; most = λ k p. rw (at-four (λ k. 1) k p) (ruled-at g k p .pos) };
+      under = record { vars = refl; limits = refl; most = λ k p. rw (at-four (λ k. 1) k p) (ruled-at g k p .pos); cap = refl };
       full = refl;
     }
 
