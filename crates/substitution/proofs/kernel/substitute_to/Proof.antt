@@ -16,16 +16,16 @@ full c =
     (length-take-le _ _ (omega (arith, c .pre .1 .1 .1 .room))))
 
 slice-aggregate-front-to : tie.Need-slice-aggregate-front-to
-slice-aggregate-front-to c = sym (length-take-le _ _ (c .before .before .before .before .before .before .before .pre .1 .1 .1 .spare))
+slice-aggregate-front-to c = sym (length-take-le _ _ (c .before .before .before .before .before .before .pre .1 .1 .1 .spare))
 
 front-to-requires : tie.Need-front-to-requires
 front-to-requires c κs =
-    let start = c .before .before .before .before .before .before .before in
+    let start = c .before .before .before .before .before .before in
     (substituting-given (start .pre .0) (length-take-le _ _ (start .pre .1 .1 .1 .spare)), (start .pre .1 .0, (start .pre .1 .1 .0, start .pre .1 .1 .1 .room)))
 
 count-of-requires : tie.Need-count-of-requires
 count-of-requires c κs =
-    let start = c .before .before .before .before .before .before .before .before .before .before .before .before in
+    let start = c .before .before .before .before .before .before .before .before .before .before .before in
     value-lengths (start .pre .0) (taken (start .args .p) (start .args .a .now) (take (start .args .at) (start .args .out .now)) .coeffs)
     (taken (start .args .q) (start .args .b .now) (take (start .args .at) (start .args .out .now)) .coeffs)
     (full start) (c .before .before .before .before .front-to .ensures .0)
@@ -33,7 +33,7 @@ count-of-requires c κs =
 add-pad : tie.Need-add-pad
 add-pad c =
     let c12 = c .before .before .before .before .before .before .before .before .before .before .before .before in
-    let start = c12 .before .before in
+    let start = c12 .before in
     omega (
       arith,
       start .pre .1 .1 .1 .room,
@@ -46,13 +46,13 @@ add-pad c =
 add-pad-2 : tie.Need-add-pad-2
 add-pad-2 c =
     let c12 = c .before .before .before .before .before .before .before .before .before .before .before .before in
-    let start = c12 .before .before in
+    let start = c12 .before in
     omega (arith, start .pre .1 .1 .1 .room, start .good)
 
 pad-requires : tie.Need-pad-requires
 pad-requires c κs =
     let c6 = c .before .before .before .before .before .before in
-    let start = c6 .before .before .before .before .before .before .before .before in (
+    let start = c6 .before .before .before .before .before .before .before in (
       omega (
         arith,
         value-count (start .pre .0) (taken (start .args .p) (start .args .a .now) (take (start .args .at) (start .args .out .now)) .coeffs)
@@ -68,7 +68,7 @@ same-length-2 c = search needs
 returns : tie.Need-returns
 returns c =
     let c9 = c .before .before .before .before .before .before .before .before .before .before in
-    let start = c9 .before .before .before .before .before .before .before .before in (
+    let start = c9 .before .before .before .before .before .before .before in (
       c .with-lengths .ensures
           ∙ value-head (start .pre .0) (taken (start .args .p) (start .args .a .now) (take (start .args .at) (start .args .out .now)) .coeffs)
           (taken (start .args .q) (start .args .b .now) (take (start .args .at) (start .args .out .now)) .coeffs) (full start) (c9 .front-to .ensures .0),
