@@ -19,7 +19,7 @@ use Rattle.lists.specs.Table.{table, table-same, length-table}
 use Rattle.lists.specs.Walk.{walk, walk-same}
 use Rattle.model.specs.declared.Header.{Header}
 use Rattle.model.specs.declared.Family.the-variants.{Shift}
-use Rattle.model.specs.Header.{header, len, stored, ones, noHeader}
+use Rattle.model.specs.Header.{len, stored, ones, noHeader, withLengths}
 use Rattle.model.specs.Places.{strides, index}
 use Rattle.model.specs.Announced.{announced}
 use Rattle.model.specs.Refusals.{zeroF}
@@ -65,7 +65,7 @@ row-by false v n p (suc k) x = rw (ne-eqb (suc k) 0 (λ e. omega arith)) (ap (mu
 module _ (plain : Bool) (v n : ℕ) (p : Poly) where
   -- past the stored length
   pub scaled-past : {r : Header} → r ≡ announced (Shift v n) (p .head) noHeader → len (p .head) v ≤ n
-      → scaledPoly plain v n p ≡ poly (header (r .vars) (r .limits) ones) (zeroF ∷ [])
+      → scaledPoly plain v n p ≡ poly (withLengths r ones) (zeroF ∷ [])
   unfolding rowsFrom
   scaled-past e l = scaled-is plain v n p ∙ (rw (e, le-leb _ _ l))
 

@@ -52,14 +52,14 @@ module _ {vars : ℕ} {l : List ℕ} (g : Given vars l) where
   pub zero-regular : Regular (zeroWith vars l)
   unfolding zeroWith
   zero-regular =
-      regular-four vars (λ k. limitOrOne vars k (at l k)) (λ k. 1) (g .few)
+      regular-four vars (λ k. limitOrOne vars k (at l k)) (λ k. 1) (g .few) (omega arith)
       (λ k p. let r = limit-range k p in record { pos = omega arith; fit = r .lo; most = r .hi; gone = limit-gone k })
 
   pub var-regular : (v : ℕ) → Regular (varWith v vars l)
   unfolding varWith zeroWith
   var-regular v =
       let f : ℕ → ℕ = λ k. limitOrOne vars k (at l k) in
-      regular-four vars f (λ k. twoAtMost v k (limit (zeroWith vars l) k)) (g .few)
+      regular-four vars f (λ k. twoAtMost v k (limit (zeroWith vars l) k)) (g .few) (omega arith)
       (λ k p. let r = limit-range k p in
       let e : limit (zeroWith vars l) k ≡ f k = at-four f k p in
       record {

@@ -22,6 +22,7 @@ use Rattle.model.specs.Header.{span, stored}
 use Rattle.model.specs.Faults.{soundVar, headerFault}
 use Rattle.model.specs.Word.{headerOf, faultOf, goodWord, fields, wordOf}
 use Rattle.model.specs.Places.{strides, offset, index, inside}
+use Rattle.model.specs.Cap.{minCap, lowerCap}
 use Rattle.model.specs.Limits.{minLimit, minDegreesP1, cutTo, maxShape, sumShape}
 use Rattle.model.specs.Announced.{single, paired, announced}
 use Rattle.model.specs.Refusals.{answerBy, readBy, leaves, written}
@@ -223,7 +224,7 @@ pub examples-hold : hold rows ≡ true
 unfolding hold equal same rows tailAnswer tailGate goodTotal readBy tailOf sumTo productAnswer productOut pairGate answerBy leaves
     written goodWord faultOf headerFault soundVar productPoly multiplied productOf shortcut linearProduct
     linearFrom lineOf linearIn zerosBut grown raised raisedAt joinedBlock joined joinAt general productAt line alone
-    walk table cut cutTo maxShape sumShape minDegreesP1 minLimit announced paired headerOf wordOf fields strides offset
+    walk table cut cutTo maxShape sumShape minDegreesP1 minLimit minCap lowerCap announced paired headerOf wordOf fields strides offset
     index inside span quotientAnswer quotientOut quotientPoly divided quotientOf quotientShape recurred quotientAt
     lessened taken inGate workGate single rowsFrom derivativeFactor derivativePoly rowSum shiftDownPoly derivativeAnswer
     derivativeOut shiftDownAnswer shiftDownOut squared powerPoly powerAnswer powerOut rowAt powered horner substituted

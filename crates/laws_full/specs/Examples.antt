@@ -14,6 +14,7 @@ use Rattle.lists.specs.Table.{table}
 use Rattle.model.specs.declared.Header.{Header}
 use Rattle.model.specs.Header.{span}
 use Rattle.model.specs.Faults.{soundVar, headerFault}
+use Rattle.model.specs.Cap.{minCap, lowerCap}
 use Rattle.model.specs.Limits.{minLimit, minDegreesP1}
 use Rattle.model.specs.Places.{strides, offset, inside}
 use Rattle.model.specs.Word.{headerOf, faultOf, goodWord}
@@ -61,7 +62,7 @@ module _ (e : Example) where
   refusal = checkRefusal (recipeOf 0 (e .heads) (e .steps)) .number
 
   known : List Header
-  unfolding announcedPlaces chain announcedStep announced single paired minDegreesP1 minLimit headerOf families stepOf span
+  unfolding announcedPlaces chain announcedStep announced single paired minDegreesP1 minLimit minCap lowerCap headerOf families stepOf span
   known = announcedPlaces (recipeOf 0 (e .heads) (e .steps))
 
   full : List ℕ

@@ -32,11 +32,11 @@ use Rattle.laws_keeps.specs.Sits.{Sits, sits-more, cut-sits, max-at, max
 pub sits-keeps : {h : Header} {b : Block} → Regular h → Sits (h .lengths) b → Keeps h (polyOf h b)
 sits-keeps {h} {b} r s = record {
   regular = record {
-    rules = record { few = r .rules .few; v0 = var 0 (lit< tt); v1 = var 1 (lit< tt); v2 = var 2 (lit< tt); v3 = var 3 (lit< tt) };
+    rules = record { few = r .rules .few; v0 = var 0 (lit< tt); v1 = var 1 (lit< tt); v2 = var 2 (lit< tt); v3 = var 3 (lit< tt); low = r .rules .low };
     ls = r .ls;
     ns = s .ns;
   };
-  under = record { vars = refl; limits = refl; most = s .hi };
+  under = record { vars = refl; limits = refl; most = s .hi; cap = refl };
   full = s .full;
 }
   where
@@ -100,7 +100,7 @@ combined-head minus p q = refl
 
 pub negated-head : (p : Poly) → Regular (p .head) → negated p .head ≡ p .head
 unfolding negated announced single
-negated-head p g = λ i. record { vars = p .head .vars; limits = sym (g .ls) i; lengths = sym (g .ns) i }
+negated-head p g = λ i. record { vars = p .head .vars; limits = sym (g .ls) i; lengths = sym (g .ns) i; cap = p .head .cap }
 
 pub negated-keeps : (p : Poly) → Regular (p .head) → Keeps (announced Same (p .head) noHeader) (negated p)
 unfolding negated

@@ -76,6 +76,7 @@ module _ (e : ℕ) (p : Poly) (g : Regular (p .head)) (full : length (p .coeffs)
       most =
           λ k h. rw (at-four (λ k. min (limit (p .head) k) (e * (len (p .head) k - 1) + 1)) k h, o)
           (omega (arith, ruled-at (g .rules) k h .fit, ruled-at (g .rules) k h .pos));
+      cap = refl;
     };
     full = full;
   }

@@ -7,8 +7,11 @@ use native.Mathlib.Omega.{arith}
 use native.Mathlib.Nat.{mod-lt}
 use lib.Bits.{bitAnd, and-block, and-self, and-zero-l}
 use lib.Dec.{leb, eqb}
-use lib.Pow.{shl-shr, split}
+use lib.Pow.{shl-shr, shr-shr, split}
+use borrow.Author.Tests.{eqb-true, leb-true}
 use Rattle.lists.specs.Test.{decide}
+use Rattle.model.specs.Word.{headerOf, goodWord}
+use Rattle.shape_words.specs.Sound.{word-sound}
 use Rattle.model_recipes.specs.declared.Step.{Step}
 use Rattle.model_recipes.specs.declared.Uses.{Uses}
 use Rattle.model_recipes.specs.Steps.{stepOf, spareOf, stepFields, wordOfStep, usesOf}
@@ -52,6 +55,11 @@ module _ (w : ℕ) where
   header-most : mendedHeader w ≤ w
   unfolding mendedHeader
   header-most = omega arith
+
+-- a word that is a header has no spare bits, and no cap as long as none may have one
+pub header-low : (w : ℕ) → goodWord w ≡ true → w % 2 ^ headerSpare ≡ 0
+unfolding headerOf
+header-low w e = let s = word-sound w e in omega (arith, eqb-true _ _ (s .spare), leb-true _ _ (s .low), shr-shr w 5 8)
 
 -- ---- steps
 

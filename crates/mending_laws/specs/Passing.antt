@@ -25,7 +25,6 @@ use Rattle.model_recipes.specs.Check.{askAt, knownEdition, rightSizes, namedBef
 use Rattle.model_texts.specs.Hex.{byteAt, isLine, wordAt}
 use Rattle.model_texts.specs.Sheet.{ownRefusal, lined, wordOn, inputCount, stepCount, spare, sheetHeaders, coefficientCount, sheetSteps, restCount}
 use Rattle.model_texts.specs.Sheet.{headersRefusal, readRefusal, sheetEdition, sheetRecipe}
-use Rattle.shape_words.specs.Sound.{word-sound}
 use Rattle.recipes_check.specs.Asks.{or-none, ask-none, ask-for-none}
 use Rattle.recipes_check.specs.Judged.{accepts}
 use Rattle.recipes_laws.specs.Ahead.{clear}
@@ -39,7 +38,7 @@ use Rattle.mending.specs.Headers.{every-at}
 use Rattle.mending.specs.Words.{word-one, word-header, word-coefficient, word-step}
 use Rattle.mending.specs.Reading.{firstTest, headersTest, restTest}
 use Rattle.mending_laws.specs.Plain.{end-is, old-plain, word-plain, place-plain}
-use Rattle.mending_laws.specs.Bits.{one-fixed, header-fixed, step-fixed}
+use Rattle.mending_laws.specs.Bits.{one-fixed, header-fixed, header-low, step-fixed}
 use Rattle.mending_laws.specs.Unchanged.{every-all, unchanged}
 use Rattle.mending_laws.specs.Twice.{word-small, fine-none}
 
@@ -176,7 +175,7 @@ module _ (t : List ℕ) (g : Passed t) where
   header-is : (i : ℕ) → i < inputCount t → headerIn t (1 + i) ≡ wordOn t (1 + i)
   header-is i l =
       let w : ℕ = wordOn t (1 + i) in
-      let z : w % 2 ^ headerSpare ≡ 0 = eqb-true _ _ (word-sound w (good i l) .spare) in
+      let z : w % 2 ^ headerSpare ≡ 0 = header-low w (good i l) in
       ap mendedHeader (words (1 + i) (omega arith)) ∙ header-fixed w z
 
   headers-are : headersIn t ≡ sheetHeaders t
@@ -261,7 +260,7 @@ module _ (t : List ℕ) (g : Passed t) where
         let i : ℕ = k - 1 in
         let e : k ≡ 1 + i = omega (arith, z) in
         let s : w % 2 ^ headerSpare ≡ 0 =
-        ap (λ (x : ℕ). wordOn t x % 2 ^ headerSpare) e ∙ eqb-true _ _ (word-sound (wordOn t (1 + i)) (good i (omega arith)) .spare) in
+        ap (λ (x : ℕ). wordOn t x % 2 ^ headerSpare) e ∙ header-low (wordOn t (1 + i)) (good i (omega arith)) in
         sym (word-header (inputCount t) (coefficientCount t) k w z m) ∙ header-fixed w s)
         (λ b.
         let m = leb-false k (inputCount t) b in

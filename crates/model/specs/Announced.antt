@@ -11,6 +11,7 @@ use Rattle.model.specs.declared.Family.{Family}
 use Rattle.model.specs.declared.Family.the-variants.{Constant, Same, Sum, Product, Quotient, Series, Power, Shift, Substitution, Term, Order, One}
 use Rattle.model.specs.Header.{header, limit, len, noHeader}
 use Rattle.model.specs.Limits.{minDegreesP1}
+use Rattle.model.specs.Cap.{minCap, capAfter}
 
 -- x less d in the variable v, 1 at least
 abbrev pub lessIn : ℕ → ℕ → ℕ → ℕ → ℕ
@@ -51,13 +52,14 @@ lengthAfter One k l p a b = 1
 unfoldable pub single : Family → Header → Header
 single f a =
     header (a .vars) (four (λ k. limitAfter f k (limit a k)))
-    (four (λ k. lengthAfter f k (limitAfter f k (limit a k)) 1 (len a k) 1))
+    (four (λ k. lengthAfter f k (limitAfter f k (limit a k)) 1 (len a k) 1)) (capAfter f (a .cap))
 
 -- two operands, cut to the smaller limits
 unfoldable pub paired : Family → ℕ → Header → Header → Header
 paired f p a b =
     let l = minDegreesP1 a b in
     header (max (a .vars) (b .vars)) l (four (λ k. lengthAfter f k (at l k) p (min (at l k) (len a k)) (min (at l k) (len b k))))
+    (minCap (a .cap) (b .cap))
 
 -- the announced header; b does not matter where there is one operand
 unfoldable pub announced : Family → Header → Header → Header

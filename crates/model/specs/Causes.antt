@@ -3,6 +3,7 @@
 use Prim.Native.Nat.{ℕ, suc, _%_, _^_, _≤_, _<_}
 use mathlib.Core.Bool.{cond}
 use lib.Dec.{leb, eqb}
+use Rattle.model.specs.Cap.{mostCap}
 use Rattle.model.specs.Header.{limit, len, stored}
 use Rattle.model.specs.Word.{headerOf}
 
@@ -13,7 +14,9 @@ pub data HeaderReason (w : ℕ) : ℕ → ℕ → Type 0 where
   -- a missing variable has limit 1 and length 1: zeros in both fields
   missing-limit : (k : ℕ) → k < 4 → headerOf w .vars ≤ k → 1 < limit (headerOf w) k → HeaderReason w k 3
   missing-length : (k : ℕ) → k < 4 → headerOf w .vars ≤ k → 1 < len (headerOf w) k → HeaderReason w k 3
-  spare-bits : 0 < w % 2 ^ 13 → HeaderReason w 4 4
+  spare-bits : 0 < w % 2 ^ 5 → HeaderReason w 4 4
+  -- W10: told as spare bits
+  large-cap : mostCap < headerOf w .cap → HeaderReason w 4 4
   large-count : 4096 < stored (headerOf w) → HeaderReason w 4 5
 
 -- which comes first: the number of variables, each variable in turn, spare bits, the count

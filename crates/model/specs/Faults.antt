@@ -1,7 +1,8 @@
 -- REFERENCE 5.5. Document 02, W5: what is wrong with a header word, or with the limits that a constructor is given: a
 -- variable, 4 for none, and a cause. Of a header the first in this order is told: 1 number of variables; then for each
 -- variable in turn 2 length above limit, where the header has it, or 3 a field that is not zero, where it is missing;
--- 4 spare bits; 5 count. 6 is a constructor's: 4 for too many limits, tested first, else the first wrong limit.
+-- 4 spare bits, or a cap that is too large (W10); 5 count. 6 is a constructor's: 4 for too many limits, tested first,
+-- else the first wrong limit.
 use Prim.Native.Nat.{ℕ}
 use mathlib.Core.List.{List}
 use mathlib.Core.Bool.{Bool, true, false, _&&_, _||_, cond}
@@ -9,6 +10,7 @@ use lib.Dec.{leb, ltb, eqb}
 use Rattle.lists.specs.Four.{at}
 use Rattle.model.specs.declared.Header.{Header}
 use Rattle.model.specs.declared.Fault.{Fault}
+use Rattle.model.specs.Cap.{mostCap}
 use Rattle.model.specs.Header.{limit, len, stored}
 
 abbrev pub fault : ℕ → ℕ → Fault
@@ -32,6 +34,10 @@ soundVar h k = cond (ltb k (h .vars)) (leb (len h k) (limit h k)) (eqb (limit h 
 abbrev pub varFault : Header → ℕ → Fault
 varFault h k = fault k (cond (ltb k (h .vars)) 2 3)
 
+-- no spare bits, and a cap that a header may have
+abbrev pub soundEnd : Header → ℕ → Bool
+soundEnd h s = eqb s 0 && leb (h .cap) mostCap
+
 -- h what the fields of a word say, s what its spare bits hold
 unfoldable pub headerFault : Header → ℕ → Fault
 headerFault h s =
@@ -40,7 +46,7 @@ headerFault h s =
     (unless (soundVar h 1) (varFault h 1)
     (unless (soundVar h 2) (varFault h 2)
     (unless (soundVar h 3) (varFault h 3)
-    (unless (eqb s 0) (fault 4 4)
+    (unless (soundEnd h s) (fault 4 4)
     (unless (leb (stored h) 4096) (fault 4 5)
     noFault))))))
 

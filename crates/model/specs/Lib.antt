@@ -1,3 +1,4 @@
+pub mod Cap
 pub mod Header
 pub mod Faults
 pub mod Word

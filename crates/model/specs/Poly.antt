@@ -8,7 +8,7 @@ use lib.ListN.{getD, take}
 use lib.Ieee.{Float, nan}
 use Rattle.lists.specs.Table.{table}
 use Rattle.model.specs.declared.Header.{Header}
-use Rattle.model.specs.Header.{header, count, stored}
+use Rattle.model.specs.Header.{count, stored, withLengths}
 use Rattle.model.specs.Word.{headerOf}
 use Rattle.model.specs.Places.{place, index, inside}
 use Rattle.model.specs.Limits.{cutTo}
@@ -33,7 +33,7 @@ blockOf p = block (p .head .lengths) (p .coeffs)
 
 -- a block among the variables and under the limits of a header
 abbrev pub polyOf : Header → Block → Poly
-polyOf h b = poly (header (h .vars) (h .limits) (b .lengths)) (b .places)
+polyOf h b = poly (withLengths h (b .lengths)) (b .places)
 
 -- what a header word and a buffer hold
 abbrev pub held : ℕ → List Float → Poly

@@ -7,12 +7,13 @@ ghost use Rattle.model.specs.Faults.{noFault, fault, unless};
 ghost use Rattle.model.specs.Refusals.{noRefusal, refusedBy, refusedAt, refusedFor};
 ghost use Rattle.model.specs.Linear.{noLinear};
 
-// A polynomial's number of variables, its limits (the Rust's `degrees_p1`) and its stored lengths; 1 and 1 for a
-// missing variable.
+// A polynomial's number of variables, its limits (the Rust's `degrees_p1`), its stored lengths, 1 and 1 for a missing
+// variable, and its cap on the total degree, 0 for none (document 02, W10).
 pub struct Header {
     pub vars: usize,
     pub limits: [usize; 4],
     pub lengths: [usize; 4],
+    pub cap: usize,
 }
 
 // What is wrong with a header word, or with limits that a constructor is given (document 02, W5): the variable, 4 for
@@ -105,7 +106,10 @@ impl Header {
     // The most stored places.
     pub const COUNT: usize = 4096;
 
-    // The same variables and limits, other lengths.
+    // The largest cap: none yet.
+    pub const CAP: usize = 0;
+
+    // The same variables, limits and cap, other lengths.
     pub fn with_lengths(h: Header, lengths: [usize; 4]) -> Header
         ensures { λ r. ⌜ r ≡ withLengths h lengths ⌝ }
     {
@@ -114,12 +118,13 @@ impl Header {
             vars: h.vars,
             limits,
             lengths,
+            cap: h.cap,
         }
     }
 
-    // The headers of the constructors.
+    // The headers of the constructors, each under its name; the value does not matter to them.
 
-    // `zero`, `one`, `from_u32`: a constant with no variables.
+    // A constant with no variables.
     pub fn none() -> Header
         ensures { λ r. ⌜ r ≡ noHeader ⌝ }
     {
@@ -127,10 +132,29 @@ impl Header {
             vars: 0,
             limits: [1, 1, 1, 1],
             lengths: [1, 1, 1, 1],
+            cap: 0,
         }
     }
 
-    // `zero_with`, `from_u32_with`: a constant that carries the first `vars` of these limits.
+    pub fn zero() -> Header
+        ensures { λ r. ⌜ r ≡ noHeader ⌝ }
+    {
+        Header::none()
+    }
+
+    pub fn one() -> Header
+        ensures { λ r. ⌜ r ≡ noHeader ⌝ }
+    {
+        Header::none()
+    }
+
+    pub fn from_u32() -> Header
+        ensures { λ r. ⌜ r ≡ noHeader ⌝ }
+    {
+        Header::none()
+    }
+
+    // A constant that carries the first `vars` of these limits.
     pub fn zero_with(vars: usize, limits: [usize; 4]) -> Header
         ensures { λ r. ⌜ r ≡ zeroWith vars limits ⌝ }
     {
@@ -143,33 +167,46 @@ impl Header {
                 limit_or_one(vars, 3, limits[3]),
             ],
             lengths: [1, 1, 1, 1],
+            cap: 0,
         }
     }
 
-    // `var_with_degrees_p1`: x + v, as far as the limit of v lets it.
+    pub fn from_u32_with(vars: usize, limits: [usize; 4]) -> Header
+        ensures { λ r. ⌜ r ≡ zeroWith vars limits ⌝ }
+    {
+        Header::zero_with(vars, limits)
+    }
+
+    // x + v, as far as the limit of v lets it.
     pub fn var_with_degrees_p1(v: usize, vars: usize, limits: [usize; 4]) -> Header
         ensures { λ r. ⌜ r ≡ varWith v vars limits ⌝ }
     {
         let h = Header::zero_with(vars, limits);
         let l = h.limits;
-        Header {
-            vars,
-            limits: l,
-            lengths: [
+        Header::with_lengths(
+            h,
+            [
                 two_at_most(v, 0, l[0]),
                 two_at_most(v, 1, l[1]),
                 two_at_most(v, 2, l[2]),
                 two_at_most(v, 3, l[3]),
             ],
-        }
+        )
     }
 
-    // `var`, `var_at_zero`: every variable up to v under one limit.
+    // x + v, every variable up to v under one limit.
     pub fn var(v: usize, limit: usize) -> Header
         requires { ⌜ v < 4 ⌝ }
         ensures { λ r. ⌜ r ≡ varHeader v limit ⌝ }
     {
         Header::var_with_degrees_p1(v, v + 1, [limit, limit, limit, limit])
+    }
+
+    pub fn var_at_zero(v: usize, limit: usize) -> Header
+        requires { ⌜ v < 4 ⌝ }
+        ensures { λ r. ⌜ r ≡ varHeader v limit ⌝ }
+    {
+        Header::var(v, limit)
     }
 }
 

@@ -26,7 +26,7 @@ lengthsOf s = four (λ k. getD s k 1)
 
 -- the header of a file that is read
 abbrev pub headOf : List ℕ → Header
-headOf s = header (length s) (lengthsOf s) (lengthsOf s)
+headOf s = header (length s) (lengthsOf s) (lengthsOf s) 0
 
 -- the shape of a file that is written: the stored lengths
 abbrev pub shapeOf : Header → List ℕ

@@ -20,7 +20,7 @@ use Rattle.npy_files.specs.Sizes.{good-cap, product-count}
 use Rattle.npy_files.specs.Once.{cap-all, good-range}
 
 abbrev pub HeadKept : Shape → Header → Type 0
-HeadKept s h = h ≡ header (s .vars) (s .n) (s .n)
+HeadKept s h = h ≡ header (s .vars) (s .n) (s .n) 0
 
 pub in-range : (s : List ℕ) → allInRange s ≡ true → (k : ℕ) → (1 ≤ getD s k 1) × (getD s k 1 ≤ 64)
 unfolding allInRange
@@ -50,7 +50,7 @@ module _ (s : List ℕ) (h : goodShape s ≡ true) where
   pub shape-regular : Regular (headOf s)
   shape-regular =
       let r = in-range s (good-range s h) in
-      regular-four (length s) (λ k. getD s k 1) (λ k. getD s k 1) (good-few s h)
+      regular-four (length s) (λ k. getD s k 1) (λ k. getD s k 1) (good-few s h) (omega arith)
       (λ k l.
       record {
         pos = r k .0;
@@ -67,7 +67,7 @@ module _ (s : List ℕ) (h : goodShape s ≡ true) where
 
 -- the header as it is kept, more than four numbers as five
 abbrev keptHead : List ℕ → Header
-keptHead m = header (min (length m) 5) (lengthsOf m) (lengthsOf m)
+keptHead m = header (min (length m) 5) (lengthsOf m) (lengthsOf m) 0
 
 kept-few : (m : List ℕ) → length m ≤ 4 → keptHead m ≡ headOf m
 kept-few m l = let e : min (length m) 5 ≡ length m = omega arith in rw e

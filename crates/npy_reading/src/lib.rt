@@ -99,5 +99,6 @@ pub fn head_of(s: Shape) -> Header
         vars: s.vars,
         limits: n,
         lengths: n,
+        cap: 0,
     }
 }

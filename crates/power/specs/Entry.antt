@@ -12,7 +12,7 @@ use borrow.Author.Tests.{eqb-true, ne-eqb}
 use Rattle.lists.specs.Test.{decide}
 use Rattle.model.specs.declared.Header.{Header}
 use Rattle.model.specs.declared.Family.the-variants.{Power}
-use Rattle.model.specs.Header.{header, count, stored, noHeader}
+use Rattle.model.specs.Header.{header, count, stored, noHeader, withLengths}
 use Rattle.model.specs.Word.{headerOf}
 use Rattle.model.specs.Announced.{announced, single}
 use Rattle.model.specs.Refusals.{zeros, padded}
@@ -71,7 +71,7 @@ block-value e p g =
     decide (eqb e 0)
     (λ t. rw t)
     (λ t. rw t (decide (eqb e 1)
-    (λ u. rw u (ap (λ (l : List ℕ). poly (header (p .head .vars) l (p .head .lengths)) (p .coeffs)) (single-limits (Power e) g (λ k. refl))))
+    (λ u. rw u (ap (λ (l : List ℕ). poly (header (p .head .vars) l (p .head .lengths) (p .head .cap)) (p .coeffs)) (single-limits (Power e) g (λ k. refl))))
     (λ u. rw u)))
 
 module _ (w : ℕ) (a : List Float) (e : ℕ) {x h : Header} (ex : x ≡ headerOf w)
@@ -80,7 +80,7 @@ module _ (w : ℕ) (a : List Float) (e : ℕ) {x h : Header} (ex : x ≡ headerO
   entry-value = rw (ea, ex, eh) (block-value e (held w a) g)
 
   pub entry-head : {r : List ℕ} → r ≡ powerBlock e (h .limits) (block (x .lengths) (take na a)) .lengths
-      → header (h .vars) (h .limits) r ≡ powerPoly e (held w a) .head
+      → withLengths h r ≡ powerPoly e (held w a) .head
   entry-head k = rw k (ap (λ (p : Poly). p .head) entry-value)
 
   pub entry-out : (n : ℕ) {o : List Float} → o ≡ padded n (powerBlock e (h .limits) (block (x .lengths) (take na a)) .places)

@@ -40,7 +40,7 @@ use Rattle.product.specs.Short.{light-is, short-var, short-value}
 
 -- the gate lets it pass
 pub owns-it : (w ma u mb mo ms : ℕ) {x y : Header} {n m : ℕ} → x ≡ headerOf w → y ≡ headerOf u → goodWord w ≡ true
-    → Keeps x y → eqb (u % 2 ^ 13) 0 ≡ true → n ≡ stored x → m ≡ stored y
+    → Keeps x y → eqb (u % 2 ^ 5) 0 ≡ true → n ≡ stored x → m ≡ stored y
     → 1 < n → m ≤ 2 → n ≤ ma → m ≤ mb → n ≤ mo → 8 * n ≤ ms → Owns w ma u mb mo ms n
 unfolding pairGate
 owns-it w ma u mb mo ms {x} {y} {n} {m} ex ey g k z en em big few fa fb fo fs =
@@ -77,7 +77,7 @@ both-ways false false f g = refl
 
 -- the tests that are made: of words and headers, and of the places
 abbrev firstTest : ℕ → ℕ → Bool
-firstTest w u = (goodWord w && keepsHeader (headerOf w) (headerOf u)) && eqb (u % 2 ^ 13) 0
+firstTest w u = (goodWord w && keepsHeader (headerOf w) (headerOf u)) && eqb (u % 2 ^ 5) 0
 
 abbrev roomTest : ℕ → ℕ → ℕ → ℕ → ℕ → ℕ → Bool
 roomTest n ma m mb mo ms = ((((ltb 1 n && leb m 2) && leb n ma) && leb m mb) && leb n mo) && leb (8 * n) ms
@@ -107,8 +107,8 @@ module _ (w ma u mb mo ms : ℕ) where
     kept-test : keepsHeader (headerOf w) (headerOf u) ≡ true
     kept-test = and-right (eqb (pairGate Product w ma u mb mo ms .number) 0) (keepsHeader (headerOf w) (headerOf u)) passed
 
-    spare-bits : eqb (u % 2 ^ 13) 0 ≡ true
-    spare-bits = and-right (goodHeader (headerOf u)) (eqb (u % 2 ^ 13) 0) (sym (good-word-is u) ∙ let-pass .word-b)
+    spare-bits : eqb (u % 2 ^ 5) 0 ≡ true
+    spare-bits = and-right (goodHeader (headerOf u)) (eqb (u % 2 ^ 5) 0) (sym (good-word-is u) ∙ let-pass .word-b)
 
     told-left : announcedPair Product w u ≡ headerOf w
     told-left = keeps-announced (let-pass .good-a .regular) (keeps-header _ _ kept-test)
@@ -137,7 +137,7 @@ module _ (w ma u mb mo ms : ℕ) where
   tests-own h =
       let f = and-left (firstTest w u) (roomTest n ma m mb mo ms) h in
       let t = and-right (firstTest w u) (roomTest n ma m mb mo ms) h in
-      let g = and-left (goodWord w && keepsHeader (headerOf w) (headerOf u)) (eqb (u % 2 ^ 13) 0) f in
+      let g = and-left (goodWord w && keepsHeader (headerOf w) (headerOf u)) (eqb (u % 2 ^ 5) 0) f in
       let good = and-left (goodWord w) (keepsHeader (headerOf w) (headerOf u)) g in
       let keep = and-right (goodWord w) (keepsHeader (headerOf w) (headerOf u)) g in
       let t5 = and-left ((((ltb 1 n && leb m 2) && leb n ma) && leb m mb) && leb n mo) (leb (8 * n) ms) t in
@@ -145,7 +145,7 @@ module _ (w ma u mb mo ms : ℕ) where
       let t3 = and-left ((ltb 1 n && leb m 2) && leb n ma) (leb m mb) t4 in
       let t2 = and-left (ltb 1 n && leb m 2) (leb n ma) t3 in
       let o =
-      owns-it w ma u mb mo ms refl refl good (keeps-header _ _ keep) (and-right (goodWord w && keepsHeader (headerOf w) (headerOf u)) (eqb (u % 2 ^ 13) 0) f)
+      owns-it w ma u mb mo ms refl refl good (keeps-header _ _ keep) (and-right (goodWord w && keepsHeader (headerOf w) (headerOf u)) (eqb (u % 2 ^ 5) 0) f)
       refl refl
       (ltb-true _ _ (and-left (ltb 1 n) (leb m 2) t2)) (leb-true _ _ (and-right (ltb 1 n) (leb m 2) t2))
       (leb-true _ _ (and-right (ltb 1 n && leb m 2) (leb n ma) t3))
@@ -161,19 +161,19 @@ module _ (w ma u mb mo ms : ℕ) where
   -- the count, by the tests that are made: g whether w is good, k whether the header is kept
   module _ {x y : Header} (ex : x ≡ headerOf w) (ey : y ≡ headerOf u) {g k : Bool}
       (eg : g ≡ goodWord w) (ek : k ≡ keepsHeader x y) where
-    first-is : ((g && k) && eqb (u % 2 ^ 13) 0) ≡ firstTest w u
+    first-is : ((g && k) && eqb (u % 2 ^ 5) 0) ≡ firstTest w u
     first-is = rw (eg, ek, ex, ey)
 
-    pub count-bad : ((g && k) && eqb (u % 2 ^ 13) 0) ≡ false → 0 ≡ ownCount w ma u mb mo ms
+    pub count-bad : ((g && k) && eqb (u % 2 ^ 5) 0) ≡ false → 0 ≡ ownCount w ma u mb mo ms
     unfolding ownCount
     count-bad h = let f : firstTest w u ≡ false = sym first-is ∙ h in rw (owns-tests, f)
 
-    module _ (h : ((g && k) && eqb (u % 2 ^ 13) 0) ≡ true) where
+    module _ (h : ((g && k) && eqb (u % 2 ^ 5) 0) ≡ true) where
       pub tested-good : Good x
-      tested-good = rw ex (good-word w (sym eg ∙ and-left g k (and-left (g && k) (eqb (u % 2 ^ 13) 0) h)))
+      tested-good = rw ex (good-word w (sym eg ∙ and-left g k (and-left (g && k) (eqb (u % 2 ^ 5) 0) h)))
 
       pub tested-ruled : Ruled y
-      tested-ruled = keeps-ruled (tested-good .regular .rules) (keeps-header _ _ (sym ek ∙ and-right g k (and-left (g && k) (eqb (u % 2 ^ 13) 0) h)))
+      tested-ruled = keeps-ruled (tested-good .regular .rules) (keeps-header _ _ (sym ek ∙ and-right g k (and-left (g && k) (eqb (u % 2 ^ 5) 0) h)))
 
       module _ {i j : ℕ} (en : i ≡ stored x) (em : j ≡ stored y) where
         first-yes : firstTest w u ≡ true

@@ -15,7 +15,7 @@ use Rattle.lists.specs.Table.{table, table-same, table-all, length-table}
 use Rattle.lists.specs.Part.{part}
 use Rattle.model.specs.declared.Header.{Header}
 use Rattle.model.specs.declared.Family.the-variants.{Product}
-use Rattle.model.specs.Header.{header, count, stored}
+use Rattle.model.specs.Header.{count, stored, withLengths}
 use Rattle.model.specs.Word.{headerOf}
 use Rattle.model.specs.Places.{index}
 use Rattle.model.specs.Limits.{cutTo, sumShape}
@@ -256,7 +256,7 @@ module _ {w u ma mb mo ms : ℕ} (g : PairReady Product w ma u mb mo ms) where
 module _ (w : ℕ) (a : List Float) (u : ℕ) (b : List Float) {x y h : Header} (ex : x ≡ headerOf w) (ey : y ≡ headerOf u)
     (eh : h ≡ announced Product x y) {na nb : ℕ} (ea : na ≡ stored x) (eb : nb ≡ stored y) where
   pub entry-head : {r : List ℕ} → r ≡ multiplied (h .limits) (block (x .lengths) (take na a)) (block (y .lengths) (take nb b)) .lengths
-      → header (h .vars) (h .limits) r ≡ productPoly (held w a) (held u b) .head
+      → withLengths h r ≡ productPoly (held w a) (held u b) .head
   unfolding productPoly
   entry-head e = rw (e, eh, ea, eb, ex, ey)
 

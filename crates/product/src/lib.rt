@@ -49,11 +49,7 @@ fn multiply_opened(
         &mut scratch[..room],
     );
     blocks::clear(&mut scratch[..room]);
-    Answer::Done(pack(Header {
-        vars: h.vars,
-        limits: l,
-        lengths: r,
-    }))
+    Answer::Done(pack(Header::with_lengths(h, r)))
 }
 
 // a * b, cut to the smaller limits: refusals 1, 2, 5, 6.

@@ -55,7 +55,7 @@ fn own_count(ah: u64, am: usize, bh: u64, bm: usize, lent: usize, scratch: usize
 {
     let x = header_of(ah);
     let y = header_of(bh);
-    if !(is_good(ah) & keeps_header(x, y) & (bh & 8191 == 0)) {
+    if !(is_good(ah) & keeps_header(x, y) & (bh & 31 == 0)) {
         return 0;
     }
     let n = stored_of(x);

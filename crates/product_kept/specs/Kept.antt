@@ -11,6 +11,7 @@ use Rattle.lists.specs.Four.{at, four, four-same, at-four, each}
 use Rattle.model.specs.declared.Header.{Header}
 use Rattle.model.specs.declared.Family.the-variants.{Product}
 use Rattle.model.specs.Header.{header, limit, len}
+use Rattle.model.specs.Cap.{minCap}
 use Rattle.model.specs.Limits.{minLimit, minDegreesP1}
 use Rattle.model.specs.Announced.{announced, paired}
 use Rattle.shape_words.specs.Rules.{GoodVar, Ruled, Regular, ruled-at}
@@ -24,7 +25,8 @@ abbrev pub keepsAt : Header → Header → ℕ → Bool
 keepsAt x y k = keepsLength (limit x k) (len x k) (limit y k) (len y k)
 
 unfoldable pub keepsHeader : Header → Header → Bool
-keepsHeader x y = (((eqb (x .vars) (y .vars) && keepsAt x y 0) && keepsAt x y 1) && keepsAt x y 2) && keepsAt x y 3
+keepsHeader x y =
+    ((((eqb (x .vars) (y .vars) && eqb (x .cap) (y .cap)) && keepsAt x y 0) && keepsAt x y 1) && keepsAt x y 2) && keepsAt x y 3
 
 -- what that is worth in one variable
 pub record KeepsLength (l n k m : ℕ) : Type 0 where
@@ -36,6 +38,7 @@ pub record KeepsLength (l n k m : ℕ) : Type 0 where
 -- y beside x: no limit cuts, and the announced lengths are those of x
 pub record Keeps (x y : Header) : Type 0 where
   pub vars : x .vars ≡ y .vars
+  pub cap : x .cap ≡ y .cap
   pub var : (k : ℕ) → k < 4 → KeepsLength (limit x k) (len x k) (limit y k) (len y k)
 
 -- ---- laws
@@ -73,19 +76,20 @@ length-keeps l n k m p f h =
 
 module _ (x y : Header) where
   pub keeps-all : (a b c d : Bool) → a ≡ keepsAt x y 0 → b ≡ keepsAt x y 1 → c ≡ keepsAt x y 2 → d ≡ keepsAt x y 3
-      → ((((eqb (x .vars) (y .vars) && a) && b) && c) && d) ≡ keepsHeader x y
+      → (((((eqb (x .vars) (y .vars) && eqb (x .cap) (y .cap)) && a) && b) && c) && d) ≡ keepsHeader x y
   unfolding keepsHeader
   keeps-all a b c d ea eb ec ed = rw (ea, eb, ec, ed)
 
   pub keeps-header : keepsHeader x y ≡ true → Keeps x y
   unfolding keepsHeader
   keeps-header h =
-      let e = eqb (x .vars) (y .vars) in
+      let e = eqb (x .vars) (y .vars) && eqb (x .cap) (y .cap) in
       let h3 = and-left (((e && keepsAt x y 0) && keepsAt x y 1) && keepsAt x y 2) (keepsAt x y 3) h in
       let h2 = and-left ((e && keepsAt x y 0) && keepsAt x y 1) (keepsAt x y 2) h3 in
       let h1 = and-left (e && keepsAt x y 0) (keepsAt x y 1) h2 in
       record {
-        vars = eqb-true _ _ (and-left e (keepsAt x y 0) h1);
+        vars = eqb-true _ _ (and-left (eqb (x .vars) (y .vars)) (eqb (x .cap) (y .cap)) (and-left e (keepsAt x y 0) h1));
+        cap = eqb-true _ _ (and-right (eqb (x .vars) (y .vars)) (eqb (x .cap) (y .cap)) (and-left e (keepsAt x y 0) h1));
         var =
             each (Kept x y) (keeps-length _ _ _ _ (and-right e (keepsAt x y 0) h1))
             (keeps-length _ _ _ _ (and-right (e && keepsAt x y 0) (keepsAt x y 1) h2))
@@ -100,6 +104,7 @@ module _ (x y : Header) where
       length-keeps _ _ _ _ (ruled-at r k l .pos) (ruled-at r k l .fit) (h .var k l) in
       rw (
         eq-eqb (x .vars) (y .vars) (h .vars),
+        eq-eqb (x .cap) (y .cap) (h .cap),
         at-k 0 (omega arith),
         at-k 1 (omega arith),
         at-k 2 (omega arith),
@@ -125,6 +130,7 @@ module _ {x y : Header} (r : Ruled x) (h : Keeps x y) where
     v1 = keeps-var 1 (omega arith);
     v2 = keeps-var 2 (omega arith);
     v3 = keeps-var 3 (omega arith);
+    low = rw (← h .cap) (r .low);
   }
 
 same-limit : (v k l : ℕ) → minLimit v v k l l ≡ l
@@ -137,25 +143,34 @@ same-limits {x} y r e s =
     four-same (λ k. minLimit (x .vars) (y .vars) k (limit x k) (limit y k)) (limit x)
     (λ k l. rw (← e, s k l) (same-limit (x .vars) k (limit x k))) ∙ sym (r .ls)
 
+same-cap : (c : ℕ) → minCap c c ≡ c
+unfolding minCap
+same-cap c = decide (eqb c 0) (λ e. rw e) (λ e. rw e (omega arith))
+
 pub keeps-announced : {x y : Header} → Regular x → Keeps x y → announced Product x y ≡ x
 unfolding announced paired
 keeps-announced {x} {y} r h =
-    let f : List ℕ → Header = λ l. header (max (x .vars) (y .vars)) l (four (λ k. min (at l k) (min (at l k) (len x k) + min (at l k) (len y k) - 1))) in
+    let f : List ℕ → Header = λ l. header (max (x .vars) (y .vars)) l (four (λ k. min (at l k) (min (at l k) (len x k) + min (at l k) (len y k) - 1)))
+    (minCap (x .cap) (y .cap)) in
     let ne : four (λ k. min (limit x k) (min (limit x k) (len x k) + min (limit x k) (len y k) - 1)) ≡ x .lengths =
     four-same (λ k. min (limit x k) (min (limit x k) (len x k) + min (limit x k) (len y k) - 1)) (len x)
     (λ k l. let g = ruled-at (r .rules) k l in h .var k l .own (g .pos) (g .fit)) ∙ sym (r .ns) in
     let ve : max (x .vars) (y .vars) ≡ x .vars = rw (← h .vars) (omega arith) in
+    let ce : minCap (x .cap) (y .cap) ≡ x .cap = rw (← h .cap) (same-cap (x .cap)) in
     ap f (same-limits y r (h .vars) (λ k l. h .var k l .same))
-    ∙ (ap (λ (n : List ℕ). header (max (x .vars) (y .vars)) (x .limits) n) ne ∙ ap (λ (v : ℕ). header v (x .limits) (x .lengths)) ve)
+    ∙ (ap (λ (n : List ℕ). header (max (x .vars) (y .vars)) (x .limits) n (minCap (x .cap) (y .cap))) ne
+    ∙ (ap (λ (v : ℕ). header v (x .limits) (x .lengths) (minCap (x .cap) (y .cap))) ve ∙ ap (header (x .vars) (x .limits) (x .lengths)) ce))
 
--- and the other way: a factor that keeps the rules, with the variables and limits of x, and under which x is announced
-pub announced-keeps : {x y : Header} → Regular x → Ruled y → x .vars ≡ y .vars → y .limits ≡ x .limits → announced Product x y ≡ x → Keeps x y
+-- and the other way: a factor that keeps the rules, with the variables, limits and cap of x, under which x is announced
+pub announced-keeps : {x y : Header} → Regular x → Ruled y → x .vars ≡ y .vars → y .limits ≡ x .limits → x .cap ≡ y .cap
+    → announced Product x y ≡ x → Keeps x y
 unfolding announced paired
-announced-keeps {x} {y} r s e l a =
+announced-keeps {x} {y} r s e l c a =
     let f : List ℕ → ℕ → ℕ = λ z k. min (at z k) (min (at z k) (len x k) + min (at z k) (len y k) - 1) in
     let lim : minDegreesP1 x y ≡ x .limits = same-limits y r e (λ k h. ap (λ (z : List ℕ). at z k) l) in
     record {
       vars = e;
+      cap = c;
       var = λ k h.
           let same : limit y k ≡ limit x k = ap (λ (z : List ℕ). at z k) l in
           record {

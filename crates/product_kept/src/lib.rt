@@ -1,5 +1,5 @@
-// A right factor that leaves the left operand's header as it is: the same variables and limits, and in each variable
-// one row, or all rows of the left operand stored.
+// A right factor that leaves the left operand's header as it is: the same variables, limits and cap, and in each
+// variable one row, or all rows of the left operand stored.
 use model::Header;
 ghost use mathlib.Core.Path.{_≡_};
 ghost use Rattle.product_kept.specs.Kept.{keepsLength, keepsHeader};
@@ -20,6 +20,7 @@ pub fn keeps_header(x: Header, y: Header) -> bool
     let k = y.limits;
     let m = y.lengths;
     (x.vars == y.vars)
+        & (x.cap == y.cap)
         & keeps_length(l[0], n[0], k[0], m[0])
         & keeps_length(l[1], n[1], k[1], m[1])
         & keeps_length(l[2], n[2], k[2], m[2])

@@ -7,7 +7,7 @@ use lib.ListN.{take}
 use lib.Ieee.{Float}
 use Rattle.model.specs.declared.Header.{Header}
 use Rattle.model.specs.declared.Family.the-variants.{Quotient}
-use Rattle.model.specs.Header.{header, stored}
+use Rattle.model.specs.Header.{stored, withLengths}
 use Rattle.model.specs.Word.{headerOf}
 use Rattle.model.specs.Limits.{cutTo}
 use Rattle.model.specs.Announced.{announced, paired}
@@ -54,8 +54,8 @@ module _ {w u ma mb mo ms : ℕ} (g : PairReady Quotient w ma u mb mo ms) {x y h
     pub entry-head : {ka kb ko kw : ℕ} → Divides (x .lengths) (y .lengths) (h .limits) (h .lengths) ka kb ko kw → h ≡ quotientPoly (held w a) (held u b) .head
     unfolding quotientPoly
     entry-head t =
-        let e : h ≡ header (h .vars) (h .limits) (divided (h .limits) (block (x .lengths) (take na a)) (block (y .lengths) (take nb b)) .lengths) =
-        λ i. record { vars = h .vars; limits = h .limits; lengths = sym (into-lengths t (take na a) (take nb b)) i } in
+        let e : h ≡ withLengths h (divided (h .limits) (block (x .lengths) (take na a)) (block (y .lengths) (take nb b)) .lengths) =
+        λ i. record { vars = h .vars; limits = h .limits; lengths = sym (into-lengths t (take na a) (take nb b)) i; cap = h .cap } in
         e ∙ rw (eh, ea, eb, ex, ey)
 
     -- the value

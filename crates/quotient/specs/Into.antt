@@ -36,8 +36,8 @@ inner-by h = record { c0 = h 0 (lit< tt); c1 = h 1 (lit< tt); c2 = h 2 (lit< tt)
 
 count-in : {n c : List ℕ} → Inner n c → count c ≤ count n
 count-in {n} {c} i =
-    count-under {t = header 0 [] c} {a = header 0 [] n}
-    (record { vars = refl; limits = refl; most = each (λ k. at c k ≤ at n k) (i .c0) (i .c1) (i .c2) (i .c3) })
+    count-under {t = header 0 [] c 0} {a = header 0 [] n 0}
+    (record { vars = refl; limits = refl; most = each (λ k. at c k ≤ at n k) (i .c0) (i .c1) (i .c2) (i .c3); cap = refl })
 
 -- ---- the recurrence
 

@@ -14,7 +14,7 @@ use Rattle.lists.specs.Table.{table}
 use Rattle.model.specs.declared.Header.{Header}
 use Rattle.model.specs.declared.Family.{Family}
 use Rattle.model.specs.declared.Family.the-variants.{Term, Order}
-use Rattle.model.specs.Header.{header, limit, len, stored, ones, noHeader}
+use Rattle.model.specs.Header.{limit, len, stored, ones, noHeader, withLengths}
 use Rattle.model.specs.Places.{index}
 use Rattle.model.specs.Announced.{limitAfter, lengthAfter, single, announced}
 use Rattle.model.specs.Refusals.{zeroF, zeros, padded, written}
@@ -115,7 +115,7 @@ module _ (v d : ℕ) (p : Poly) where
   termHeader = announced (Term v) (p .head) noHeader
 
   -- past the stored length
-  pub term-past : {r : Header} → r ≡ termHeader → len (p .head) v ≤ d → coefficientsOfTerm v d p ≡ poly (header (r .vars) (r .limits) ones) (zeroF ∷ [])
+  pub term-past : {r : Header} → r ≡ termHeader → len (p .head) v ≤ d → coefficientsOfTerm v d p ≡ poly (withLengths r ones) (zeroF ∷ [])
   unfolding coefficientsOfTerm
   term-past e l = rw (e, le-leb _ _ l)
 

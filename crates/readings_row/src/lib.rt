@@ -5,7 +5,7 @@ ghost use mathlib.Core.Path.{_≡_};
 ghost use Prim.Native.Nat.{_<_};
 ghost use lib.ListN.{length, set};
 ghost use Rattle.lists.specs.Table.{table};
-ghost use Rattle.model.specs.Header.{count, stored, header, ones};
+ghost use Rattle.model.specs.Header.{count, stored};
 ghost use Rattle.model.specs.Places.{index};
 ghost use Rattle.model.specs.Refusals.{padded};
 ghost use Rattle.model.specs.Poly.{poly, block, readAt};
@@ -91,18 +91,6 @@ pub fn pick(a: &[f64], n: [usize; 4], c: [usize; 4], v: usize, order: usize, to:
     }
 }
 
-// The header with all lengths 1.
-fn shortest(h: Header) -> Header
-    ensures { λ r. ⌜ r ≡ header (h .vars) (h .limits) ones ⌝ }
-{
-    let l = h.limits;
-    Header {
-        vars: h.vars,
-        limits: l,
-        lengths: [1, 1, 1, 1],
-    }
-}
-
 // The row `order` of the variable v, with +0.0 past it: h is the header of `a`, r the announced one; answers the true
 // one.
 pub fn take_term(a: &[f64], h: Header, r: Header, v: usize, order: usize, to: &mut [f64]) -> Header
@@ -113,7 +101,7 @@ pub fn take_term(a: &[f64], h: Header, r: Header, v: usize, order: usize, to: &m
     let n = h.lengths;
     if n[v] <= order {
         blocks::clear(to);
-        return shortest(r);
+        return Header::with_lengths(r, [1, 1, 1, 1]);
     }
     let c = r.lengths;
     pick(a, n, c, v, order, to);

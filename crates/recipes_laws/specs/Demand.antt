@@ -36,6 +36,8 @@ pub record AsAnnounced (h : Header) (v : Poly) : Type 0 where
   -- each limit is exactly the one announced
   pub vars : v .head .vars ≡ h .vars
   pub limits : v .head .limits ≡ h .limits
+  -- and so is the cap (document 02, W10)
+  pub cap : v .head .cap ≡ h .cap
   -- no stored length exceeds its announced one
   pub lengths : (k : ℕ) → k < 4 → len (v .head) k ≤ len h k
   -- it is a polynomial

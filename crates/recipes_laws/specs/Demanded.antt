@@ -23,7 +23,14 @@ use Rattle.recipes_laws.specs.Demand.{AsAnnounced, Finished, Demand3}
 announced-of : {h : Header} {v : Poly} → Good h → Keeps h v → AsAnnounced h v
 announced-of g k =
     let t = keeps-good g k in
-    record { vars = k .under .vars; limits = k .under .limits; lengths = k .under .most; rules = header-good (t .regular .rules) (t .most); full = k .full }
+    record {
+      vars = k .under .vars;
+      limits = k .under .limits;
+      cap = k .under .cap;
+      lengths = k .under .most;
+      rules = header-good (t .regular .rules) (t .most);
+      full = k .full;
+    }
 
 module _ (it : Recipe) (cs : List Float) (pool : List Float) (words : List ℕ) (scratch : List Float) where
   abbrev r : Refusal

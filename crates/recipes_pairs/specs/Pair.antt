@@ -16,7 +16,7 @@ use Rattle.lists.specs.Part.{part, Kept}
 use Rattle.model.specs.declared.Header.{Header}
 use Rattle.model.specs.declared.Family.{Family}
 use Rattle.model.specs.declared.Family.the-variants.{Sum, Product, Quotient}
-use Rattle.model.specs.Header.{header, count, stored}
+use Rattle.model.specs.Header.{count, stored, withLengths}
 use Rattle.model.specs.Word.{headerOf, wordOf}
 use Rattle.model.specs.Places.{index}
 use Rattle.model.specs.Limits.{cutTo}
@@ -260,7 +260,7 @@ module _ {kind : ℕ} {x y h : Header} {n : ℕ} (g : Pairing kind x y h n) wher
     keeps = pair-keeps kind (poly x a) (poly y b) (g .left .regular) (g .right .regular)
 
     module _ {o : List Float} {r : List ℕ} (s : Stands made o r) where
-      pub value-head : header (h .vars) (h .limits) r ≡ value .head
+      pub value-head : withLengths h r ≡ value .head
       value-head = rw (s .lengths) (ap (λ (p : Poly). p .head) value-is)
 
       pub value-lengths : Lengths r

@@ -155,9 +155,5 @@ pub fn pair_to(
     );
     let z = count_of(r);
     shape_operands::pad(pool, at + z, end);
-    Header {
-        vars: h.vars,
-        limits,
-        lengths: r,
-    }
+    Header::with_lengths(h, r)
 }

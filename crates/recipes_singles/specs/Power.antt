@@ -8,7 +8,7 @@ use lib.ListN.{length}
 use lib.Ieee.{Float}
 use Rattle.model.specs.declared.Header.{Header}
 use Rattle.model.specs.declared.Family.the-variants.{Power}
-use Rattle.model.specs.Header.{header, stored, noHeader}
+use Rattle.model.specs.Header.{stored, noHeader, withLengths}
 use Rattle.model.specs.Word.{headerOf, wordOf}
 use Rattle.model.specs.Announced.{announced}
 use Rattle.model.specs.Refusals.{padded}
@@ -60,7 +60,7 @@ module _ {e : ℕ} {x h : Header} {n : ℕ} (g : Powering e x h n) where
     value-is = ap (polyOf h) (loaded-same e (h .limits) (x .lengths) l f) ∙ rw (g .is) (block-value e (poly x a) (g .left .regular))
 
     pub power-head : {r : List ℕ} → r ≡ powerBlock e (h .limits) (lain 0 (x .lengths) w) .lengths
-        → header (h .vars) (h .limits) r ≡ powerPoly e (poly x a) .head
+        → withLengths h r ≡ powerPoly e (poly x a) .head
     power-head k = rw k (ap (λ (p : Poly). p .head) value-is)
 
     pub power-places : {o : List Float} → o ≡ padded n (powerBlock e (h .limits) (lain 0 (x .lengths) w) .places)

@@ -160,11 +160,7 @@ pub fn power_to(
     );
     let end = at + n;
     let r = power::kernel::power_loaded(&mut scratch[..room], la, e, limits, n, &mut pool[at..end]);
-    Header {
-        vars: h.vars,
-        limits,
-        lengths: r,
-    }
+    Header::with_lengths(h, r)
 }
 
 // Memory for the value of an exponential.

@@ -34,7 +34,7 @@ series-most {a} g k h =
 
 series-under : {a : Header} → Regular a → Under a (announced Series a noHeader)
 unfolding announced single
-series-under {a} g = record { vars = refl; limits = g .ls; most = series-most g }
+series-under {a} g = record { vars = refl; limits = g .ls; most = series-most g; cap = refl }
 
 series-inner : {a : Header} → Regular a → Inner (announced Series a noHeader .lengths) (a .lengths)
 series-inner g = record { c0 = series-most g 0 (lit< tt); c1 = series-most g 1 (lit< tt); c2 = series-most g 2 (lit< tt); c3 = series-most g 3 (lit< tt) }

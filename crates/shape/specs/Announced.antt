@@ -6,13 +6,15 @@ use mathlib.Core.Bool.{Bool, true, false, cond}
 use mathlib.Core.Path.{_≡_, refl, sym, _∙_}
 use native.Mathlib.Omega.{arith}
 use lib.Dec.{ltb, eqb}
-use Rattle.lists.specs.Test.{of-both}
+use borrow.Author.Tests.{eqb-false}
+use Rattle.lists.specs.Test.{of-both, decide}
 use Rattle.lists.specs.Four.{at, four}
 use Rattle.model.specs.declared.Header.{Header}
 use Rattle.model.specs.declared.Family.{Family}
 use Rattle.model.specs.declared.Family.the-variants.{Constant, Same, Sum, Product, Quotient, Series, Power, Shift, Substitution, Term, Order, One}
 use Rattle.model.specs.Header.{header, limit, len, noHeader}
 use Rattle.model.specs.Limits.{minDegreesP1}
+use Rattle.model.specs.Cap.{mostCap, minCap, lowerCap, capAfter}
 use Rattle.model.specs.Announced.{lessIn, limitAfter, lengthAfter, single, paired, announced}
 use Rattle.shape_words.specs.Rules.{GoodVar, Ruled, Regular, ruled-at, regular-four, none-regular}
 use Rattle.shape.specs.Limits.{min-degrees-range, min-degrees-gone}
@@ -67,11 +69,31 @@ single-var (Term v) = kept-var (Term v) refl
 single-var (Order v n) = kept-var (Order v n) refl
 single-var One = kept-var One refl
 
+-- the cap that a family gives is a cap that a header may have
+cap-after : (f : Family) {c : ℕ} → c ≤ mostCap → capAfter f c ≤ mostCap
+unfolding lowerCap
+cap-after Constant h = h
+cap-after Same h = h
+cap-after Sum h = h
+cap-after Product h = h
+cap-after Quotient h = h
+cap-after Series h = h
+cap-after (Power e) h = h
+cap-after (Shift v n) {c} h = decide (eqb c 0) (λ e. rw e (omega arith)) (λ e. rw e (omega (arith, h, eqb-false c 0 e)))
+cap-after (Substitution v) h = h
+cap-after (Term v) h = h
+cap-after (Order v n) h = h
+cap-after One h = h
+
+min-cap-low : {a b : ℕ} → a ≤ mostCap → b ≤ mostCap → minCap a b ≤ mostCap
+unfolding minCap
+min-cap-low {a} {b} g h = of-both (λ x. x ≤ mostCap) (eqb a 0) h (of-both (λ x. x ≤ mostCap) (eqb b 0) g (omega (arith, g, h)))
+
 pub single-regular : (f : Family) {a : Header} → Ruled a → Regular (single f a)
 unfolding single
 single-regular f {a} g =
     regular-four (a .vars) (λ k. limitAfter f k (limit a k))
-    (λ k. lengthAfter f k (limitAfter f k (limit a k)) 1 (len a k) 1) (g .few)
+    (λ k. lengthAfter f k (limitAfter f k (limit a k)) 1 (len a k) 1) (g .few) (cap-after f (g .low))
     (λ k h. single-var f (ruled-at g k h))
 
 -- two operands
@@ -93,7 +115,7 @@ unfolding paired minDegreesP1
 paired-regular f p {a} {b} g h =
     regular-four (max (a .vars) (b .vars)) (at (minDegreesP1 a b))
     (λ k. lengthAfter f k (at (minDegreesP1 a b) k) p (min (at (minDegreesP1 a b) k) (len a k)) (min (at (minDegreesP1 a b) k) (len b k)))
-    (omega (arith, g .few, h .few)) (paired-var f p g h)
+    (omega (arith, g .few, h .few)) (min-cap-low (g .low) (h .low)) (paired-var f p g h)
 
 -- every family
 pub announced-regular : (f : Family) {a b : Header} → Regular a → Regular b → Regular (announced f a b)
@@ -129,4 +151,4 @@ single-limits f {a} g h = (rw (h 0, h 1, h 2, h 3)) ∙ sym (g .ls)
 -- the announced header of a header that keeps the rules is that header
 pub same-header : {h : Header} → Regular h → announced Same h noHeader ≡ h
 unfolding announced single
-same-header {h} r = let e : h ≡ single Same h = λ i. record { vars = h .vars; limits = r .ls i; lengths = r .ns i } in sym e
+same-header {h} r = let e : h ≡ single Same h = λ i. record { vars = h .vars; limits = r .ls i; lengths = r .ns i; cap = h .cap } in sym e

@@ -89,9 +89,9 @@ module _ (l : List ℕ) (b : Block) where
 
 -- under limits that keep the rules the cut header keeps them
 pub cut-regular : (v : ℕ) (l : ℕ → ℕ) {h : Header} → v ≤ 4 → Ruled h → ((k : ℕ) → k < 4 → Range (l k))
-    → ((k : ℕ) → k < 4 → v ≤ k → l k ≡ 1) → Regular (header v (four l) (cutTo (four l) (h .lengths)))
+    → ((k : ℕ) → k < 4 → v ≤ k → l k ≡ 1) → Regular (header v (four l) (cutTo (four l) (h .lengths)) (h .cap))
 unfolding cutTo
 cut-regular v l {h} few g r gone =
-    regular-four v l (λ k. min (at (four l) k) (len h k)) few
+    regular-four v l (λ k. min (at (four l) k) (len h k)) few (g .low)
     (λ k lt. let a = at-four l k lt in let n = ruled-at g k lt .pos in
     record { pos = omega (arith, r k lt .lo); fit = omega arith; most = r k lt .hi; gone = gone k lt })

@@ -7,7 +7,7 @@ use lib.Ieee.{Float}
 use native.Mathlib.Nat.{le-trans}
 use native.Mathlib.Omega.{arith}
 use Rattle.model.specs.declared.Header.{Header}
-use Rattle.model.specs.Header.{stored, noHeader, span, header, ones}
+use Rattle.model.specs.Header.{stored, noHeader, span, ones, withLengths}
 use Rattle.model.specs.Poly.{Poly, poly}
 use Rattle.model.specs.declared.Family.the-variants.{One}
 use Rattle.model.specs.Announced.{announced, single}
@@ -42,7 +42,7 @@ one-keeps x g = record { regular = single-regular One (g .rules); under = under-
 ones-var : {v k l n : ℕ} → GoodVar v k l n → GoodVar v k l 1
 ones-var g = record { pos = omega arith; fit = omega arith; most = g .most; gone = g .gone }
 
-pub ones-keeps : {h : Header} (x : Float) → Regular h → Keeps h (poly (header (h .vars) (h .limits) ones) (x ∷ []))
+pub ones-keeps : {h : Header} (x : Float) → Regular h → Keeps h (poly (withLengths h ones) (x ∷ []))
 unfolding span
 ones-keeps {h} x r =
     let g = r .rules in
@@ -56,11 +56,12 @@ ones-keeps {h} x r =
                   v1 = ones-var (g .v1);
                   v2 = ones-var (g .v2);
                   v3 = ones-var (g .v3);
+                  low = g .low;
                 };
             ls = r .ls;
             ns = refl;
           };
-      under = record { vars = refl; limits = refl; most = λ k p. rw (at-four (λ k. 1) k p) (ruled-at g k p .pos) };
+      under = record { vars = refl; limits = refl; most = λ k p. rw (at-four (λ k. 1) k p) (ruled-at g k p .pos); cap = refl };
       full = refl;
     }
 

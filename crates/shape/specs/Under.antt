@@ -1,4 +1,4 @@
--- A header under another: the same variables and limits, no length above the other's. Under smaller lengths every
+-- A header under another: the same variables, limits and cap, no length above the other's. Under smaller lengths every
 -- family announces no more.
 -- With the law that a result's true header is under the announced one, this is what a run's steps need of one another.
 use Prim.Native.Nat.{ℕ, _-_, _*_, _≤_, _<_, min}
@@ -15,6 +15,7 @@ use Rattle.model.specs.declared.Family.{Family}
 use Rattle.model.specs.declared.Family.the-variants.{Constant, Same, Sum, Product, Quotient, Series, Power, Shift, Substitution, Term, Order, One}
 use Rattle.model.specs.Header.{header, limit, len, noHeader, span, stored}
 use Rattle.model.specs.Limits.{minDegreesP1}
+use Rattle.model.specs.Cap.{capAfter}
 use Rattle.model.specs.Announced.{limitAfter, lengthAfter, single, paired, announced}
 use Rattle.shape_words.specs.Rules.{Ruled, ruled-at}
 use Rattle.shape.specs.Limits.{min-degrees-range}
@@ -23,12 +24,19 @@ pub record Under (t a : Header) : Type 0 where
   pub vars : t .vars ≡ a .vars
   pub limits : t .limits ≡ a .limits
   pub most : (k : ℕ) → k < 4 → len t k ≤ len a k
+  pub cap : t .cap ≡ a .cap
 
 pub under-same : (h : Header) → Under h h
-under-same h = record { vars = refl; limits = refl; most = λ k l. le-refl _ }
+under-same h = record { vars = refl; limits = refl; most = λ k l. le-refl _; cap = refl }
 
 pub under-then : {t a b : Header} → Under t a → Under a b → Under t b
-under-then p q = record { vars = p .vars ∙ q .vars; limits = p .limits ∙ q .limits; most = λ k l. le-trans (p .most k l) (q .most k l) }
+under-then p q =
+    record {
+      vars = p .vars ∙ q .vars;
+      limits = p .limits ∙ q .limits;
+      most = λ k l. le-trans (p .most k l) (q .most k l);
+      cap = p .cap ∙ q .cap;
+    }
 
 pub count-under : {t a : Header} → Under t a → stored t ≤ stored a
 unfolding span
@@ -99,6 +107,7 @@ single-under f {t} {a} g u =
             at-four (λ k. lengthAfter f k (limitAfter f k (limit a k)) 1 (len a k) 1) k h,
           )
           (rw (← u .limits) (single-rises f k (ruled-at g k h .pos) (ruled-at g k h .fit) (u .most k h)));
+      cap = ap (capAfter f) (u .cap);
     }
 
 same-limits : {t a u b : Header} → Under t a → Under u b → minDegreesP1 t u ≡ minDegreesP1 a b
@@ -123,6 +132,7 @@ paired-under f {q} {p} {t} {a} {u} {b} le g h x y =
           )
           (rw (← e) (length-rises f k (cut-rise (min-degrees-range t u g h k lt .lo) (ruled-at g k lt .pos)
           (ruled-at h k lt .pos) le (x .most k lt) (y .most k lt))));
+      cap = simp (x .cap, y .cap);
     }
 
 -- two choices by one test

@@ -2,6 +2,8 @@
 // and lengths').
 use crate::limits::cut_to;
 use crate::limits::least;
+use crate::limits::lower_cap;
+use crate::limits::min_cap;
 use crate::limits::min_degrees_p1;
 use crate::limits::most;
 use crate::limits::sum_shape;
@@ -12,6 +14,7 @@ ghost use mathlib.Core.Bool.{cond};
 ghost use Prim.Native.Nat.{ℕ, _+_, _-_, _*_, _≤_, min};
 ghost use lib.Dec.{eqb};
 ghost use Rattle.model.specs.declared.Family.the-variants.{Power, Product, Substitution};
+ghost use Rattle.model.specs.Cap.{capAfter};
 ghost use Rattle.model.specs.Announced.{lessIn, limitAfter, lengthAfter, single, paired, announced};
 ghost use Rattle.shape_words.specs.Rules.{Ruled};
 ghost use Rattle.shape_words.specs.Lengths.{Small};
@@ -131,6 +134,26 @@ fn paired_length(f: Family, k: usize, l: usize, p: usize, a: usize, b: usize) ->
     length_after(f, k, l, p, least(l, a), least(l, b))
 }
 
+// The cap after an operation on one operand, whose cap is c.
+fn cap_after(f: Family, c: usize) -> usize
+    ensures { λ r. ⌜ r ≡ capAfter f c ⌝ }
+{
+    match f {
+        Family::Constant => c,
+        Family::Same => c,
+        Family::Sum => c,
+        Family::Product => c,
+        Family::Quotient => c,
+        Family::Series => c,
+        Family::Power(_) => c,
+        Family::Shift(_, n) => lower_cap(n, c),
+        Family::Substitution(_) => c,
+        Family::Term(_) => c,
+        Family::Order(_, _) => c,
+        Family::One => c,
+    }
+}
+
 // One operand.
 fn single_header(f: Family, a: Header) -> Header
     requires { ⌜ Ruled a ⌝ }
@@ -152,6 +175,7 @@ fn single_header(f: Family, a: Header) -> Header
             single_length(f, 2, l[2], n[2]),
             single_length(f, 3, l[3], n[3]),
         ],
+        cap: cap_after(f, a.cap),
     }
 }
 
@@ -172,6 +196,7 @@ fn paired_header(f: Family, p: usize, a: Header, b: Header) -> Header
             paired_length(f, 2, l[2], p, n[2], m[2]),
             paired_length(f, 3, l[3], p, n[3], m[3]),
         ],
+        cap: min_cap(a.cap, b.cap),
     }
 }
 
@@ -187,6 +212,7 @@ pub fn product_header(a: Header, b: Header) -> Header
         vars: most(a.vars, b.vars),
         limits: l,
         lengths: sum_shape(l, cut_to(l, n), cut_to(l, m)),
+        cap: min_cap(a.cap, b.cap),
     }
 }
 

@@ -1,7 +1,8 @@
-// The smaller limits of two operands, lengths cut to limits, and the lengths of a sum and of a product.
+// The smaller limits of two operands, lengths cut to limits, the lengths of a sum and of a product; caps.
 use model::Header;
 ghost use mathlib.Core.Path.{_≡_};
 ghost use Prim.Native.Nat.{min, max};
+ghost use Rattle.model.specs.Cap.{minCap, lowerCap};
 ghost use Rattle.model.specs.Limits.{minLimit, minDegreesP1, cutTo, maxShape, sumShape};
 ghost use Rattle.shape_words.specs.Lengths.{Lengths};
 
@@ -80,4 +81,27 @@ pub fn sum_shape(l: [usize; 4], n: [usize; 4], m: [usize; 4]) -> [usize; 4]
         least(l[2], n[2] + m[2] - 1),
         least(l[3], n[3] + m[3] - 1),
     ]
+}
+
+// The smaller cap present, 0 for none.
+pub fn min_cap(a: usize, b: usize) -> usize
+    ensures { λ r. ⌜ r ≡ minCap a b ⌝ }
+{
+    if a == 0 {
+        return b;
+    }
+    if b == 0 {
+        return a;
+    }
+    least(a, b)
+}
+
+// A cap less n, 1 at least; none stays none.
+pub fn lower_cap(n: usize, c: usize) -> usize
+    ensures { λ r. ⌜ r ≡ lowerCap n c ⌝ }
+{
+    if c == 0 {
+        return 0;
+    }
+    if n < c { c - n } else { 1 }
 }

@@ -13,10 +13,12 @@ use Rattle.lists.specs.Test.{decide}
 use Rattle.lists.specs.Four.{each}
 use Rattle.model.specs.declared.Header.{Header}
 use Rattle.model.specs.declared.Fault.{Fault}
+use Rattle.model.specs.Cap.{mostCap}
 use Rattle.model.specs.Header.{limit, len, stored}
-use Rattle.model.specs.Faults.{fault, noFault, unless, soundVar, varFault, headerFault}
+use Rattle.model.specs.Faults.{fault, noFault, unless, soundVar, varFault, soundEnd, headerFault}
 use Rattle.model.specs.Word.{headerOf, faultOf, goodWord}
-use Rattle.model.specs.Causes.{HeaderReason, many-variables, long, missing-limit, missing-length, spare-bits, large-count, causeTurn, FirstHeaderReason}
+use Rattle.model.specs.Causes.{HeaderReason, many-variables, long, missing-limit, missing-length, spare-bits, large-cap, large-count}
+use Rattle.model.specs.Causes.{causeTurn, FirstHeaderReason}
 use Rattle.shape_words.specs.Lengths.{Lengths}
 use Rattle.shape_words.specs.Sound.{word-sound, Fields, fields}
 
@@ -33,7 +35,7 @@ module _ (w : ℕ) where
   tests =
       leb (h .vars) 4
       ∷ soundVar h 0 ∷ soundVar h 1 ∷ soundVar h 2 ∷ soundVar h 3
-      ∷ eqb (w % 2 ^ 13) 0 ∷ leb (stored h) 4096 ∷ []
+      ∷ soundEnd h (w % 2 ^ 5) ∷ leb (stored h) 4096 ∷ []
 
   abbrev faults : List Fault
   faults = fault 4 1 ∷ varFault h 0 ∷ varFault h 1 ∷ varFault h 2 ∷ varFault h 3 ∷ fault 4 4 ∷ fault 4 5 ∷ []
@@ -73,7 +75,8 @@ module _ (w : ℕ) where
   reason-fails (long k m v l) = at-variable k m ∙ long-fails k v l
   reason-fails (missing-limit k m v l) = at-variable k m ∙ limit-fails k v l
   reason-fails (missing-length k m v l) = at-variable k m ∙ length-fails k v l
-  reason-fails (spare-bits l) = ne-eqb (w % 2 ^ 13) 0 (λ e. omega (arith, e))
+  reason-fails (spare-bits l) = simp (ne-eqb (w % 2 ^ 5) 0 (λ e. omega (arith, e)))
+  reason-fails (large-cap l) = simp (lt-leb _ _ l, and-no (eqb (w % 2 ^ 5) 0))
   reason-fails (large-count l) = lt-leb _ _ l
 
   reason-told : {v c : ℕ} → HeaderReason w v c → told (causeTurn v c) ≡ fault v c
@@ -82,6 +85,7 @@ module _ (w : ℕ) where
   reason-told (missing-limit k m v l) = of-variable k m ∙ rw (le-ltb _ _ v)
   reason-told (missing-length k m v l) = of-variable k m ∙ rw (le-ltb _ _ v)
   reason-told (spare-bits l) = refl
+  reason-told (large-cap l) = refl
   reason-told (large-count l) = refl
 
   -- ---- the tests in order
@@ -136,9 +140,16 @@ module _ (w : ℕ) where
   positive : (n : ℕ) → (n ≡ 0 → ⊥) → 0 < n
   positive n d = decide (ltb 0 n) (λ t. ltb-true 0 n t) (λ t. absurd (d (omega (arith, ltb-false 0 n t))))
 
+  -- an end that is not sound has a reason
+  end-reason : soundEnd h (w % 2 ^ 5) ≡ false → HeaderReason w 4 4
+  end-reason e =
+      decide (eqb (w % 2 ^ 5) 0)
+      (λ t. large-cap (leb-false _ _ (rw t at e)))
+      (λ t. spare-bits (positive _ (eqb-false _ _ t)))
+
   by-tests : (t1 u0 u1 u2 u3 t4 t5 : Bool) → leb (h .vars) 4 ≡ t1
       → soundVar h 0 ≡ u0 → soundVar h 1 ≡ u1 → soundVar h 2 ≡ u2 → soundVar h 3 ≡ u3
-      → eqb (w % 2 ^ 13) 0 ≡ t4 → leb (stored h) 4096 ≡ t5
+      → soundEnd h (w % 2 ^ 5) ≡ t4 → leb (stored h) 4096 ≡ t5
       → View (unless t1 (fault 4 1) (unless u0 (varFault h 0) (unless u1 (varFault h 1) (unless u2 (varFault h 2) (unless u3 (varFault h 3)
       (unless t4 (fault 4 4) (unless t5 (fault 4 5) noFault)))))))
   by-tests false u0 u1 u2 u3 t4 t5 a b c d e f g =
@@ -149,7 +160,7 @@ module _ (w : ℕ) where
   by-tests true true true true false t4 t5 a b c d e f g = wrong 3 _ (var-first 3 (omega arith) (more (more (more (more none-yet a) b) c) d) e)
   by-tests true true true true true false t5 a b c d e f g =
       let p : Holds 5 = more (more (more (more (more none-yet a) b) c) d) e in
-      wrong 4 4 (record { reason = spare-bits (positive _ (eqb-false _ _ f)); first = λ u d x. late p x })
+      wrong 4 4 (record { reason = end-reason f; first = λ u d x. late p x })
   by-tests true true true true true true false a b c d e f g =
       let p : Holds 6 = more (more (more (more (more (more none-yet a) b) c) d) e) f in
       wrong 4 5 (record { reason = large-count (leb-false _ _ g); first = λ u d x. late p x })
@@ -165,11 +176,15 @@ module _ (w : ℕ) where
 
   -- ---- the law
 
+  end-sound : eqb (w % 2 ^ 5) 0 ≡ true → leb (h .cap) mostCap ≡ true → soundEnd h (w % 2 ^ 5) ≡ true
+  end-sound e l = simp (e, l)
+
   -- a header has no reason
   pub good-none : goodWord w ≡ true → {v c : ℕ} → HeaderReason w v c → ⊥
   good-none e x =
       let s = word-sound w e in
-      let p : Holds 7 = more (more (more (more (more (more (more none-yet (s .few)) (s .v0)) (s .v1)) (s .v2)) (s .v3)) (s .spare)) (s .most) in
+      let p : Holds 5 = more (more (more (more (more none-yet (s .few)) (s .v0)) (s .v1)) (s .v2)) (s .v3) in
+      let p : Holds 7 = more (more p (end-sound (s .spare) (s .low))) (s .most) in
       turn-small x (late p x)
     where
       turn-small : {v c : ℕ} → HeaderReason w v c → 7 ≤ causeTurn v c → ⊥
@@ -178,6 +193,7 @@ module _ (w : ℕ) where
       turn-small (missing-limit k n v l) m = omega arith
       turn-small (missing-length k n v l) m = omega arith
       turn-small (spare-bits l) m = omega arith
+      turn-small (large-cap l) m = omega arith
       turn-small (large-count l) m = omega arith
 
   -- another word has a first one, which is its fault
@@ -253,5 +269,5 @@ word-fault-small w =
     (fault-small (soundVar h 1) (var-small h 1 (omega arith))
     (fault-small (soundVar h 2) (var-small h 2 (omega arith))
     (fault-small (soundVar h 3) (var-small h 3 (omega arith))
-    (fault-small (eqb (w % 2 ^ 13) 0) (record { variable = omega arith; cause = omega arith })
+    (fault-small (soundEnd h (w % 2 ^ 5)) (record { variable = omega arith; cause = omega arith })
     (fault-small (leb (stored h) 4096) (record { variable = omega arith; cause = omega arith }) none-small))))))

@@ -8,6 +8,7 @@ use lib.Dec.{leb, ltb, eqb, lit<}
 use Rattle.lists.specs.Test.{and-left, and-right, or-right, or-intro}
 use Rattle.lists.specs.Four.{at, four, each}
 use Rattle.model.specs.declared.Header.{Header}
+use Rattle.model.specs.Cap.{mostCap}
 use Rattle.model.specs.Header.{limit, len, stored, header, noHeader, goodVar, goodVars, goodHeader}
 
 pub record GoodVar (v k l n : ℕ) : Type 0 where
@@ -23,6 +24,7 @@ pub record Ruled (h : Header) : Type 0 where
   pub v1 : GoodVar (h .vars) 1 (limit h 1) (len h 1)
   pub v2 : GoodVar (h .vars) 2 (limit h 2) (len h 2)
   pub v3 : GoodVar (h .vars) 3 (limit h 3) (len h 3)
+  pub low : h .cap ≤ mostCap
 
 -- and whose lists have four numbers
 pub record Regular (h : Header) : Type 0 where
@@ -39,12 +41,15 @@ pub ruled-at : {h : Header} → Ruled h → (k : ℕ) → k < 4 → GoodVar (h .
 ruled-at {h} g = each (λ k. GoodVar (h .vars) k (limit h k) (len h k)) (g .v0) (g .v1) (g .v2) (g .v3)
 
 -- a header whose lists are given by variable
-pub regular-four : (v : ℕ) (l n : ℕ → ℕ) → v ≤ 4 → ((k : ℕ) → k < 4 → GoodVar v k (l k) (n k)) → Regular (header v (four l) (four n))
-regular-four v l n few g =
-    record { rules = record { few = few; v0 = g 0 (lit< tt); v1 = g 1 (lit< tt); v2 = g 2 (lit< tt); v3 = g 3 (lit< tt) }; ls = refl; ns = refl }
+pub regular-four : (v : ℕ) (l n : ℕ → ℕ) {c : ℕ} → v ≤ 4 → c ≤ mostCap → ((k : ℕ) → k < 4 → GoodVar v k (l k) (n k))
+    → Regular (header v (four l) (four n) c)
+regular-four v l n few low g =
+    record { rules = record { few = few; v0 = g 0 (lit< tt); v1 = g 1 (lit< tt); v2 = g 2 (lit< tt); v3 = g 3 (lit< tt); low = low }; ls = refl; ns = refl }
 
 pub none-regular : Regular noHeader
-none-regular = regular-four 0 (λ k. 1) (λ k. 1) (omega arith) (λ k h. record { pos = omega arith; fit = omega arith; most = omega arith; gone = λ _. refl })
+none-regular =
+    regular-four 0 (λ k. 1) (λ k. 1) (omega arith) (omega arith)
+    (λ k h. record { pos = omega arith; fit = omega arith; most = omega arith; gone = λ _. refl })
 
 -- the test and the facts
 
@@ -65,9 +70,9 @@ unfolding goodVar
 var-good {v} {k} {l} {n} g =
     simp (le-leb _ _ (g .pos), le-leb _ _ (g .fit), le-leb _ _ (g .most), or-intro (ltb k v) (eqb l 1) (λ e. eq-eqb _ _ (g .gone (ltb-false _ _ e))))
 
-pub good-vars : (h : Header) → goodVars h ≡ true → Ruled h
+pub good-vars : (h : Header) → goodVars h ≡ true → h .cap ≤ mostCap → Ruled h
 unfolding goodVars
-good-vars h g =
+good-vars h g low =
     let one : ℕ → Bool = λ k. goodVar (h .vars) k (limit h k) (len h k) in
     let g3 = and-left (((leb (h .vars) 4 && one 0) && one 1) && one 2) (one 3) g in
     let g2 = and-left ((leb (h .vars) 4 && one 0) && one 1) (one 2) g3 in
@@ -78,6 +83,7 @@ good-vars h g =
       v1 = good-var _ _ _ _ (and-right (leb (h .vars) 4 && one 0) (one 1) g2);
       v2 = good-var _ _ _ _ (and-right ((leb (h .vars) 4 && one 0) && one 1) (one 2) g3);
       v3 = good-var _ _ _ _ (and-right (((leb (h .vars) 4 && one 0) && one 1) && one 2) (one 3) g);
+      low = low;
     }
 
 pub vars-good : {h : Header} → Ruled h → goodVars h ≡ true
@@ -86,12 +92,14 @@ vars-good g = simp (le-leb _ _ (g .few), var-good (g .v0), var-good (g .v1), var
 
 pub header-good : {h : Header} → Ruled h → stored h ≤ 4096 → goodHeader h ≡ true
 unfolding goodHeader
-header-good g m = simp (vars-good g, le-leb _ _ m)
+header-good g m = simp (vars-good g, le-leb _ _ (g .low), le-leb _ _ m)
 
 pub header-ruled : (h : Header) → goodHeader h ≡ true → Ruled h
 unfolding goodHeader
-header-ruled h g = good-vars h (and-left (goodVars h) (leb (stored h) 4096) g)
+header-ruled h g =
+    let k = and-left (goodVars h && leb (h .cap) mostCap) (leb (stored h) 4096) g in
+    good-vars h (and-left (goodVars h) (leb (h .cap) mostCap) k) (leb-true _ _ (and-right (goodVars h) (leb (h .cap) mostCap) k))
 
 pub header-most : (h : Header) → goodHeader h ≡ true → stored h ≤ 4096
 unfolding goodHeader
-header-most h g = leb-true _ _ (and-right (goodVars h) (leb (stored h) 4096) g)
+header-most h g = leb-true _ _ (and-right (goodVars h && leb (h .cap) mostCap) (leb (stored h) 4096) g)

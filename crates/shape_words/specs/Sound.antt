@@ -10,12 +10,13 @@ use Rattle.lists.specs.Test.{and-left, and-right, decide}
 use Rattle.lists.specs.Four.{each}
 use Rattle.model.specs.declared.Header.{Header}
 use Rattle.model.specs.declared.Fault.{Fault}
+use Rattle.model.specs.Cap.{mostCap}
 use Rattle.model.specs.Header.{limit, len, stored, goodHeader}
-use Rattle.model.specs.Faults.{unless, soundVar, varFault, headerFault}
+use Rattle.model.specs.Faults.{unless, soundVar, varFault, soundEnd, headerFault}
 use Rattle.model.specs.Word.{headerOf, faultOf, goodWord}
 use Rattle.shape_words.specs.Rules.{GoodVar, Ruled, header-good, header-ruled, header-most}
 
--- the seven tests, s the spare bits
+-- the tests, s the spare bits
 pub record Sound (h : Header) (s : ℕ) : Type 0 where
   pub few : leb (h .vars) 4 ≡ true
   pub v0 : soundVar h 0 ≡ true
@@ -23,6 +24,7 @@ pub record Sound (h : Header) (s : ℕ) : Type 0 where
   pub v2 : soundVar h 2 ≡ true
   pub v3 : soundVar h 3 ≡ true
   pub spare : eqb s 0 ≡ true
+  pub low : leb (h .cap) mostCap ≡ true
   pub most : leb (stored h) 4096 ≡ true
 
 -- a chain that ends in no fault passed its test
@@ -43,13 +45,22 @@ module _ (h : Header) (s : ℕ) where
       let c = unless-none (soundVar h 1) (varFault h 1) _ (var-caused h 1) (b .1) in
       let d = unless-none (soundVar h 2) (varFault h 2) _ (var-caused h 2) (c .1) in
       let f = unless-none (soundVar h 3) (varFault h 3) _ (var-caused h 3) (d .1) in
-      let g = unless-none (eqb s 0) _ _ (λ z. omega (arith, z)) (f .1) in
+      let g = unless-none (soundEnd h s) _ _ (λ z. omega (arith, z)) (f .1) in
       let k = unless-none (leb (stored h) 4096) _ _ (λ z. omega (arith, z)) (g .1) in
-      record { few = a .0; v0 = b .0; v1 = c .0; v2 = d .0; v3 = f .0; spare = g .0; most = k .0 }
+      record {
+        few = a .0;
+        v0 = b .0;
+        v1 = c .0;
+        v2 = d .0;
+        v3 = f .0;
+        spare = and-left (eqb s 0) (leb (h .cap) mostCap) (g .0);
+        low = and-right (eqb s 0) (leb (h .cap) mostCap) (g .0);
+        most = k .0;
+      }
 
   pub tests-sound : Sound h s → headerFault h s .cause ≡ 0
   unfolding headerFault
-  tests-sound t = simp (t .few, t .v0, t .v1, t .v2, t .v3, t .spare, t .most)
+  tests-sound t = simp (t .few, t .v0, t .v1, t .v2, t .v3, t .spare, t .low, t .most)
 
 -- ---- a variable, and what document 01 asks of it
 
@@ -95,11 +106,11 @@ module _ (h : Header) (k : ℕ) where
 -- ---- a word
 
 module _ (w : ℕ) where
-  pub word-sound : goodWord w ≡ true → Sound (headerOf w) (w % 2 ^ 13)
+  pub word-sound : goodWord w ≡ true → Sound (headerOf w) (w % 2 ^ 5)
   unfolding goodWord faultOf
   word-sound e = sound-tests _ _ (eqb-true (faultOf w .cause) 0 e)
 
-  pub sound-word : Sound (headerOf w) (w % 2 ^ 13) → goodWord w ≡ true
+  pub sound-word : Sound (headerOf w) (w % 2 ^ 5) → goodWord w ≡ true
   unfolding goodWord faultOf
   sound-word t = eq-eqb (faultOf w .cause) 0 (tests-sound _ _ t)
 
@@ -112,9 +123,10 @@ module _ (w : ℕ) where
         v1 = sound-var (headerOf w) 1 (fields w 1 (omega arith)) (t .v1);
         v2 = sound-var (headerOf w) 2 (fields w 2 (omega arith)) (t .v2);
         v3 = sound-var (headerOf w) 3 (fields w 3 (omega arith)) (t .v3);
+        low = leb-true _ _ (t .low);
       }
 
-  ruled-word : Ruled (headerOf w) → stored (headerOf w) ≤ 4096 → w % 2 ^ 13 ≡ 0 → goodWord w ≡ true
+  ruled-word : Ruled (headerOf w) → stored (headerOf w) ≤ 4096 → w % 2 ^ 5 ≡ 0 → goodWord w ≡ true
   ruled-word g m z =
       let h : Header = headerOf w in
       sound-word (record {
@@ -123,25 +135,26 @@ module _ (w : ℕ) where
         v1 = var-sound h 1 (g .v1);
         v2 = var-sound h 2 (g .v2);
         v3 = var-sound h 3 (g .v3);
-        spare = eq-eqb (w % 2 ^ 13) 0 z;
+        spare = eq-eqb (w % 2 ^ 5) 0 z;
+        low = le-leb _ _ (g .low);
         most = le-leb _ _ m;
       })
 
   -- document 01's test
   abbrev kept : Bool
-  kept = goodHeader (headerOf w) && eqb (w % 2 ^ 13) 0
+  kept = goodHeader (headerOf w) && eqb (w % 2 ^ 5) 0
 
   rules-good : kept ≡ true → goodWord w ≡ true
   rules-good e =
-      let g = and-left (goodHeader (headerOf w)) (eqb (w % 2 ^ 13) 0) e in
-      ruled-word (header-ruled (headerOf w) g) (header-most (headerOf w) g) (eqb-true _ _ (and-right (goodHeader (headerOf w)) (eqb (w % 2 ^ 13) 0) e))
+      let g = and-left (goodHeader (headerOf w)) (eqb (w % 2 ^ 5) 0) e in
+      ruled-word (header-ruled (headerOf w) g) (header-most (headerOf w) g) (eqb-true _ _ (and-right (goodHeader (headerOf w)) (eqb (w % 2 ^ 5) 0) e))
 
   good-rules : goodWord w ≡ true → kept ≡ true
   good-rules e =
       let t = word-sound e in
       simp (header-good (word-ruled e) (leb-true _ _ (t .most)), t .spare)
 
-  pub good-word-is : goodWord w ≡ (goodHeader (headerOf w) && eqb (w % 2 ^ 13) 0)
+  pub good-word-is : goodWord w ≡ (goodHeader (headerOf w) && eqb (w % 2 ^ 5) 0)
   good-word-is = same-test (goodWord w) kept good-rules rules-good
     where
       same-test : (a b : Bool) → (a ≡ true → b ≡ true) → (b ≡ true → a ≡ true) → a ≡ b

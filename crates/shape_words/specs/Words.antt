@@ -41,15 +41,18 @@ down n j {w} {x} e p q = (rw (← shr-shr n j 6, e) (omega arith), rw e (omega a
 up : (n j : ℕ) → pushed (n / 2 ^ (j + 6)) (fieldAt n j + 1) ≡ n / 2 ^ j
 up n j = rw (← shr-shr n j 6) (omega arith)
 
-module _ (v l0 n0 l1 n1 l2 n2 l3 n3 : ℕ) where
+module _ (v l0 n0 l1 n1 l2 n2 l3 n3 c : ℕ) where
   abbrev spelt : Header
-  spelt = header v (l0 ∷ l1 ∷ l2 ∷ l3 ∷ []) (n0 ∷ n1 ∷ n2 ∷ n3 ∷ [])
+  spelt = header v (l0 ∷ l1 ∷ l2 ∷ l3 ∷ []) (n0 ∷ n1 ∷ n2 ∷ n3 ∷ []) c
 
   spelt-back : Ruled spelt → headerOf (wordOf spelt) ≡ spelt
   unfolding headerOf wordOf fields
   spelt-back g =
       let n : ℕ = wordOf spelt in
-      let s3 = down n 13 (shl-shr (fields spelt) 13) (g .v3 .pos) (omega (arith, g .v3)) in
+      let w : n / 2 ^ 5 ≡ fields spelt * 2 ^ 8 + c = shl-shr (fields spelt * 2 ^ 8 + c) 5 in
+      let f : n / 2 ^ 13 ≡ fields spelt = rw (← shr-shr n 5 8, w) (omega (arith, g .low)) in
+      let d : n / 2 ^ 5 % 2 ^ 8 ≡ c = rw w (omega (arith, g .low)) in
+      let s3 = down n 13 f (g .v3 .pos) (omega (arith, g .v3)) in
       let t3 = down n 19 (s3 .0) (omega (arith, g .v3)) (g .v3 .most) in
       let s2 = down n 25 (t3 .0) (g .v2 .pos) (omega (arith, g .v2)) in
       let t2 = down n 31 (s2 .0) (omega (arith, g .v2)) (g .v2 .most) in
@@ -58,20 +61,20 @@ module _ (v l0 n0 l1 n1 l2 n2 l3 n3 : ℕ) where
       let s0 = down n 49 (t1 .0) (g .v0 .pos) (omega (arith, g .v0)) in
       let t0 = down n 55 (s0 .0) (omega (arith, g .v0)) (g .v0 .most) in
       let e : n / 2 ^ 61 % 2 ^ 3 ≡ v = rw (t0 .0) (omega (arith, g .few)) in
-      simp (e, t0 .1, s0 .1, t1 .1, s1 .1, t2 .1, s2 .1, t3 .1, s3 .1)
+      simp (e, t0 .1, s0 .1, t1 .1, s1 .1, t2 .1, s2 .1, t3 .1, s3 .1, d)
 
 -- unpack after pack
 pub unpack-pack : (h : Header) → Regular h → headerOf (wordOf h) ≡ h
 unpack-pack h r =
     let g = r .rules in
-    let t = spelt (h .vars) (limit h 0) (len h 0) (limit h 1) (len h 1) (limit h 2) (len h 2) (limit h 3) (len h 3) in
-    let e : h ≡ t = λ i. record { vars = h .vars; limits = r .ls i; lengths = r .ns i } in
-    let k : Ruled t = record { few = g .few; v0 = g .v0; v1 = g .v1; v2 = g .v2; v3 = g .v3 } in
+    let t = spelt (h .vars) (limit h 0) (len h 0) (limit h 1) (len h 1) (limit h 2) (len h 2) (limit h 3) (len h 3) (h .cap) in
+    let e : h ≡ t = λ i. record { vars = h .vars; limits = r .ls i; lengths = r .ns i; cap = h .cap } in
+    let k : Ruled t = record { few = g .few; v0 = g .v0; v1 = g .v1; v2 = g .v2; v3 = g .v3; low = g .low } in
     ap (λ (x : Header). headerOf (wordOf x)) e
-    ∙ (spelt-back (h .vars) (limit h 0) (len h 0) (limit h 1) (len h 1) (limit h 2) (len h 2) (limit h 3) (len h 3) k ∙ sym e)
+    ∙ (spelt-back (h .vars) (limit h 0) (len h 0) (limit h 1) (len h 1) (limit h 2) (len h 2) (limit h 3) (len h 3) (h .cap) k ∙ sym e)
 
 -- a word's spare bits are zero
-spare : (h : Header) → wordOf h % 2 ^ 13 ≡ 0
+spare : (h : Header) → wordOf h % 2 ^ 5 ≡ 0
 unfolding wordOf
 spare h = omega arith
 
@@ -88,7 +91,7 @@ good-word w g = record { regular = record { rules = word-ruled w g; ls = refl; n
 pub pack-unpack : (w : ℕ) → w < 2 ^ 64 → goodWord w ≡ true → wordOf (headerOf w) ≡ w
 unfolding headerOf wordOf fields
 pack-unpack w fit g =
-    let z : w % 2 ^ 13 ≡ 0 = eqb-true _ _ (word-sound w g .spare) in
+    let z : w % 2 ^ 5 ≡ 0 = eqb-true _ _ (word-sound w g .spare) in
     let e : w / 2 ^ 61 % 2 ^ 3 ≡ w / 2 ^ 61 = omega arith in
     let d : fields (headerOf w) ≡ w / 2 ^ 13 = simp (e, up w 55, up w 49, up w 43, up w 37, up w 31, up w 25, up w 19, up w 13) in
-    ap (λ (n : ℕ). n * 2 ^ 13) d ∙ omega (arith, z)
+    ap (λ (n : ℕ). (n * 2 ^ 8 + w / 2 ^ 5 % 2 ^ 8) * 2 ^ 5) d ∙ omega (arith, z, shr-shr w 5 8)

@@ -29,7 +29,11 @@ pub fn fault_of(word: u64) -> Fault
     let l = h.limits;
     let n = h.lengths;
     let count = Fault::unless(count_of(n) <= Header::COUNT, Fault::of(4, 5), Fault::none());
-    let spare = Fault::unless(word & 8191 == 0, Fault::of(4, 4), count);
+    let spare = Fault::unless(
+        (word & 31 == 0) & (h.cap <= Header::CAP),
+        Fault::of(4, 4),
+        count,
+    );
     let v3 = after_var(v, 3, l[3], n[3], spare);
     let v2 = after_var(v, 2, l[2], n[2], v3);
     let v1 = after_var(v, 1, l[1], n[1], v2);

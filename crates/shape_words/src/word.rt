@@ -6,7 +6,7 @@ ghost use mathlib.Core.Path.{_≡_};
 ghost use Prim.Native.Nat.{ℕ, _+_, _-_, _*_, _^_, _<_, _≤_};
 ghost use Rattle.model.specs.Header.{goodVar, goodVars, goodHeader};
 ghost use Rattle.model.specs.Gates.{badWord};
-ghost use Rattle.model.specs.Word.{fieldAt, headerOf, goodWord, pushed, wordOf};
+ghost use Rattle.model.specs.Word.{fieldAt, capAt, headerOf, goodWord, pushed, wordOf};
 ghost use Rattle.shape_words.specs.Rules.{Ruled};
 
 // Six bits of a word, from the bit `low` up, and one more.
@@ -15,6 +15,13 @@ fn field(word: u64, low: u64) -> usize
     ensures { λ r. ⌜ r ≡ fieldAt word low + 1 ⌝ }
 {
     ((word >> low) & 63) as usize + 1
+}
+
+// The cap: the eight bits after the last length.
+fn cap_of(word: u64) -> usize
+    ensures { λ r. ⌜ r ≡ capAt word ⌝ }
+{
+    ((word >> 5) & 255) as usize
 }
 
 // What the fields of a word say, good or not.
@@ -35,6 +42,7 @@ pub fn header_of(word: u64) -> Header
             field(word, 25),
             field(word, 13),
         ],
+        cap: cap_of(word),
     }
 }
 
@@ -62,7 +70,7 @@ fn good_vars(h: Header) -> bool
 pub fn good_header(h: Header) -> bool
     ensures { λ r. ⌜ r ≡ goodHeader h ⌝ }
 {
-    if good_vars(h) {
+    if good_vars(h) & (h.cap <= Header::CAP) {
         let n = h.lengths;
         crate::places::count_of(n) <= Header::COUNT
     } else {
@@ -74,7 +82,7 @@ pub fn good_header(h: Header) -> bool
 pub fn is_good(word: u64) -> bool
     ensures { λ r. ⌜ r ≡ goodWord word ⌝ }
 {
-    good_header(header_of(word)) & (word & 8191 == 0)
+    good_header(header_of(word)) & (word & 31 == 0)
 }
 
 // Why a word that is no header is refused, `place` where it stands in a recipe: the one maker of this refusal.
@@ -92,6 +100,14 @@ fn push(word: u64, x: usize) -> u64
     (word << 6) | ((x - 1) as u64)
 }
 
+// The cap at the low end.
+fn push_cap(word: u64, cap: usize) -> u64
+    requires { ⌜ (word < 2 ^ 51) × (cap < 2 ^ 8) ⌝ }
+    ensures { λ r. ⌜ r ≡ word * 2 ^ 8 + cap ⌝ }
+{
+    (word << 8) | (cap as u64)
+}
+
 // The word of a header.
 pub fn pack(h: Header) -> u64
     requires { ⌜ Ruled h ⌝ }
@@ -104,5 +120,5 @@ pub fn pack(h: Header) -> u64
     let w2 = push(push(w1, l[1]), n[1]);
     let w3 = push(push(w2, l[2]), n[2]);
     let w4 = push(push(w3, l[3]), n[3]);
-    w4 << 13
+    push_cap(w4, h.cap) << 5
 }

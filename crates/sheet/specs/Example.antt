@@ -11,6 +11,7 @@ use Rattle.model.specs.Header.{span}
 use Rattle.model.specs.Faults.{soundVar, headerFault}
 use Rattle.model.specs.Word.{headerOf, faultOf, goodWord, fields, wordOf}
 use Rattle.model.specs.Places.{strides, offset, index, inside}
+use Rattle.model.specs.Cap.{minCap, lowerCap}
 use Rattle.model.specs.Announced.{single, paired, announced}
 use Rattle.model.specs.Shifts.{rowsFrom, rowSum, shiftDownPoly}
 use Rattle.model_recipes.specs.Steps.{stepOf, rows}
@@ -65,7 +66,7 @@ unfolding exampleSheet exampleOutput sheetOutput lastValue sheetRefusal readRefu
     doneText decimal digits hexLines hexLine wordAt isLine digitFor digitOf isDigit runRefusal lentRefusal stepValues
     values stepValue operations inputValues checkRefusal stepsRefusal inputsRefusal stepRefusal formed rightSizes
     orElse largest total announcedSteps announcedPlaces announcedStep families rows stepOf shiftDownPoly rowSum
-    rowsFrom announced paired single inside index offset strides wordOf fields goodWord faultOf headerFault soundVar
+    rowsFrom announced paired single minCap lowerCap inside index offset strides wordOf fields goodWord faultOf headerFault soundVar
     headerOf span walk table every chain ofBits toBits neg add sub mul div eq ofInt
 example-holds = refl
 
@@ -76,7 +77,7 @@ unfolding exampleSheet refusedOutput sheetOutput lastValue sheetRefusal readRefu
     doneText decimal digits hexLines hexLine wordAt isLine digitFor digitOf isDigit runRefusal lentRefusal stepValues
     values stepValue operations inputValues checkRefusal stepsRefusal inputsRefusal stepRefusal formed rightSizes
     orElse largest total announcedSteps announcedPlaces announcedStep families rows stepOf shiftDownPoly rowSum
-    rowsFrom announced paired single inside index offset strides wordOf fields goodWord faultOf headerFault soundVar
+    rowsFrom announced paired single minCap lowerCap inside index offset strides wordOf fields goodWord faultOf headerFault soundVar
     headerOf span walk table every chain ofBits toBits neg add sub mul div eq ofInt
 byte-behind = refl
 
@@ -85,7 +86,7 @@ unfolding refusedOutput sheetOutput lastValue sheetRefusal readRefusal headersRe
     coefficientCount sheetHeaders sheetRecipe sheetEdition spare stepCount inputCount recipeRefusal ownRefusal refusedText doneText decimal
     digits hexLines hexLine wordAt isLine digitFor digitOf isDigit runRefusal lentRefusal stepValues values stepValue
     operations inputValues checkRefusal stepsRefusal inputsRefusal stepRefusal formed rightSizes orElse largest total
-    announcedSteps announcedPlaces announcedStep families rows stepOf shiftDownPoly rowSum rowsFrom announced paired
+    announcedSteps announcedPlaces announcedStep families rows stepOf shiftDownPoly rowSum rowsFrom minCap lowerCap announced paired
     single inside index offset strides wordOf fields goodWord faultOf headerFault soundVar headerOf span walk table
     every chain ofBits toBits neg add sub mul div eq ofInt
 nothing-there = refl

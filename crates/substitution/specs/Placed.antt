@@ -15,7 +15,7 @@ use Rattle.lists.specs.Part.{part, length-part, below-then, Kept}
 use Rattle.model.specs.declared.Header.{Header}
 use Rattle.model.specs.declared.Way.{Way}
 use Rattle.model.specs.declared.Family.the-variants.{Substitution}
-use Rattle.model.specs.Header.{header, count, stored}
+use Rattle.model.specs.Header.{count, stored, withLengths}
 use Rattle.model.specs.Places.{index}
 use Rattle.model.specs.Limits.{cutTo}
 use Rattle.model.specs.Refusals.{zeroF, zeros, padded}
@@ -142,7 +142,7 @@ kept-again p q = record { below = below-then (p .below) (q .below); holds = q .h
 
 -- the header of what was written, and +0.0 after it
 module _ (h : Header) {m : Block} {v : Poly} (e : polyOf h m ≡ v) {at n : ℕ} {p p' : List Float} {r : List ℕ} (s : Wrote at n m p p' r) where
-  pub wrote-head : header (h .vars) (h .limits) r ≡ v .head
+  pub wrote-head : withLengths h r ≡ v .head
   wrote-head = rw (s .stands .lengths) (ap (λ (q : Poly). q .head) e)
 
   pub wrote-padded : {c : ℕ} {p'' : List Float} → c ≡ length (m .places) → c ≤ n
@@ -225,7 +225,7 @@ module _ {v : ℕ} {x y h : Header} {n : ℕ} (g : Announces (Substitution v) x 
     pub value-count : {c : ℕ} → c ≡ count r → c ≤ n
     value-count e = into-small given a b la (s .stands) e
 
-    pub value-head : header (h .vars) (h .limits) r ≡ substitutePoly v (poly x a) (poly y b) .head
+    pub value-head : withLengths h r ≡ substitutePoly v (poly x a) (poly y b) .head
     value-head = wrote-head h (sym (poly-is v x y a b (g .is))) s
 
     pub value-kept : {c : ℕ} {p'' : List Float} → c ≡ count r

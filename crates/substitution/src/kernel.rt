@@ -378,14 +378,9 @@ pub fn substitute_to(
         (taken q (now (b .entry)) (take at (now (out .entry)))) .coeffs)) (now (out .entry)) (now (out .exit)) ⌝ }
     ensures spent { λ _. ⌜ length (now (scratch .exit)) ≡ length (now (scratch .entry)) ⌝ }
 {
-    let limits = h.limits;
     let room = 8 * n;
     let r = front_to(v, p, q, h, n, a, b, out, at, &mut scratch[..room]);
     let z = count_of(r);
     shape_operands::pad(out, at + z, at + n);
-    Header {
-        vars: h.vars,
-        limits,
-        lengths: r,
-    }
+    Header::with_lengths(h, r)
 }

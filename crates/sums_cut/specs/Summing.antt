@@ -10,7 +10,7 @@ use Rattle.lists.specs.Four.{at}
 use Rattle.lists.specs.Table.{length-table}
 use Rattle.model.specs.declared.Header.{Header}
 use Rattle.model.specs.declared.Family.the-variants.{Sum}
-use Rattle.model.specs.Header.{header, count, stored}
+use Rattle.model.specs.Header.{count, stored, withLengths}
 use Rattle.model.specs.Word.{headerOf}
 use Rattle.model.specs.Limits.{cutTo, maxShape}
 use Rattle.model.specs.Announced.{announced, paired}
@@ -140,8 +140,7 @@ module _ (minus : Bool) (w : ℕ) (a : List Float) (u : ℕ) (b : List Float) {x
   unfolding combined joinedBlock cut
   sum-head =
       let k : h ≡ announced Sum (headerOf w) (headerOf u) = eh ∙ (rw (ex, ey)) in
-      k ∙ ap (λ (n : List ℕ). header (announced Sum (headerOf w) (headerOf u) .vars)
-      (announced Sum (headerOf w) (headerOf u) .limits) n) (sym (sum-lengths (headerOf w) (headerOf u)))
+      k ∙ ap (λ (n : List ℕ). withLengths (announced Sum (headerOf w) (headerOf u)) n) (sym (sum-lengths (headerOf w) (headerOf u)))
 
   pub sum-coeffs : {na nb : ℕ} {o : List Float} → na ≡ stored x → nb ≡ stored y
       → o ≡ joinedBlock minus (cut (h .limits) (block (x .lengths) (take na a))) (cut (h .limits) (block (y .lengths) (take nb b))) .places

@@ -1,5 +1,5 @@
 -- The face: the two kinds of answer cannot be confused. The low five bits of an answered word are the refusal's number,
--- 0 where there is none: a header word ends in 13 zero bits, and gates refuse by 1 to 6, `least` by 11 too,
+-- 0 where there is none: a header word ends in five zero bits, and gates refuse by 1 to 6, `least` by 11 too,
 -- `exp_constant` by 12 alone. What was answered is read back from the word.
 use Prim.Native.Nat.{ℕ, zero, suc, _+_, _*_, _/_, _%_, _^_, _≤_, _<_}
 use mathlib.Core.List.{List}

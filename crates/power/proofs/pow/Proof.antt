@@ -5,7 +5,7 @@ use Prim.Native.Nat.{ℕ, _*_, _≤_}
 use lib.ListN.{length, drop, length-append}
 use lib.Seq.{length-take-le}
 use Rattle.model.specs.declared.Family.the-variants.{Power}
-use Rattle.model.specs.Header.{header}
+use Rattle.model.specs.Header.{withLengths}
 use Rattle.model.specs.Word.{wordOf}
 use Rattle.model.specs.Poly.{Poly, held}
 use Rattle.model.specs.Gates.{announcedOne}
@@ -43,7 +43,7 @@ rooms c = simp length-append (omega (arith, used c))
 
 head : (c : tie.After-power-into) →
     let c11 = c .before .before .before .before .before .before .before .before .before .before .before in let start = c11 .before .before .before .before in
-    header (c11 .open-work .result .told .vars) (c11 .open-work .result .told .limits) (c .power-into .result) ≡ value start .head
+    withLengths (c11 .open-work .result .told) (c .power-into .result) ≡ value start .head
 head c =
     let c8 = c .before .before .before .before .before .before .before .before in let c11 = c8 .before .before .before in
     let start = c11 .before .before .before .before in

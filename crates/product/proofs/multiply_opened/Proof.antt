@@ -9,7 +9,7 @@ use Rattle.model.specs.Gates.{announcedPair}
 use Rattle.model.specs.Word.{wordOf}
 use Rattle.gates.specs.Open.{told-by, opened-ready, opened-count, opened-fits}
 use Rattle.model.specs.declared.Family.the-variants.{Product}
-use Rattle.model.specs.Header.{header}
+use Rattle.model.specs.Header.{withLengths}
 use Rattle.model.specs.Product.{productPoly, productAnswer, productOut, productScratch}
 use Rattle.blocks.specs.Entry.{refused-answer, refused-out, refused-scratch, done-answer, done-out, done-scratch}
 use Rattle.product.specs.Times.{entry-times, entry-ruled, entry-head, entry-out}
@@ -23,7 +23,7 @@ value c = productPoly (held (c .args .ah) (c .args .a .now)) (held (c .args .bh)
 head : (c : tie.After-multiply-into) →
     let c12 = c .before .before .before .before .before .before .before .before .before .before .before .before in
     let c14 = c12 .before .before in let c19 = c14 .before .before .before .before .before in
-    header (c14 .open-product .result .told .vars) (c14 .open-product .result .told .limits) (c .multiply-into .result) ≡ value c19 .head
+    withLengths (c14 .open-product .result .told) (c .multiply-into .result) ≡ value c19 .head
 head c =
     let c11 = c .before .before .before .before .before .before .before .before .before .before .before in
     let c14 = c11 .before .before .before in let start = c14 .before .before .before .before .before in
@@ -120,22 +120,23 @@ slice-aggregate-clear c = sym (length-take-le _ _ (rooms (c .before .before .bef
 
 pack-requires : tie.Need-pack-requires
 pack-requires c κs =
-    let c8 = c .before .before .before .before .before .before .before .before in
+    let c8 = c .before .before .before .before .before .before .before .before .before in
     let c19 = c8 .before .before .before .before .before .before .before .before .before .before .before in
     let c22 = c19 .before .before .before in let start = c22 .before .before .before .before .before in
-    rw (head c8) (entry-ruled (opened-ready (c22 .open-product .ensures) (c19 .if1 .left)) (start .args .a .now) (start .args .b .now))
+    rw (c .with-lengths .ensures ∙ head c8)
+    (entry-ruled (opened-ready (c22 .open-product .ensures) (c19 .if1 .left)) (start .args .a .now) (start .args .b .now))
 
 returns-2 : tie.Need-returns-2
 unfolding productAnswer productOut productScratch
 returns-2 c =
-    let c9 = c .before .before .before .before .before .before .before .before .before in
+    let c9 = c .before .before .before .before .before .before .before .before .before .before in
     let c20 = c9 .before .before .before .before .before .before .before .before .before .before .before in
     let c23 = c20 .before .before .before in let start = c23 .before .before .before .before .before in
     let e = c23 .open-product .ensures .refusal in let z = c20 .if1 .left in
     let n = (opened-count (c23 .open-product .ensures) (c20 .if1 .left)) in
     let t = c23 .open-product .ensures .tells (c20 .if1 .left) in (
       done-answer e (announcedPair Product (start .args .ah) (start .args .bh)) (value start) z
-          (c .pack .ensures ∙ ap wordOf (head c9)),
+          (c .pack .ensures ∙ ap wordOf (c .before .with-lengths .ensures ∙ head c9)),
       (
         done-out e (announcedPair Product (start .args .ah) (start .args .bh)) (value start) z (start .args .out .now) n
             (entry-out (start .args .ah) (start .args .a .now) (start .args .bh) (start .args .b .now) (t .left)
@@ -143,7 +144,7 @@ returns-2 c =
             (c9 .multiply-into .ensures .1 .0)),
         done-scratch e (announcedPair Product (start .args .ah) (start .args .bh)) (value start) z
             (start .args .scratch .now) (c9 .multiply-into .last .1 .1 .1 .1 .1 .1 .1 .0) (ap (λ (k : ℕ). 8 * k) n)
-            (used c9) (c .before .before .before .clear .ensures) (length-take-le _ _ (rooms c9)),
+            (used c9) (c .before .before .before .before .clear .ensures) (length-take-le _ _ (rooms c9)),
       ),
     )
 
@@ -154,4 +155,4 @@ multiply-opened-spec =
     (λ c κs. search needs) returns mul-room slice-aggregate-multiply-into slice-aggregate-multiply-into-2
     slice-relend-prefix-multiply-into slice-aggregate-multiply-into-3 slice-relend-prefix-multiply-into-2
     slice-aggregate-multiply-into-4 multiply-into-requires slice-relend-prefix-clear slice-aggregate-clear
-    (λ c κs. search needs) pack-requires (λ c. search needs) (λ c. search needs) returns-2)
+    (λ c κs. search needs) (λ c κs. search needs) pack-requires (λ c. search needs) (λ c. search needs) returns-2)

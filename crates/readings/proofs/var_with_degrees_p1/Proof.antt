@@ -2,7 +2,7 @@ use mathlib.Core.Path.{sym, ap, _∙_}
 use native.Mathlib.Omega.{arith}
 use lib.ListN.{length}
 use Rattle.gates.specs.Gate.{entry-refused, entry-done, VarWithReady, var-with-ready}
-use Rattle.model.specs.Header.{varWith}
+use Rattle.model.specs.Header.{zeroWith, varWith}
 use Rattle.model.specs.Constructed.{variable}
 use Rattle.readings_short.specs.Short.{var-count}
 use borrow.Author.Needs.{needs}
@@ -23,7 +23,7 @@ returns c =
     (start .args .out .now)
 
 write-short-requires : tie.Need-write-short-requires
-unfolding varWith
+unfolding varWith zeroWith
 write-short-requires c κs =
     let start = c .before .before .before .before .before .before in
     rw (c .before .var-with-degrees-p1 .ensures) (

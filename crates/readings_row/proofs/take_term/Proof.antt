@@ -13,7 +13,7 @@ returns : tie.Need-returns
 returns c =
     let c5 = c .before .before .before .before .before in
     let start = c5 .before .before .before .before in (
-      c .shortest .ensures ∙ ap (λ (q : Poly). q .head)
+      c .with-lengths .ensures ∙ ap (λ (q : Poly). q .head)
           (sym (term-past (start .args .v) (start .args .order) (poly (start .args .h) (start .args .a .now))
           (start .pre .is) (c5 .if1 .taken))),
       c .before .before .before .clear .ensures

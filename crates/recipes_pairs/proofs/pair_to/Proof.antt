@@ -140,11 +140,12 @@ same-length-2 c = search needs
 
 returns : tie.Need-returns
 returns c =
-    let c9 = c .before .before .before .before .before .before .before .before .before in
+    let c9 = c .before .before .before .before .before .before .before .before .before .before in
     let c14 = c9 .before .before .before .before .before in
     let start = c14 .before .before .before .before .before .before .before in
     let g = start .pre .1 .1 .1 in (
-      value-head (start .pre .0) (lying (start .args .xi) (start .args .coefficients .now)
+      c .with-lengths .ensures
+          ∙ value-head (start .pre .0) (lying (start .args .xi) (start .args .coefficients .now)
           (take (start .args .at) (start .args .pool .now)) (start .args .xf) (start .args .x) .coeffs)
           (lying (start .args .yi) (start .args .coefficients .now) (take (start .args .at) (start .args .pool .now))
           (start .args .yf) (start .args .y) .coeffs) (c14 .load-pair .ensures .1) (c14 .load-pair .ensures .0)
@@ -154,11 +155,11 @@ returns c =
             (take (start .args .at) (start .args .pool .now)) (start .args .xf) (start .args .x) .coeffs)
             (lying (start .args .yi) (start .args .coefficients .now) (take (start .args .at) (start .args .pool .now))
             (start .args .yf) (start .args .y) .coeffs) (c14 .load-pair .ensures .1) (c14 .load-pair .ensures .0)
-            (stands c9) (c .before .before .before .before .count-of .ensures) refl
+            (stands c9) (c .before .before .before .before .before .count-of .ensures) refl
             (part-kept (start .args .at) (start .args .at + start .args .n) (start .args .pool .now)
             (c9 .pair-front .last .1 .1 .1 .1 .1 .1 .1 .0)
             (c9 .pair-front .kept .1 .1 .1 .1 .1 .1 .1 .0 ∙ simp (length-take, length-drop) (omega (arith, g .room)))
-            (omega arith) (g .room)) (c .before .before .pad .ensures),
+            (omega arith) (g .room)) (c .before .before .before .pad .ensures),
         same-length-2 c,
       ),
     )
@@ -170,4 +171,4 @@ pair-to-spec =
     (λ c. search needs) (λ c. search needs) slice-aggregate-load-pair (λ c. search needs) slice-aggregate-load-pair-2
     load-pair-requires add-end (λ c. search needs) slice-aggregate-pair-front mul-pair-front (λ c. search needs)
     (λ c. search needs) (λ c. search needs) pair-front-requires count-of-requires add-pad pad-requires
-    (λ c. search needs) same-length-2 returns)
+    (λ c κs. search needs) (λ c. search needs) same-length-2 returns)

@@ -68,10 +68,11 @@ same-length-2 c = search needs
 
 returns : tie.Need-returns
 returns c =
-    let c4 = c .before .before .before .before in let c9 = c4 .before .before .before .before .before in
+    let c4 = c .before .before .before .before .before in let c9 = c4 .before .before .before .before .before in
     let start = c9 .before .before .before .before .before .before .before .before in
     let g = start .pre .1 .1 in (
-      power-head (start .pre .0) (lying (start .args .input) (start .args .coefficients .now)
+      c .with-lengths .ensures
+          ∙ power-head (start .pre .0) (lying (start .args .input) (start .args .coefficients .now)
           (take (start .args .at) (start .args .pool .now)) (start .args .from) (start .args .x) .coeffs) (loaded c9)
           (length-operand (start .args .from) (stored (start .args .x))
           (source (start .args .input) (start .args .coefficients .now) (take (start .args .at) (start .args .pool .now)))
@@ -96,5 +97,5 @@ power-to-spec =
     (tie.spec
     (λ c. search needs) (λ c. search needs) slice-aggregate-load-base (λ c. search needs) slice-aggregate-load-base-2
     load-base-requires (λ c. search needs) (λ c. search needs) slice-aggregate-power-loaded (λ c. search needs)
-    (λ c. search needs) (λ c. search needs) (λ c. search needs) power-loaded-requires (λ c. search needs)
-    same-length-2 returns)
+    (λ c. search needs) (λ c. search needs) (λ c. search needs) power-loaded-requires (λ c κs. search needs)
+    (λ c. search needs) same-length-2 returns)

@@ -7,11 +7,12 @@ returns : tie.Need-returns
 unfolding varWith
 returns c =
     simp (
-      c .two-at-most4 .ensures,
-      c .before .two-at-most3 .ensures,
-      c .before .before .two-at-most2 .ensures,
-      c .before .before .before .two-at-most .ensures,
-      c .before .before .before .before .before .zero-with .ensures,
+      c .with-lengths .ensures,
+      c .before .two-at-most4 .ensures,
+      c .before .before .two-at-most3 .ensures,
+      c .before .before .before .two-at-most2 .ensures,
+      c .before .before .before .before .two-at-most .ensures,
+      c .before .before .before .before .before .before .zero-with .ensures,
     )
 
 pub var-with-degrees-p1-spec : {M : Type 1} → statement M
@@ -19,4 +20,4 @@ var-with-degrees-p1-spec =
     tie.close
     (tie.spec
     (λ c κs. search needs) (λ c. search needs) (λ c κs. search needs) (λ c. search needs) (λ c κs. search needs)
-    (λ c. search needs) (λ c κs. search needs) (λ c. search needs) (λ c κs. search needs) returns)
+    (λ c. search needs) (λ c κs. search needs) (λ c. search needs) (λ c κs. search needs) (λ c κs. search needs) returns)

@@ -12,15 +12,15 @@ use Rattle.product.proofs.own.own_count.Tie as tie
 
 tested : (c : tie.Else1)
     → ((c .before .before .is-good .result && c .before .keeps-header .result)
-    && eqb (c .before .before .before .before .before .args .bh % 2 ^ 13) 0) ≡ true
-tested c = not-false _ (rw (and-mask (c .before .before .before .before .before .args .bh) 13) at (c .if1 .left))
+    && eqb (c .before .before .before .before .before .args .bh % 2 ^ 5) 0) ≡ true
+tested c = not-false _ (rw (and-mask (c .before .before .before .before .before .args .bh) 5) at (c .if1 .left))
 
 returns : tie.Need-returns
 returns c =
     let start = c .before .before .before .before .before in
     count-bad (start .args .ah) (start .args .am) (start .args .bh) (start .args .bm) (start .args .lent) (start .args .scratch)
     (c .before .before .before .before .header-of .ensures) (c .before .before .before .header-of2 .ensures)
-    (c .before .before .is-good .ensures) (c .before .keeps-header .ensures) (not-true _ (rw (and-mask (start .args .bh) 13) at (c .if1 .taken)))
+    (c .before .before .is-good .ensures) (c .before .keeps-header .ensures) (not-true _ (rw (and-mask (start .args .bh) 5) at (c .if1 .taken)))
 
 stored-of-requires : tie.Need-stored-of-requires
 stored-of-requires c κs =

@@ -70,12 +70,13 @@ returns : tie.Need-returns
 unfolding paired
 returns c =
     simp (
-      c .paired-length4 .ensures,
-      c .before .paired-length3 .ensures,
-      c .before .before .paired-length2 .ensures,
-      c .before .before .before .paired-length .ensures,
-      c .before .before .before .before .most .ensures,
-      c .before .before .before .before .before .before .before .min-degrees-p1 .ensures,
+      c .min-cap .ensures,
+      c .before .paired-length4 .ensures,
+      c .before .before .paired-length3 .ensures,
+      c .before .before .before .paired-length2 .ensures,
+      c .before .before .before .before .paired-length .ensures,
+      c .before .before .before .before .before .most .ensures,
+      c .before .before .before .before .before .before .before .before .min-degrees-p1 .ensures,
     )
 
 pub paired-header-spec : {M : Type 1} → statement M
@@ -85,4 +86,4 @@ paired-header-spec =
     (λ c κs. search needs) (λ c κs. search needs) (λ c. search needs) (λ c. search needs) (λ c. search needs)
     paired-length-requires (λ c. search needs) (λ c. search needs) (λ c. search needs) paired-length-requires-2
     (λ c. search needs) (λ c. search needs) (λ c. search needs) paired-length-requires-3 (λ c. search needs)
-    (λ c. search needs) (λ c. search needs) paired-length-requires-4 returns)
+    (λ c. search needs) (λ c. search needs) paired-length-requires-4 (λ c κs. search needs) returns)

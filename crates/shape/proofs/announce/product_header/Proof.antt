@@ -19,11 +19,12 @@ returns : tie.Need-returns
 unfolding announced paired sumShape cutTo
 returns c =
     simp (
-      c .sum-shape .ensures,
-      c .before .cut-to2 .ensures,
-      c .before .before .cut-to .ensures,
-      c .before .before .before .most .ensures,
-      c .before .before .before .before .before .before .min-degrees-p1 .ensures,
+      c .min-cap .ensures,
+      c .before .sum-shape .ensures,
+      c .before .before .cut-to2 .ensures,
+      c .before .before .before .cut-to .ensures,
+      c .before .before .before .before .most .ensures,
+      c .before .before .before .before .before .before .before .min-degrees-p1 .ensures,
     )
 
 pub product-header-spec : {M : Type 1} → statement M
@@ -31,4 +32,4 @@ product-header-spec =
     tie.close
     (tie.spec
     (λ c κs. search needs) (λ c κs. search needs) (λ c κs. search needs) (λ c κs. search needs) sum-shape-requires
-    returns)
+    (λ c κs. search needs) returns)

@@ -7,14 +7,15 @@ returns : tie.Need-returns
 unfolding single
 returns c =
     simp (
-      c .single-length4 .ensures,
-      c .before .single-length3 .ensures,
-      c .before .before .single-length2 .ensures,
-      c .before .before .before .single-length .ensures,
-      c .before .before .before .before .limit-after4 .ensures,
-      c .before .before .before .before .before .limit-after3 .ensures,
-      c .before .before .before .before .before .before .limit-after2 .ensures,
-      c .before .before .before .before .before .before .before .limit-after .ensures,
+      c .cap-after .ensures,
+      c .before .single-length4 .ensures,
+      c .before .before .single-length3 .ensures,
+      c .before .before .before .single-length2 .ensures,
+      c .before .before .before .before .single-length .ensures,
+      c .before .before .before .before .before .limit-after4 .ensures,
+      c .before .before .before .before .before .before .limit-after3 .ensures,
+      c .before .before .before .before .before .before .before .limit-after2 .ensures,
+      c .before .before .before .before .before .before .before .before .limit-after .ensures,
     )
 
 pub single-header-spec : {M : Type 1} → statement M
@@ -24,4 +25,5 @@ single-header-spec =
     (λ c. search needs) (λ c κs. search needs) (λ c. search needs) (λ c κs. search needs) (λ c. search needs)
     (λ c κs. search needs) (λ c. search needs) (λ c κs. search needs) (λ c. search needs) (λ c. search needs)
     (λ c κs. search needs) (λ c. search needs) (λ c. search needs) (λ c κs. search needs) (λ c. search needs)
-    (λ c. search needs) (λ c κs. search needs) (λ c. search needs) (λ c. search needs) (λ c κs. search needs) returns)
+    (λ c. search needs) (λ c κs. search needs) (λ c. search needs) (λ c. search needs) (λ c κs. search needs)
+    (λ c κs. search needs) returns)

@@ -17,7 +17,7 @@ returns c =
     let v2 = v1 .before in
     let v3 = v2 .before in
     let spare = v3 .before in
-    let count = spare .before .before in
+    let count = spare .before .before .before in
     let stored = count .before .before .before in
     let head = stored .before .before .before in
     simp (
@@ -34,7 +34,7 @@ returns c =
       count .before .before .of .ensures,
       stored .count-of .ensures,
       head .header-of .ensures,
-      and-mask (head .before .args .word) 13,
+      and-mask (head .before .args .word) 5,
     )
 
 pub fault-of-spec : {M : Type 1} → statement M

@@ -11,7 +11,7 @@ good-header-requires : tie.Need-good-header-requires
 good-header-requires c κs = search needs
 
 returns : tie.Need-returns
-returns c = simp (c .good-header .ensures, c .before .header-of .ensures, and-mask ((c .before .before) .args .word) 13, good-word-is)
+returns c = simp (c .good-header .ensures, c .before .header-of .ensures, and-mask ((c .before .before) .args .word) 5, good-word-is)
 
 pub is-good-spec : {M : Type 1} → statement M
 is-good-spec = tie.close (tie.spec header-of-requires good-header-requires returns)

@@ -1,5 +1,5 @@
 use Rattle.shape_words.specs.Words.{step, fields-lt}
-use Prim.Native.Nat.{ℕ, _*_, _^_, _%_, _<_}
+use Prim.Native.Nat.{ℕ, _+_, _*_, _^_, _%_, _<_}
 use mathlib.Core.Path.{_≡_, ap, _∙_}
 use lib.Pow.{shl-exact}
 use native.Mathlib.Omega.{arith}
@@ -21,11 +21,11 @@ push-requires-8 c κs =
     let s7 = step (2 ^ 39) (c .push7 .ensures) s6 (omega (arith, g .v3)) (g .v3 .most) in
     (omega (arith, s7), (g .v3 .pos, omega (arith, g .v3)))
 
-returns : tie.Need-returns
-unfolding fields wordOf
-returns c =
+packed : (c : tie.After-push8) →
     let start = c .before .before .before .before .before .before .before .before .before .before in
-    let e : c .push8 .result ≡ fields (start .args .h) =
+    c .push8 .result ≡ fields (start .args .h)
+unfolding fields
+packed c =
     simp (
       c .push8 .ensures,
       c .before .push7 .ensures,
@@ -35,8 +35,20 @@ returns c =
       c .before .before .before .before .before .push3 .ensures,
       c .before .before .before .before .before .before .push2 .ensures,
       c .before .before .before .before .before .before .before .push .ensures,
-    ) in
-    ap (λ (n : ℕ). n * 2 ^ 13 % 2 ^ 64) e ∙ shl-exact 51 13 64 (fields-lt _ (start .pre)) (search needs)
+    )
+
+push-cap-requires : tie.Need-push-cap-requires
+push-cap-requires c κs =
+    let g = (c .before .before .before .before .before .before .before .before .before .before) .pre in
+    (rw (packed c) (fields-lt _ g), omega (arith, g .low))
+
+returns : tie.Need-returns
+unfolding wordOf
+returns c =
+    let start = c .before .before .before .before .before .before .before .before .before .before .before in
+    let g = start .pre in let h = start .args .h in
+    let e : c .push-cap .result ≡ fields h * 2 ^ 8 + h .cap = c .push-cap .ensures ∙ ap (λ (n : ℕ). n * 2 ^ 8 + h .cap) (packed (c .before)) in
+    ap (λ (n : ℕ). n * 2 ^ 5 % 2 ^ 64) e ∙ shl-exact 59 5 64 (omega (arith, fields-lt h g, g .low)) (search needs)
 
 pub pack-spec : {M : Type 1} → statement M
 pack-spec =
@@ -45,4 +57,4 @@ pack-spec =
     (λ c. search needs) (λ c κs. search needs) (λ c. search needs) (λ c κs. search needs) (λ c. search needs)
     (λ c κs. search needs) (λ c. search needs) (λ c κs. search needs) (λ c. search needs) (λ c κs. search needs)
     (λ c. search needs) (λ c κs. search needs) (λ c. search needs) (λ c κs. search needs) (λ c. search needs)
-    push-requires-8 returns)
+    push-requires-8 push-cap-requires returns)
