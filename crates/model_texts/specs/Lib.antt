@@ -6,5 +6,4 @@ pub mod Full
 pub mod Whole
 pub mod Report
 pub mod Cause
-pub mod Sentence
 pub mod Number
