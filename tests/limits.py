@@ -305,7 +305,7 @@ def totals_text(steps, inputs, total, given, shown, whole, one):
         return total_text("as given", given, shown, "%s are not.")
     if isinstance(total, int):
         kind = NAMES[fields(steps[total - inputs])[0]]
-        return "No total follows from the inputs: place %d is a %s.\n%s" % (total, kind, "Parts are taken of a total of 1.\n" if one else "")
+        return "No total follows from the inputs: place %d is of kind %s.\n%s" % (total, kind, "Parts are taken of a total of 1.\n" if one else "")
     return total_text("taking each input as whole", total, shown, "nothing lies past the limits." if whole else "%s lie past the limits.")
 
 

@@ -149,7 +149,7 @@ def sentence(data, number, place, variable, cause, announce):
     elif number == 12:
         assert word >> 60 == 11
         said = "the first coefficient of place %d is not from -8 to 8;\n" % a
-        said += "where that is meant, divide place %d by n, take exp, raise it to the power n." % a
+        said += "where that is meant, divide that place by n, take exp, then the power n of it."
     else:
         assert number == 5
         said = "it takes %d coefficients; 4096 are the most." % product(announce(word, known, 0)[1])

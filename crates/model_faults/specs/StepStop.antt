@@ -2,12 +2,11 @@
 -- from -8 to 8. The values of a run that stops are gone, so it is not shown. Any x is n parts of x / n: the exponential
 -- of x is that of a part to the power n.
 use Prim.Native.Nat.{ℕ}
-use mathlib.Core.List.{List, _++_}
+use mathlib.Core.List.{List}
 use Rattle.model_recipes.specs.Steps.{stepOf}
 use Rattle.model_faults.specs.Saying.{say}
 
 unfoldable pub stopCause : ℕ → List ℕ
 stopCause w =
-    let s = stepOf w in
-    say "the first coefficient of place " (s .a) " is not from -8 to 8;\n"
-    ++ say "where that is meant, divide place " (s .a) " by n, take exp, raise it to the power n.\n"
+    say "the first coefficient of place " (stepOf w .a)
+    " is not from -8 to 8;\nwhere that is meant, divide that place by n, take exp, then the power n of it.\n"

@@ -161,19 +161,11 @@ fn put_count_cause(word: u64, known: &[u64], at: usize, to: &mut [u8]) -> usize
 fn put_stop_cause(word: u64, at: usize, to: &mut [u8]) -> usize
     ensures { λ r. ⌜ Puts (stopCause word) at (now (to .entry)) (now (to .exit)) r ⌝ }
 {
-    let s = step_of(word);
-    let next = say(
-        b"the first coefficient of place ",
-        s.a,
-        b" is not from -8 to 8;\n",
-        at,
-        to,
-    );
     say(
-        b"where that is meant, divide place ",
-        s.a,
-        b" by n, take exp, raise it to the power n.\n",
-        next,
+        b"the first coefficient of place ",
+        step_of(word).a,
+        b" is not from -8 to 8;\nwhere that is meant, divide that place by n, take exp, then the power n of it.\n",
+        at,
         to,
     )
 }
