@@ -6,4 +6,5 @@ pub mod Full
 pub mod Whole
 pub mod Report
 pub mod Cause
+pub mod Sentence
 pub mod Number
