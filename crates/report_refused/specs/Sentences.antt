@@ -167,10 +167,12 @@ module _ (w : ℕ) {known : List Header} (g : Known known) where
       (bytes " is not from -8 to 8;\nwhere that is meant, divide that place by n, take exp, then the power n of it.\n") refl))
       (omega arith) (omega arith)
 
+  long : {t : List ℕ} → Fits 57 58 t → Fits 57 140 t
+  long f = fits-up f (omega arith) (omega arith)
+
   pub step-fits : (n p : ℕ) → Fits 57 140 (stepCause n w p known)
   unfolding stepCause
   step-fits n p =
-      let long : {t : List ℕ} → Fits 57 58 t → Fits 57 140 t = λ f. fits-up f (omega arith) (omega arith) in
       fits-either (eqb n 7) (long (formed-fits w p))
       (fits-either (eqb n 3) (long variable-fits) (fits-either (eqb n 4) (long limit-fits)
       (fits-either (eqb n 12) stop-fits (long count-fits))))
