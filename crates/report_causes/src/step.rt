@@ -161,9 +161,10 @@ fn put_count_cause(word: u64, known: &[u64], at: usize, to: &mut [u8]) -> usize
 fn put_stop_cause(word: u64, at: usize, to: &mut [u8]) -> usize
     ensures { λ r. ⌜ Puts (stopCause word) at (now (to .entry)) (now (to .exit)) r ⌝ }
 {
+    let s = step_of(word);
     say(
         b"the first coefficient of place ",
-        step_of(word).a,
+        s.a,
         b" is not from -8 to 8;\nwhere that is meant, divide that place by n, take exp, then the power n of it.\n",
         at,
         to,
