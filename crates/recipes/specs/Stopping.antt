@@ -10,7 +10,7 @@ use lib.Dec.{ltb, eqb}
 use lib.ListN.{length, getD, take, drop}
 use lib.Seq.{drop-cons, drop-drop, drop-length, getD-drop, getD-take, length-take-le}
 use lib.Ieee.{Float, nan}
-use borrow.Author.Tests.{eqb-true, eqb-false}
+use borrow.Author.Tests.{eqb-true}
 use Rattle.lists.specs.Test.{decide}
 use Rattle.lists.specs.Chain.{chain}
 use Rattle.model_recipes.specs.declared.Step.{Step}
@@ -25,7 +25,7 @@ use Rattle.model_recipes.specs.Recipe.{Recipe, upTo, announcedStep, announcedPl
 use Rattle.model_recipes.specs.Run.{valueAt, stepValue, values, stepStops, stopFrom, runStop}
 use Rattle.shape_words.specs.Lengths.{lengths-of, count-pos}
 use Rattle.shape_operands.specs.Lent.{source, lies-source}
-use Rattle.recipes.specs.Standing.{lyingAt, Named, StepIn}
+use Rattle.recipes.specs.Standing.{lyingAt, Named}
 use Rattle.recipes.specs.Running.{Admitted, Running, operands-early, total-front, length-values, formed-at, next-values, step-in, step-lent, place-is}
 
 -- ---- one step

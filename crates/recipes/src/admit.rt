@@ -87,7 +87,8 @@ pub fn run_admitted(
     ensures no_words { λ r. ⌜ ((r .stop .number ≡ 0 → ⊥) → now (words .exit) ≡ zeroWords (length (now (steps .entry))) (now (words .entry))) ⌝ }
     ensures cleared { λ _. ⌜ now (scratch .exit)
         ≡ cleared (largest (announcedSteps (recipeOf edition (now (headers .entry)) (now (steps .entry))))) (now (scratch .entry)) ⌝ }
-    ensures last { λ r. ⌜ r .last ≡ total (take (length (now (steps .entry)) - 1) (announcedSteps (recipeOf edition (now (headers .entry)) (now (steps .entry))))) ⌝ }
+    ensures last { λ r. ⌜ r .last ≡ total (take (length (now (steps .entry)) - 1)
+        (announcedSteps (recipeOf edition (now (headers .entry)) (now (steps .entry))))) ⌝ }
     ensures spent { λ _. ⌜ length (now (known .exit)) ≡ length (now (known .entry)) ⌝ }
 {
     let from = headers.len();

@@ -12,22 +12,49 @@ use borrow.Author.Needs.{needs}
 use Rattle.recipes.proofs.admit.run_admitted.Statement.{statement}
 use Rattle.recipes.proofs.admit.run_admitted.Tie as tie
 
-total-is : (c : tie.After-total-of) → c .total-of .result ≡ total (announcedSteps (recipeOf (c .before .before .before .before .before .before .before .before .before .before .args .edition) (c .before .before .before .before .before .before .before .before .before .before .args .headers .now) (c .before .before .before .before .before .before .before .before .before .before .args .steps .now)))
-total-is c = c .total-of .ensures ∙ ap total (run-passed (c .before .before .before .before .before .before .before .before .before .before .pre .0) .part)
+total-is : (c : tie.After-total-of) →
+    let start = c .before .before .before .before .before .before .before .before .before .before in
+    c .total-of .result ≡ total (announcedSteps (recipeOf (start .args .edition) (start .args .headers .now) (start .args .steps .now)))
+total-is c =
+    let start = c .before .before .before .before .before .before .before .before .before .before in
+    c .total-of .ensures ∙ ap total (run-passed (start .pre .0) .part)
 
-most-is : (c : tie.After-largest-of) → c .largest-of .result ≡ largest (announcedSteps (recipeOf (c .before .before .before .before .before .before .before .before .before .before .before .before .before .args .edition) (c .before .before .before .before .before .before .before .before .before .before .before .before .before .args .headers .now) (c .before .before .before .before .before .before .before .before .before .before .before .before .before .args .steps .now)))
-most-is c = c .largest-of .ensures ∙ ap largest (run-passed (c .before .before .before .before .before .before .before .before .before .before .before .before .before .pre .0) .part)
+most-is : (c : tie.After-largest-of) →
+    let start = c .before .before .before .before .before .before .before .before .before .before .before .before .before in
+    c .largest-of .result ≡ largest (announcedSteps (recipeOf (start .args .edition) (start .args .headers .now) (start .args .steps .now)))
+most-is c =
+    let start = c .before .before .before .before .before .before .before .before .before .before .before .before .before in
+    c .largest-of .ensures ∙ ap largest (run-passed (start .pre .0) .part)
 
-fits : (c : tie.After-largest-of) → 8 * c .largest-of .result ≤ length (c .before .before .before .before .before .before .before .before .before .before .before .before .before .args .scratch .now)
-fits c = omega (arith, most-is c, c .before .before .before .before .before .before .before .before .before .before .before .before .before .pre .0 .room)
+fits : (c : tie.After-largest-of) →
+    let start = c .before .before .before .before .before .before .before .before .before .before .before .before .before in
+    8 * c .largest-of .result ≤ length (start .args .scratch .now)
+fits c =
+    let start = c .before .before .before .before .before .before .before .before .before .before .before .before .before in
+    omega (arith, most-is c, start .pre .0 .room)
 
-placed : (c : tie.After-place) → Placing (inputHeads (c .before .before .before .before .before .before .before .before .before .before .before .before .before .before .before .before .before .args .headers .now)) (announcedSteps (recipeOf (c .before .before .before .before .before .before .before .before .before .before .before .before .before .before .before .before .before .args .edition) (c .before .before .before .before .before .before .before .before .before .before .before .before .before .before .before .before .before .args .headers .now) (c .before .before .before .before .before .before .before .before .before .before .before .before .before .before .before .before .before .args .steps .now))) (c .place .last .1 .1 .0)
-placed c = rw (run-passed (c .before .before .before .before .before .before .before .before .before .before .before .before .before .before .before .before .before .pre .0) .part) at (c .place .ensures)
+placed : (c : tie.After-place) →
+    let start = c .before .before .before .before .before .before .before .before .before .before .before .before .before .before .before .before
+    .before in
+    Placing (inputHeads (start .args .headers .now)) (announcedSteps (recipeOf (start .args .edition) (start .args .headers .now)
+    (start .args .steps .now))) (c .place .last .1 .1 .0)
+placed c =
+    let start = c .before .before .before .before .before .before .before .before .before .before .before .before .before .before .before .before
+    .before in
+    rw (run-passed (start .pre .0) .part) at (c .place .ensures)
 
-used : (c : tie.After-run-steps) → length (c .run-steps .last .1 .1 .1 .1 .1 .1 .1 .0) ≡ 8 * c .before .before .before .before .before .before .before .before .before .before .largest-of .result
-used c = c .run-steps .kept .1 .1 .1 .1 .1 .1 .1 .0 ∙ length-take-le _ _ (fits (c .before .before .before .before .before .before .before .before .before .before))
+used : (c : tie.After-run-steps) →
+    let c10 = c .before .before .before .before .before .before .before .before .before .before in
+    length (c .run-steps .last .1 .1 .1 .1 .1 .1 .1 .0) ≡ 8 * c10 .largest-of .result
+used c =
+    let c10 = c .before .before .before .before .before .before .before .before .before .before in
+    c .run-steps .kept .1 .1 .1 .1 .1 .1 .1 .0 ∙ length-take-le _ _ (fits c10)
 
-again : (c : tie.After-run-steps) → 8 * c .before .before .before .before .before .before .before .before .before .before .largest-of .result ≤ length ((c .run-steps .last .1 .1 .1 .1 .1 .1 .1 .0) ++ drop (8 * c .before .before .before .before .before .before .before .before .before .before .largest-of .result) (c .before .before .before .before .before .before .before .before .before .before .before .before .before .before .before .before .before .before .before .before .before .before .before .args .scratch .now))
+again : (c : tie.After-run-steps) →
+    let c10 = c .before .before .before .before .before .before .before .before .before .before in
+    let start = c10 .before .before .before .before .before .before .before .before .before .before .before .before .before in
+    8 * c10 .largest-of .result ≤ length ((c .run-steps .last .1 .1 .1 .1 .1 .1 .1 .0) ++ drop (8 * c10 .largest-of .result)
+    (start .args .scratch .now))
 again c = simp length-append (omega (arith, used c))
 
 add-to : tie.Need-add-to
@@ -43,10 +70,14 @@ part-total-of-start : tie.Need-part-total-of-start
 part-total-of-start c = search needs
 
 part-total-of-end : tie.Need-part-total-of-end
-part-total-of-end c = let c8 = c .before .before .before .before .before .before .before .before in omega (arith, run-passed (c8 .pre .0) .fit, c8 .pre .0 .many)
+part-total-of-end c =
+    let start = c .before .before .before .before .before .before .before .before in
+    omega (arith, run-passed (start .pre .0) .fit, start .pre .0 .many)
 
 total-of-requires : tie.Need-total-of-requires
-total-of-requires c κs = let c9 = c .before .before .before .before .before .before .before .before .before in (rw (run-passed (c9 .pre .0) .part) (run-passed (c9 .pre .0) .steps), simp length-take (omega (arith, run-passed (c9 .pre .0) .fit)))
+total-of-requires c κs =
+    let start = c .before .before .before .before .before .before .before .before .before in
+    (rw (run-passed (start .pre .0) .part) (run-passed (start .pre .0) .steps), simp length-take (omega (arith, run-passed (start .pre .0) .fit)))
 
 mul-largest-of : tie.Need-mul-largest-of
 mul-largest-of c = search needs
@@ -58,13 +89,24 @@ part-largest-of-start : tie.Need-part-largest-of-start
 part-largest-of-start c = search needs
 
 part-largest-of-end : tie.Need-part-largest-of-end
-part-largest-of-end c = let c11 = c .before .before .before .before .before .before .before .before .before .before .before in omega (arith, run-passed (c11 .pre .0) .fit, c11 .pre .0 .many)
+part-largest-of-end c =
+    let start = c .before .before .before .before .before .before .before .before .before .before .before in
+    omega (arith, run-passed (start .pre .0) .fit, start .pre .0 .many)
 
 largest-of-requires : tie.Need-largest-of-requires
-largest-of-requires c κs = let c12 = c .before .before .before .before .before .before .before .before .before .before .before .before in rw (run-passed (c12 .pre .0) .part) (run-passed (c12 .pre .0) .steps)
+largest-of-requires c κs =
+    let start = c .before .before .before .before .before .before .before .before .before .before .before .before in
+    rw (run-passed (start .pre .0) .part) (run-passed (start .pre .0) .steps)
 
 mul-room : tie.Need-mul-room
-mul-room c = let c13 = c .before .before .before .before .before .before .before .before .before .before .before .before .before in omega (arith, most-is (c), largest-most (announcedSteps (recipeOf (c13 .args .edition) (c13 .args .headers .now) (c13 .args .steps .now))) (run-passed (c13 .pre .0) .steps))
+mul-room c =
+    let start = c .before .before .before .before .before .before .before .before .before .before .before .before .before in
+    omega (
+      arith,
+      most-is (c),
+      largest-most (announcedSteps (recipeOf (start .args .edition) (start .args .headers .now) (start .args .steps .now)))
+          (run-passed (start .pre .0) .steps),
+    )
 
 mul-place : tie.Need-mul-place
 mul-place c = search needs
@@ -76,52 +118,105 @@ part-place-start : tie.Need-part-place-start
 part-place-start c = search needs
 
 part-place-end : tie.Need-part-place-end
-part-place-end c = let c14 = c .before .before .before .before .before .before .before .before .before .before .before .before .before .before in omega (arith, run-passed (c14 .pre .0) .fit, c14 .pre .0 .many)
+part-place-end c =
+    let start = c .before .before .before .before .before .before .before .before .before .before .before .before .before .before in
+    omega (arith, run-passed (start .pre .0) .fit, start .pre .0 .many)
 
 slice-aggregate-place : tie.Need-slice-aggregate-place
 slice-aggregate-place c = search needs
 
 place-requires : tie.Need-place-requires
-place-requires c κs = let c16 = c .before .before .before .before .before .before .before .before .before .before .before .before .before .before .before .before in (run-passed (c16 .pre .0) .inputs, (rw (run-passed (c16 .pre .0) .part) (run-passed (c16 .pre .0) .steps), (simp length-take (omega (arith, run-passed (c16 .pre .0) .fit)), simp length-take (omega (arith, run-passed (c16 .pre .0) .fit)))))
+place-requires c κs =
+    let start = c .before .before .before .before .before .before .before .before .before .before .before .before .before .before .before .before in (
+      run-passed (start .pre .0) .inputs,
+      (
+        rw (run-passed (start .pre .0) .part) (run-passed (start .pre .0) .steps),
+        (
+          simp length-take (omega
+              (arith, run-passed (start .pre .0) .fit)),
+          simp length-take (omega (arith, run-passed (start .pre .0) .fit)),
+        ),
+      ),
+    )
 
 slice-aggregate-run-steps : tie.Need-slice-aggregate-run-steps
 slice-aggregate-run-steps c = search needs
 
 slice-relend-prefix-run-steps : tie.Need-slice-relend-prefix-run-steps
-slice-relend-prefix-run-steps c = fits (c .before .before .before .before .before .before .before .before)
+slice-relend-prefix-run-steps c =
+    let c8 = c .before .before .before .before .before .before .before .before in
+    fits c8
 
 slice-aggregate-run-steps-2 : tie.Need-slice-aggregate-run-steps-2
-slice-aggregate-run-steps-2 c = sym (length-take-le _ _ (fits (c .before .before .before .before .before .before .before .before .before)))
+slice-aggregate-run-steps-2 c =
+    let c9 = c .before .before .before .before .before .before .before .before .before in
+    sym (length-take-le _ _ (fits c9))
 
 run-steps-requires : tie.Need-run-steps-requires
-run-steps-requires c κs = let c5 = c .before .before .before .before .before in let c9 = c5 .before .before .before .before in (admitted-exactly (c .before .before .before .before .before .before .before .before .before .before .before .before .before .before .before .before .before .before .before .before .before .before .pre .0) (length-take-le _ _ (fits c9) ∙ ap (λ (k : ℕ). 8 * k) (most-is c9)), (placed c5, omega (arith, c5 .place .kept .1 .1 .0)))
+run-steps-requires c κs =
+    let c5 = c .before .before .before .before .before in
+    let c9 = c5 .before .before .before .before in
+    let start = c9 .before .before .before .before .before .before .before .before .before .before .before .before .before in (
+      admitted-exactly (start .pre .0) (length-take-le _ _ (fits c9) ∙ ap (λ (k : ℕ). 8 * k) (most-is c9)),
+      (
+        placed c5,
+        omega
+            (arith, c5 .place .kept .1 .1 .0),
+      ),
+    )
 
 slice-relend-prefix-clear : tie.Need-slice-relend-prefix-clear
-slice-relend-prefix-clear c = again (c .before .before .before .before .before .before)
+slice-relend-prefix-clear c =
+    let c6 = c .before .before .before .before .before .before in
+    again c6
 
 slice-aggregate-clear : tie.Need-slice-aggregate-clear
-slice-aggregate-clear c = sym (length-take-le _ _ (again (c .before .before .before .before .before .before .before)))
+slice-aggregate-clear c =
+    let c7 = c .before .before .before .before .before .before .before in
+    sym (length-take-le _ _ (again c7))
 
 clear-requires : tie.Need-clear-requires
 clear-requires c κs = search needs
 
 sub-last : tie.Need-sub-last
-sub-last c = omega (arith, run-some (c .before .before .before .before .before .before .before .before .before .before .before .before .before .before .before .before .before .before .before .before .before .before .before .before .before .before .before .before .before .before .before .before .before .pre .0))
+sub-last c =
+    let start = c .before .before .before .before .before .before .before .before .before .before .before .before .before .before .before .before
+    .before .before .before .before .before .before .before .before .before .before .before .before .before .before .before .before .before in
+    omega (arith, run-some (start .pre .0))
 
 mul-last : tie.Need-mul-last
-mul-last c = omega (arith, run-passed (c .before .before .before .before .before .before .before .before .before .before .before .before .before .before .before .before .before .before .before .before .before .before .before .before .before .before .before .before .before .before .before .before .before .pre .0) .fit)
+mul-last c =
+    let start = c .before .before .before .before .before .before .before .before .before .before .before .before .before .before .before .before
+    .before .before .before .before .before .before .before .before .before .before .before .before .before .before .before .before .before in
+    omega (arith, run-passed (start .pre .0) .fit)
 
 array-read-last : tie.Need-array-read-last
-array-read-last c = let c33 = c .before .before .before .before .before .before .before .before .before .before .before .before .before .before .before .before .before .before .before .before .before .before .before .before .before .before .before .before .before .before .before .before .before in omega (arith, run-some (c33 .pre .0), run-passed (c33 .pre .0) .fit, c .before .before .before .before .before .before .before .before .before .before .before .before .before .before .before .before .place .kept .1 .1 .0)
+array-read-last c =
+    let c16 = c .before .before .before .before .before .before .before .before .before .before .before .before .before .before .before .before in
+    let start = c16 .before .before .before .before .before .before .before .before .before .before .before .before .before .before .before .before
+    .before in
+    omega (arith, run-some (start .pre .0), run-passed (start .pre .0) .fit, c16 .place .kept .1 .1 .0)
 
 leave-zeros-requires : tie.Need-leave-zeros-requires
-leave-zeros-requires c κs = let c36 = c .before .before .before .before .before .before .before .before .before .before .before .before .before .before .before .before .before .before .before .before .before .before .before .before .before .before .before .before .before .before .before .before .before .before .before .before in (omega (arith, total-is (c .before .before .before .before .before .before .before .before .before .before .before .before .before .before .before .before .before .before .before .before .before .before .before .before .before .before), c36 .pre .0 .pool, c .before .before .before .before .before .before .before .before .before .before .before .before .before .run-steps .kept .1 .1 .1 .1 .1 .1 .0), c36 .pre .1)
+leave-zeros-requires c κs =
+    let c13 = c .before .before .before .before .before .before .before .before .before .before .before .before .before in
+    let c26 = c13 .before .before .before .before .before .before .before .before .before .before .before .before .before in
+    let start = c26 .before .before .before .before .before .before .before .before .before .before in
+    (omega (arith, total-is c26, start .pre .0 .pool, c13 .run-steps .kept .1 .1 .1 .1 .1 .1 .0), start .pre .1)
 
 add-place : tie.Need-add-place
-add-place c = omega (arith, run-passed (c .before .before .before .before .before .before .before .before .before .before .before .before .before .before .before .before .before .before .before .before .before .before .before .before .before .before .before .before .before .before .before .before .before .before .before .before .before .before .before .before .before .pre .0) .fit, c .before .before .before .before .before .before .before .if1 .taken)
+add-place c =
+    let c7 = c .before .before .before .before .before .before .before in
+    let start = c7 .before .before .before .before .before .before .before .before .before .before .before .before .before .before .before .before
+    .before .before .before .before .before .before .before .before .before .before .before .before .before .before .before .before .before .before in
+    omega (arith, run-passed (start .pre .0) .fit, c7 .if1 .taken)
 
 cast-place : tie.Need-cast-place
-cast-place c = record { fits = omega (arith, run-passed (c .before .before .before .before .before .before .before .before .before .before .before .before .before .before .before .before .before .before .before .before .before .before .before .before .before .before .before .before .before .before .before .before .before .before .before .before .before .before .before .before .before .pre .0) .fit, c .before .before .before .before .before .before .before .if1 .taken) }
+cast-place c =
+    let c7 = c .before .before .before .before .before .before .before in
+    let start = c7 .before .before .before .before .before .before .before .before .before .before .before .before .before .before .before .before
+    .before .before .before .before .before .before .before .before .before .before .before .before .before .before .before .before .before .before in
+    record { fits = omega (arith, run-passed (start .pre .0) .fit, c7 .if1 .taken) }
 
 at-requires : tie.Need-at-requires
 at-requires c κs = search needs
@@ -139,10 +234,49 @@ same-length-4 : tie.Need-same-length-4
 same-length-4 c = search needs
 
 returns : tie.Need-returns
-returns c = let c5 = c .before .before .before .before .before in let c19 = c5 .before .before .before .before .before .before .before .before .before .before .before .before .before .before in let c42 = c19 .before .before .before .before .before .before .before .before .before .before .before .before .before .before .before .before .before .before .before .before .before .before .before in (c .at .ensures ∙ sym (c19 .run-steps .ensures .0 .stop (c .before .before .before .before .before .before .before .before .if1 .taken)), (λ z. absurd (omega (arith, z, ap (λ (x : Refusal). x .number) (c .at .ensures))), (λ z. absurd (omega (arith, z, ap (λ (x : Refusal). x .number) (c .at .ensures))), (λ n. pool-end (total (announcedSteps (recipeOf (c42 .args .edition) (c42 .args .headers .now) (c42 .args .steps .now)))) (c42 .args .pool .now) (c19 .run-steps .last .1 .1 .1 .1 .1 .1 .0) (total-is (c .before .before .before .before .before .before .before .before .before .before .before .before .before .before .before .before .before .before .before .before .before .before .before .before .before .before .before .before .before .before .before .before)) (c19 .run-steps .ensures .1 .1 .1 .0) (c5 .leave-zeros .ensures .0), (λ n. c5 .leave-zeros .ensures .1, (scratch-end (largest (announcedSteps (recipeOf (c42 .args .edition) (c42 .args .headers .now) (c42 .args .steps .now)))) (c42 .args .scratch .now) (c19 .run-steps .last .1 .1 .1 .1 .1 .1 .1 .0) (ap (λ (k : ℕ). 8 * k) (most-is (c .before .before .before .before .before .before .before .before .before .before .before .before .before .before .before .before .before .before .before .before .before .before .before .before .before .before .before .before .before))) (used c19) (c .before .before .before .before .before .before .before .before .before .before .before .clear .ensures) (length-take-le _ _ (again c19)), (last-start (c42 .pre .0) (placed (c .before .before .before .before .before .before .before .before .before .before .before .before .before .before .before .before .before .before .before .before .before .before .before .before .before)), same-length c)))))))
+returns c =
+    let c5 = c .before .before .before .before .before in
+    let c8 = c5 .before .before .before in
+    let c11 = c8 .before .before .before in
+    let c19 = c11 .before .before .before .before .before .before .before .before in
+    let c25 = c19 .before .before .before .before .before .before in
+    let c29 = c25 .before .before .before .before in
+    let c32 = c29 .before .before .before in
+    let start = c32 .before .before .before .before .before .before .before .before .before .before in (
+      c .at .ensures ∙ sym (c19 .run-steps .ensures .0 .stop (c8 .if1 .taken)),
+      (
+        λ z. absurd (omega (
+          arith,
+          z,
+          ap (λ (x : Refusal). x .number)
+              (c .at .ensures),
+        )),
+        (
+          λ z. absurd (omega (arith, z, ap (λ (x : Refusal). x .number) (c .at .ensures))),
+          (
+            λ n. pool-end (total (announcedSteps
+                (recipeOf (start .args .edition) (start .args .headers .now) (start .args .steps .now)))) (start .args .pool .now)
+                (c19 .run-steps .last .1 .1 .1 .1 .1 .1 .0) (total-is c32) (c19 .run-steps .ensures .1 .1 .1 .0) (c5 .leave-zeros .ensures .0),
+            (
+              λ n. c5 .leave-zeros .ensures .1,
+              (
+                scratch-end (largest (announcedSteps (recipeOf (start .args .edition) (start .args .headers .now)
+                    (start .args .steps .now)))) (start .args .scratch .now) (c19 .run-steps .last .1 .1 .1 .1 .1 .1 .1 .0) (ap (λ
+                    (k : ℕ). 8 * k) (most-is c29))
+                    (used c19) (c11 .clear .ensures) (length-take-le _ _ (again c19)),
+                (last-start (start .pre .0) (placed c25), same-length c),
+              ),
+            ),
+          ),
+        ),
+      ),
+    )
 
 mul-note-inputs : tie.Need-mul-note-inputs
-mul-note-inputs c = omega (arith, run-passed (c .before .before .before .before .before .before .before .before .before .before .before .before .before .before .before .before .before .before .before .before .before .before .before .before .before .before .before .before .before .before .before .before .before .before .pre .0) .fit)
+mul-note-inputs c =
+    let start = c .before .before .before .before .before .before .before .before .before .before .before .before .before .before .before .before
+    .before .before .before .before .before .before .before .before .before .before .before .before .before .before .before .before .before .before in
+    omega (arith, run-passed (start .pre .0) .fit)
 
 sub-note-inputs : tie.Need-sub-note-inputs
 sub-note-inputs c = search needs
@@ -151,10 +285,18 @@ part-note-inputs-start : tie.Need-part-note-inputs-start
 part-note-inputs-start c = search needs
 
 part-note-inputs-end : tie.Need-part-note-inputs-end
-part-note-inputs-end c = let c35 = c .before .before .before .before .before .before .before .before .before .before .before .before .before .before .before .before .before .before .before .before .before .before .before .before .before .before .before .before .before .before .before .before .before .before .before in omega (arith, run-passed (c35 .pre .0) .fit, c35 .pre .0 .many, c .before .before .before .before .before .before .before .before .before .before .before .before .run-steps .kept .1 .1 .1 .1 .0)
+part-note-inputs-end c =
+    let c12 = c .before .before .before .before .before .before .before .before .before .before .before .before in
+    let start = c12 .before .before .before .before .before .before .before .before .before .before .before .before .before .before .before .before
+    .before .before .before .before .before .before .before in
+    omega (arith, run-passed (start .pre .0) .fit, start .pre .0 .many, c12 .run-steps .kept .1 .1 .1 .1 .0)
 
 note-inputs-requires : tie.Need-note-inputs-requires
-note-inputs-requires c κs = simp length-take (omega (arith, c .before .before .before .before .before .before .before .before .before .before .before .before .before .before .before .before .before .before .before .before .before .before .before .before .before .before .before .before .before .before .before .before .before .before .before .before .before .pre .1))
+note-inputs-requires c κs =
+    let start = c .before .before .before .before .before .before .before .before .before .before .before .before .before .before .before .before
+    .before .before .before .before .before .before .before .before .before .before .before .before .before .before .before .before .before .before
+    .before .before .before in
+    simp length-take (omega (arith, start .pre .1))
 
 none-requires : tie.Need-none-requires
 none-requires c κs = search needs
@@ -172,7 +314,44 @@ same-length-8 : tie.Need-same-length-8
 same-length-8 c = search needs
 
 returns-2 : tie.Need-returns-2
-returns-2 c = let c7 = c .before .before .before .before .before .before .before in let c18 = c7 .before .before .before .before .before .before .before .before .before .before .before in let c41 = c18 .before .before .before .before .before .before .before .before .before .before .before .before .before .before .before .before .before .before .before .before .before .before .before in (c .none .ensures ∙ sym (c18 .run-steps .ensures .0 .whole (omega (arith, c18 .run-steps .ensures .0 .most, c7 .if1 .left))), (λ z. c18 .run-steps .ensures .1 .1 .0 (omega (arith, c18 .run-steps .ensures .0 .most, c7 .if1 .left)), (λ z. words-end (length (c41 .args .headers .now)) (length (c41 .args .steps .now)) (c18 .run-steps .last .1 .1 .1 .1 .0) _ (c41 .args .words .now) (c18 .run-steps .ensures .1 .0 (omega (arith, c18 .run-steps .ensures .0 .most, c7 .if1 .left))) (omega (arith, run-passed (c41 .pre .0) .fit, c41 .pre .0 .many, c18 .run-steps .kept .1 .1 .1 .1 .0)) (c .before .before .before .note-inputs .ensures), (λ n. absurd (n (ap (λ (x : Refusal). x .number) (c .none .ensures))), (λ n. absurd (n (ap (λ (x : Refusal). x .number) (c .none .ensures))), (scratch-end (largest (announcedSteps (recipeOf (c41 .args .edition) (c41 .args .headers .now) (c41 .args .steps .now)))) (c41 .args .scratch .now) (c18 .run-steps .last .1 .1 .1 .1 .1 .1 .1 .0) (ap (λ (k : ℕ). 8 * k) (most-is (c .before .before .before .before .before .before .before .before .before .before .before .before .before .before .before .before .before .before .before .before .before .before .before .before .before .before .before .before))) (used c18) (c .before .before .before .before .before .before .before .before .before .before .clear .ensures) (length-take-le _ _ (again c18)), (last-start (c41 .pre .0) (placed (c .before .before .before .before .before .before .before .before .before .before .before .before .before .before .before .before .before .before .before .before .before .before .before .before)), same-length-5 c)))))))
+returns-2 c =
+    let c7 = c .before .before .before .before .before .before .before in
+    let c10 = c7 .before .before .before in
+    let c18 = c10 .before .before .before .before .before .before .before .before in
+    let c24 = c18 .before .before .before .before .before .before in
+    let c28 = c24 .before .before .before .before in
+    let start = c28 .before .before .before .before .before .before .before .before .before .before .before .before .before in (
+      c .none .ensures ∙ sym (c18 .run-steps .ensures .0 .whole (omega (arith, c18 .run-steps .ensures .0 .most, c7 .if1 .left))),
+      (
+        λ z. c18 .run-steps .ensures .1 .1 .0 (omega (arith, c18 .run-steps .ensures .0 .most, c7 .if1 .left)),
+        (
+          λ z. words-end (length
+              (start .args .headers .now)) (length (start .args .steps .now)) (c18 .run-steps .last .1 .1 .1 .1 .0) _ (start .args .words .now)
+              (c18 .run-steps .ensures .1 .0 (omega (arith, c18 .run-steps .ensures .0 .most, c7 .if1 .left))) (omega (
+                arith,
+                run-passed
+                    (start .pre .0) .fit,
+                start .pre .0 .many,
+                c18 .run-steps .kept .1 .1 .1 .1 .0,
+              )) (c .before .before .before .note-inputs .ensures),
+          (
+            λ n. absurd
+                (n (ap (λ (x : Refusal). x .number) (c .none .ensures))),
+            (
+              λ n. absurd (n (ap (λ (x : Refusal). x .number) (c .none .ensures))),
+              (
+                scratch-end
+                    (largest (announcedSteps (recipeOf (start .args .edition) (start .args .headers .now) (start .args .steps .now))))
+                    (start .args .scratch .now)
+                    (c18 .run-steps .last .1 .1 .1 .1 .1 .1 .1 .0) (ap (λ (k : ℕ). 8 * k) (most-is c28)) (used c18) (c10 .clear .ensures) (length-take-le _ _
+                    (again c18)),
+                (last-start (start .pre .0) (placed c24), same-length-5 c),
+              ),
+            ),
+          ),
+        ),
+      ),
+    )
 
 pub run-admitted-spec : {M : Type 1} → statement M
 run-admitted-spec =

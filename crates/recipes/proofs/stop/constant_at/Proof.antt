@@ -5,13 +5,16 @@ use Rattle.recipes.proofs.stop.constant_at.Statement.{statement}
 use Rattle.recipes.proofs.stop.constant_at.Tie as tie
 
 mul-result : tie.Need-mul-result
-mul-result c = let h : c .before .args .from < length (c .before .args .coefficients .now) = rw (c .if1 .taken) at (c .before .pre) in omega (arith, h, c .before .good)
+mul-result c =
+    let h : c .before .args .from < length (c .before .args .coefficients .now) = rw (c .if1 .taken) at (c .before .pre) in omega
+    (arith, h, c .before .good)
 
 shared-slice-read-result : tie.Need-shared-slice-read-result
 shared-slice-read-result c = rw (c .before .if1 .taken) at (c .before .before .pre)
 
 mul-result-2 : tie.Need-mul-result-2
-mul-result-2 c = let h : c .before .args .from < length (c .before .args .pool .now) = rw (c .if1 .left) at (c .before .pre) in omega (arith, h, c .before .good)
+mul-result-2 c =
+    let h : c .before .args .from < length (c .before .args .pool .now) = rw (c .if1 .left) at (c .before .pre) in omega (arith, h, c .before .good)
 
 shared-slice-read-result-2 : tie.Need-shared-slice-read-result-2
 shared-slice-read-result-2 c = rw (c .before .if1 .left) at (c .before .before .pre)

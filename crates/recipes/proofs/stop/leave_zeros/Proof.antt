@@ -14,10 +14,19 @@ slice-aggregate-clear : tie.Need-slice-aggregate-clear
 slice-aggregate-clear c = sym (length-take-le _ _ (c .before .before .before .pre .0))
 
 slice-aggregate-clear-words : tie.Need-slice-aggregate-clear-words
-slice-aggregate-clear-words c = sym (length-take-le _ _ (c .before .before .before .before .before .before .before .pre .1))
+slice-aggregate-clear-words c =
+    let start = c .before .before .before .before .before .before .before in
+    sym (length-take-le _ _ (start .pre .1))
 
 returns : tie.Need-returns
-returns c = let c10 = c .before .before .before .before .before .before .before .before .before .before in (ap (λ (x : List Float). x ++ drop (c10 .args .total) (c10 .args .pool .now)) (c .before .before .before .before .before .before .clear .ensures ∙ ap (λ (n : ℕ). zeros n) (length-take-le _ _ (c10 .pre .0))), ap (λ (x : List ℕ). x ++ drop (c10 .args .count) (c10 .args .words .now)) (c .before .before .clear-words .ensures ∙ ap (λ (n : ℕ). table n (λ k. 0)) (length-take-le _ _ (c10 .pre .1))))
+returns c =
+    let c6 = c .before .before .before .before .before .before in
+    let start = c6 .before .before .before .before in (
+      ap (λ (x : List Float). x ++ drop (start .args .total) (start .args .pool .now)) (c6 .clear .ensures ∙ ap (λ (n : ℕ). zeros n)
+          (length-take-le _ _ (start .pre .0))),
+      ap (λ (x : List ℕ). x ++ drop (start .args .count) (start .args .words .now))
+          (c .before .before .clear-words .ensures ∙ ap (λ (n : ℕ). table n (λ k. 0)) (length-take-le _ _ (start .pre .1))),
+    )
 
 pub leave-zeros-spec : {M : Type 1} → statement M
 leave-zeros-spec =
