@@ -1,15 +1,14 @@
 -- Demand 3 is kept.
-use Prim.Native.Nat.{ℕ, _<_}
+use Prim.Native.Nat.{ℕ}
 use mathlib.Core.List.{List}
 use mathlib.Core.Path.{_≡_, ap}
 use native.Mathlib.Omega.{arith}
-use lib.ListN.{length, getD}
+use lib.ListN.{length}
 use lib.Ieee.{Float}
 use Rattle.model.specs.declared.Header.{Header}
 use Rattle.model.specs.declared.Refusal.{Refusal}
 use Rattle.model.specs.Poly.{Poly}
 use Rattle.model.specs.Refusals.{noRefusal}
-use Rattle.model_recipes.specs.Steps.{stepOf}
 use Rattle.model_recipes.specs.Recipe.{Recipe}
 use Rattle.model_recipes.specs.Check.{checkRefusal}
 use Rattle.model_recipes.specs.Run.{runStop, runRefusal, runEnd, runAnswer, runPool, runWords, runScratch}

@@ -1,5 +1,5 @@
--- What holds of every row of the table of kinds (Kinds.antt), and of the numbers past it, holds of every number: laws of
--- steps are tables of twelve rows.
+-- What holds of every row of the table of kinds (Kinds.antt), and of the numbers past it, holds of every number: laws
+-- of steps are tables of twelve rows.
 use Prim.Native.Nat.{ℕ, zero, suc}
 
 pub record EachKind (P : ℕ → Type 0) : Type 0 where

@@ -17,12 +17,12 @@ use Rattle.model_recipes.specs.Recipe.{Recipe, inputHeads, announcedSteps, tota
 use Rattle.model_recipes.specs.Check.{orElse, checkRefusal, checkAnswer}
 use Rattle.model_recipes.specs.Reasons.{FirstReason, NoReason, RunReason, of-check, few-coefficients, short-pool, few-words, short-scratch}
 use Rattle.model_recipes.specs.Run.{lentRefusal, runStop, runRefusal, runEnd, runAnswer}
-use Rattle.model_recipes.specs.Stops.{FirstStop, RunRefused, before, at-step}
+use Rattle.model_recipes.specs.Stops.{RunRefused, before, at-step}
 use Rattle.recipes_check.specs.Asks.{or-first, or-next, by-refusal}
 use Rattle.recipes_check.specs.Answered.{answer-no, answer-yes}
 use Rattle.recipes_laws.specs.Exact.{check-exact}
 use Rattle.recipes_laws.specs.Ends.{end-refused, end-stopped, end-done, answer-refused}
-use Rattle.recipes_laws.specs.Stopped.{Stopping, goes-on, stops, stopping, stop-at, stop-none}
+use Rattle.recipes_laws.specs.Stopped.{Stopping, goes-on, stops, stopping, stop-at}
 
 and-no : (b : Bool) → (b && false) ≡ false
 and-no true = refl

@@ -4,7 +4,8 @@ use lib.ListN.{take}
 use Rattle.model.specs.Refusals.{padded}
 use Rattle.model.specs.Poly.{Poly}
 use Rattle.shape_operands.specs.Lent.{lying, kept-as}
-use Rattle.recipes_steps.specs.Ready.{to-power, power-value, to-pair, pair-value, to-substitute, substitute-value, to-exponential, exponential-value, to-change, change-value}
+use Rattle.recipes_steps.specs.Ready.{to-power, power-value, to-pair, pair-value, to-substitute, substitute-value, to-exponential, exponential-value}
+use Rattle.recipes_steps.specs.Ready.{to-change, change-value}
 use borrow.Author.Needs.{needs}
 use Rattle.recipes_steps.proofs.perform.value_to.Statement.{statement}
 use Rattle.recipes_steps.proofs.perform.value_to.Tie as tie
