@@ -67,6 +67,9 @@ module _ {t : List ℕ} {it : Recipe} {known : List ℕ} {c : ℕ} (pool : List 
   pub in-some : 1 ≤ length (it .steps)
   in-some = in-passed .accepts .sizes .some
 
+  pub in-fit : length (it .steps) ≤ 64
+  in-fit = omega (arith, in-passed .accepts .sizes .fit)
+
   pub in-words : length (it .steps) ≤ length words
   in-words = omega (arith, r .words, in-passed .accepts .sizes .fit)
 
