@@ -45,19 +45,22 @@ returns c = (
 
 sub-done : tie.Need-sub-done
 sub-done c =
-    let filled = c .before .before .before .before .before .before .before .before .before .before .before .before .before .before .before .before .before .before in
+    let ran = c .before .before .before .before .before .before .before .before .before .before in
+    let filled = ran .before .before .before .before .before .before .before .before in
     let start = filled .before .before .before .before .before .before .before .before .before .before in
     in-some (start .args .pool .now) (start .args .words .now) (start .args .scratch .now) (start .pre)
 
 mul-done : tie.Need-mul-done
 mul-done c =
-    let filled = c .before .before .before .before .before .before .before .before .before .before .before .before .before .before .before .before .before .before in
+    let ran = c .before .before .before .before .before .before .before .before .before .before in
+    let filled = ran .before .before .before .before .before .before .before .before in
     let start = filled .before .before .before .before .before .before .before .before .before .before in
     search (needs, in-fit (start .args .pool .now) (start .args .words .now) (start .args .scratch .now) (start .pre))
 
 slice-read-done : tie.Need-slice-read-done
 slice-read-done c =
-    let filled = c .before .before .before .before .before .before .before .before .before .before .before .before .before .before .before .before .before .before .before in
+    let ran = c .before .before .before .before .before .before .before .before .before .before .before in
+    let filled = ran .before .before .before .before .before .before .before .before in
     let start = filled .before .before .before .before .before .before .before .before .before .before in
     omega (
       arith,
@@ -86,7 +89,8 @@ returns-2 c =
           (coefficients-read filled) (ap (λ (q : Refusal). q .number) (sym (ran .run-admitted .ensures .0)) ∙ none)
           (ran .run-admitted .ensures .1 .0 none) (ran .run-admitted .ensures .1 .1 .0 none)
           (ran .run-admitted .ensures .1 .1 .1 .1 .1 .1 .0) (ran .run-admitted .kept .1 .1 .1 .1 .1 .0) (c .done .ensures),
-      (search (needs, ran .run-admitted .kept .1 .1 .1 .1 .0), (filled .fill-floats .kept .1 .1 .0, (search (needs, ran .run-admitted .kept .1 .1 .1 .1 .1 .1 .0),
+      (search (needs, ran .run-admitted .kept .1 .1 .1 .1 .0), (filled .fill-floats .kept .1 .1 .0,
+          (search (needs, ran .run-admitted .kept .1 .1 .1 .1 .1 .1 .0),
           search (needs, ran .run-admitted .kept .1 .1 .1 .1 .1 .1 .1 .0)))),
     )
 

@@ -5,7 +5,8 @@ use lib.ListN.{length}
 use lib.Seq.{length-take-le}
 use Rattle.sheet_solving.specs.declared.Solved.{Solved}
 use Rattle.sheet_solving.specs.Solves.{unsolved-by}
-use Rattle.sheet_solving.specs.Ended.{opening-few, opening-fit, opening-known, opening-small, steps-room, steps-read, judged-refused, judged-left, running, ended-done}
+use Rattle.sheet_solving.specs.Ended.{opening-few, opening-fit, opening-known, opening-small, steps-room, steps-read}
+use Rattle.sheet_solving.specs.Ended.{judged-refused, judged-left, running, ended-done}
 use borrow.Author.Needs.{needs}
 use Rattle.sheet_solving.proofs.run.run_read.Statement.{statement}
 use Rattle.sheet_solving.proofs.run.run_read.Tie as tie
