@@ -17,7 +17,7 @@
  * missing variable's index; 4 k, order or index not below the limit, or a total not finite or not above zero; 5 more
  * than 4,096 places, or `out` too short; 6 `scratch` shorter than 8 times the announced count; 11 no running sum
  * reaches q; 12 a constant is not from -8 to 8. The lowest wins. The place of these refusals is 64, for none in
- * particular.
+ * particular, but for those of taylor_check and taylor_run, which name an input or a step.
  *
  * Number 1 says which variable is wrong, 4 for none, and the cause, the first of these in order: 1 more than 4
  * variables; then for each variable in turn 2 its length is above its limit, or 3 it is missing and its fields are not
@@ -132,13 +132,15 @@ uint64_t taylor_subst_var(uint64_t ah, const double *a, size_t a_len, uint64_t b
 
 /* whether a recipe of an edition (0 the source's; 1 whose power of zero keeps its operand's limits; any other is
    refused) can be run, from header and step words alone: 0, and through the pointers the pool total, the
-   largest announced step count and the input coefficient total; or refusals 1, 3, 4, 5, 7, and nothing is written */
+   largest announced step count and the input coefficient total; or refusals 1, 3, 4, 5, 7, and nothing is written.
+   A step of kind 11 is never refused here for its operand's constant */
 uint64_t taylor_check(const uint64_t *headers, size_t headers_len, const uint64_t *steps, size_t steps_len, uint64_t edition,
                       uint64_t *pool, uint64_t *largest, uint64_t *inputs);
 
 /* the steps of a recipe of an edition, on the inputs' coefficients end to end: 0, each step's value in the pool at its
    announced count, its header word in words; the scratch has 8 times the largest announced count: refusals 1 to 7, and
-   nothing is written */
+   nothing is written; or 12 at the place of the first step of kind 11 whose operand's constant is not from -8 to 8, and
+   all announced places of the pool and the used scratch are +0.0, the word of every step 0, the rest untouched */
 uint64_t taylor_run(const uint64_t *headers, size_t headers_len, const double *coefficients, size_t coefficients_len, const uint64_t *steps,
                     size_t steps_len, uint64_t edition, double *pool, size_t pool_len, uint64_t *words, size_t words_len, double *scratch,
                     size_t scratch_len);

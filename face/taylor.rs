@@ -314,7 +314,9 @@ pub fn check(headers: &[u64], steps: &[u64], edition: u64) -> Result<Totals, Ref
     if word == 0 { Ok(totals) } else { Err(refusal(word)) }
 }
 
-/// The steps of a recipe of an edition: their values end to end in the pool, their header words in `words`.
+/// The steps of a recipe of an edition: their values end to end in the pool, their header words in `words`. Refused,
+/// no buffer changes; but by 12, at a step of kind 11 whose operand's constant is not from -8 to 8, the announced
+/// places of the pool and the used scratch are left at +0.0 and the words of the steps at 0.
 pub fn run(
     headers: &[u64], coefficients: &[f64], steps: &[u64], edition: u64, pool: &mut [f64], words: &mut [u64], scratch: &mut [f64],
 ) -> Result<(), Refusal> {

@@ -12,8 +12,8 @@ import random, struct, subprocess, sys
 from decimals import printed
 from refused import damaged, sentence, shape
 
-NAMES = ["constant", "negate", "add", "subtract", "multiply", "divide", "power", "derivative", "taylor_expansion_of_coeff", "shift_down", "subst_var"]
-USES = ["n", "a", "ab", "ab", "ab", "ab", "an", "avn", "avn", "avn", "abv"]
+NAMES = ["constant", "negate", "add", "subtract", "multiply", "divide", "power", "derivative", "taylor_expansion_of_coeff", "shift_down", "subst_var", "exp"]
+USES = ["n", "a", "ab", "ab", "ab", "ab", "an", "avn", "avn", "avn", "abv", "a"]
 HEAD = (
     "Each place: what it is, its number of variables, and of each variable the\n"
     "limit/most it stores. Operands are places, v is a variable, n a number.\n"
@@ -58,6 +58,8 @@ def announce(w, known, edition):
         return al[:], an[:]
     if kind == 6:
         return al[:], [min(l, n * (x - 1) + 1) for l, x in zip(al, an)]
+    if kind == 11:
+        return al[:], [1 if x == 1 else l for l, x in zip(al, an)]
     if 7 <= kind <= 9:
         less = lambda xs, one: [max(one, x - n) if k == v else x for k, x in enumerate(xs)]
         return less(al, 1), less(an, 1)
@@ -114,6 +116,8 @@ def full_lengths(w, full):
             f = n * (x[k] - 1) + 1
         elif kind < 10:
             f = x[k] if k != v or x[k] >= MANY else max(1, x[k] - n)
+        elif kind == 11:
+            f = 1 if x[k] == 1 else ENDLESS
         else:
             more = 0 if p == 1 or y[k] == 1 else (p - 1) * (y[k] - 1)
             f = (1 if k == v else x[k]) + more
@@ -301,7 +305,7 @@ def totals_text(steps, inputs, total, given, shown, whole, one):
         return total_text("as given", given, shown, "%s are not.")
     if isinstance(total, int):
         kind = NAMES[fields(steps[total - inputs])[0]]
-        return "No total follows from the inputs: place %d is a %s.\n%s" % (total, kind, "Parts are taken of a total of 1.\n" if one else "")
+        return "No total follows from the inputs: place %d is of kind %s.\n%s" % (total, kind, "Parts are taken of a total of 1.\n" if one else "")
     return total_text("taking each input as whole", total, shown, "nothing lies past the limits." if whole else "%s lie past the limits.")
 
 
@@ -437,7 +441,7 @@ def sheet(rng):
     steps = []
     for i in range(count):
         p = inputs + i
-        kind = rng.choice([0, 1, 2, 3, 4, 4, 4, 5, 6, 7, 8, 9, 10]) if p else 0
+        kind = rng.choice([0, 1, 2, 3, 4, 4, 4, 5, 6, 7, 8, 9, 10, 11]) if p else 0
         used = USES[kind]
         a, b = (rng.randrange(p) if "a" in used else 0), (rng.randrange(p) if "b" in used else 0)
         v, n = (rng.choice([0, 0, 0, 1, 2, 3]) if "v" in used else 0), (rng.randint(0, 3) if "n" in used else 0)

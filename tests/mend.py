@@ -11,8 +11,8 @@ difference, if any. tests/mend starts it with the built program."""
 import random, re, subprocess, sys, time
 
 LINE = re.compile(rb"[0-9a-fA-F]{16}\r?\n")
-# of the step fields a, b, v (variable) and n; kinds from 11 on are refused
-USES = {0: "n", 1: "a", 2: "ab", 3: "ab", 4: "ab", 5: "ab", 6: "an", 7: "avn", 8: "avn", 9: "avn", 10: "abv"}
+# of the step fields a, b, v (variable) and n; kinds from 12 on are refused
+USES = {0: "n", 1: "a", 2: "ab", 3: "ab", 4: "ab", 5: "ab", 6: "an", 7: "avn", 8: "avn", 9: "avn", 10: "abv", 11: "a"}
 FIELDS = {"a": (54, 6), "b": (48, 6), "v": (46, 2), "n": (14, 32)}
 ONE_SPARE, HEADER_SPARE, STEP_SPARE = 44, 13, 14
 
@@ -120,7 +120,7 @@ def sheet(rng, most=40):
     steps = rng.randrange(1, 7)
     headers = [header(rng, most) for _ in range(inputs)]
     coefficients = [rng.getrandbits(64) for _ in range(sum(map(count_of, headers)))]
-    words = [mended_step(rng.getrandbits(64) if rng.random() < 0.5 else rng.randrange(11) << 60 | rng.getrandbits(60)) for _ in range(steps)]
+    words = [mended_step(rng.getrandbits(64) if rng.random() < 0.5 else rng.randrange(12) << 60 | rng.getrandbits(60)) for _ in range(steps)]
     return [inputs << 56 | steps << 48 | rng.choice([0, 1, rng.getrandbits(4)]) << 44], headers, coefficients, words
 
 

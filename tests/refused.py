@@ -2,7 +2,7 @@
 that `recipe` prints for it; and sheets that are damaged in every way that it tells. tests/limits.py uses both."""
 import re
 
-USED = ["n", "a", "ab", "ab", "ab", "ab", "an", "avn", "avn", "avn", "abv"]
+USED = ["n", "a", "ab", "ab", "ab", "ab", "an", "avn", "avn", "avn", "abv", "a"]
 HEADER = {
     1: "its number of variables is above 4;\nwrite the word anew.",
     2: "the length of variable %d is above its limit;\nlower the length or raise the limit.",
@@ -95,8 +95,8 @@ def word_one(word):
 def step_word(word, p):
     """Refusal 7 at a step: the first field that is wrong, from the left of the word."""
     kind, rest = word >> 60, word & 16383
-    if kind > 10:
-        return "there is no kind %d; take 0 to 10." % kind
+    if kind > 11:
+        return "there is no kind %d; take 0 to 11." % kind
     used = USED[kind]
     for field, at, bits, name in (("a", 54, 6, "operand a"), ("b", 48, 6, "operand b"), ("v", 46, 2, "the variable"), ("n", 14, 32, "n")):
         x = word >> at & 2**bits - 1
@@ -146,6 +146,10 @@ def sentence(data, number, place, variable, cause, announce):
         said = "it names variable %d; place %d has %s." % (v, a, "%d, counted from 0" % has if has else "none")
     elif number == 4:
         said = "n is %d, not below %d, the limit of variable %d." % (n, known[a][0][v], v)
+    elif number == 12:
+        assert word >> 60 == 11
+        said = "the first coefficient of place %d is not from -8 to 8;\n" % a
+        said += "where that is meant, divide that place by n, take exp, then the power n of it."
     else:
         assert number == 5
         said = "it takes %d coefficients; 4096 are the most." % product(announce(word, known, 0)[1])

@@ -39,7 +39,7 @@ impl Step {
 fn recipe(kinds: &[u64]) -> Vec<Step> {
     let step = |i: usize| {
         let kind = kinds[i % kinds.len()];
-        Step { kind, a: if i == 0 { 0 } else { i + 1 }, b: if kind == 1 { 0 } else { i % 2 } }
+        Step { kind, a: if i == 0 { 0 } else { i + 1 }, b: if kind == 1 || kind == 11 { 0 } else { i % 2 } }
     };
     (0..STEPS).map(step).collect()
 }
@@ -55,6 +55,7 @@ fn operate(step: Step, a: &[f64], b: &[f64], out: &mut [f64], scratch: &mut [f64
         1 => taylor::negate(HEADER, a, out),
         2 => taylor::add(HEADER, a, HEADER, b, out, scratch),
         3 => taylor::subtract(HEADER, a, HEADER, b, out, scratch),
+        11 => taylor::exp(HEADER, a, taylor::exp_constant(a[0]).expect("in range"), out, scratch),
         _ => taylor::multiply(HEADER, a, HEADER, b, out, scratch),
     };
     assert_eq!(done.expect("accepted"), HEADER);
@@ -108,4 +109,5 @@ fn main() {
     case("multiply, add, subtract, negate in turn", &[4, 2, 3, 1], 21, 20);
     case("multiply alone", &[4], 21, 10);
     case("add alone", &[2], 21, 200);
+    case("exp, multiply in turn", &[11, 4], 21, 10);
 }

@@ -94,21 +94,27 @@ impl Lending {
         Ok(told)
     }
 
-    /// The run's answer, then pool, words and scratch.
+    /// The run's answer, then what it leaves in pool, words and scratch, from the front.
     fn ran(&self) -> (String, [Vec<u64>; 3]) {
         let told = match self.admitted() {
             Ok(told) => told,
             Err(why) => return (why.to_string(), [vec![], vec![], vec![]]),
         };
+        let scratch = vec![0; 8 * told.largest()];
+        let values = match values(&self.recipe) {
+            Ok(values) => values,
+            // A stop comes after writing: +0.0 in all that is announced, and no header of any step.
+            Err(why) => return (why.to_string(), [vec![0; told.pool()], vec![0; told.steps.len()], scratch]),
+        };
         let (mut pool, mut words) = (vec![], vec![]);
-        for (announced, (header, coefficients)) in told.steps.iter().zip(&values(&self.recipe)[self.recipe.headers.len()..]) {
+        for (announced, (header, coefficients)) in told.steps.iter().zip(&values[self.recipe.headers.len()..]) {
             let end = pool.len() + announced.count();
             pool.extend(coefficients.iter().map(|x| bits(*x)));
             assert!(pool.len() <= end, "more than announced");
             pool.resize(end, 0);
             words.push(header.word());
         }
-        ("done".to_string(), [pool, words, vec![0; 8 * told.largest()]])
+        ("done".to_string(), [pool, words, scratch])
     }
 
     /// The line that a program which replays the case has to print.

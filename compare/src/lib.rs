@@ -4,6 +4,7 @@ pub mod case;
 #[cfg(test)]
 mod differences;
 pub mod generate;
+pub mod headed;
 pub mod lending;
 pub mod operations;
 pub mod oracle;

@@ -1,4 +1,4 @@
-//! Recipes at the edges of document 01's rules.
+//! Recipes at the edges of document 01's rules, and of document 02's W7 and W13.
 
 use crate::lending::Lending;
 use crate::recipes::{Recipe, Step};
@@ -122,7 +122,7 @@ pub fn fields() -> Vec<Recipe> {
 /// Operands that name the last place before, their own, a later one.
 pub fn operands() -> Vec<Recipe> {
     let mut words = vec![];
-    for kind in 1..=10 {
+    for kind in 1..=11 {
         for place in [2, 3, 4, 63] {
             words.push(step(kind, place, 0, 0, 0));
             if kind == 10 || (2..=5).contains(&kind) {
@@ -131,7 +131,7 @@ pub fn operands() -> Vec<Recipe> {
         }
     }
     let mut all = behind(words);
-    all.extend((1..=10).map(|kind| counting(&[], &[step(kind, 0, 0, 0, 0)])));
+    all.extend((1..=11).map(|kind| counting(&[], &[step(kind, 0, 0, 0, 0)])));
     all
 }
 
@@ -194,7 +194,7 @@ pub fn headers() -> Vec<Recipe> {
     for place in [0, 1, 7, 15] {
         let mut heads = vec![good; 16];
         heads[place] = bad[0];
-        all.push(counting(&heads, &[step(11, 0, 0, 0, 0)]));
+        all.push(counting(&heads, &[step(12, 0, 0, 0, 0)]));
         heads[15] = bad[1];
         all.push(counting(&heads, &[constant(1)]));
     }
@@ -218,6 +218,10 @@ pub fn counts() -> Vec<Recipe> {
     all.push(wide(&[41, 50, 2], &[1, 1, 1], &[2, 2, 2], 5));
     all.push(wide(&[41, 50, 2], &[2, 50, 1], &[2, 1, 2], 5));
     all.push(wide(&[64, 64, 2], &[64, 1, 1], &[2, 2, 2], 10));
+    all.extend([&[64, 64][..], &[64, 64, 2], &[41, 50, 2]].map(|limits| {
+        let head = word(limits, &vec![2; limits.len()]);
+        counting(&[head], &[constant(7), exp(0)])
+    }));
     for n in [62, 63, u64::from(u32::MAX)] {
         let power = |lengths: &[usize]| counting(&[word(&[64, 64, 2][..lengths.len()], lengths)], &[step(6, 0, 0, 0, n)]);
         all.extend([power(&[2]), power(&[1, 2]), power(&[2, 2, 2])]);
@@ -242,7 +246,7 @@ pub fn kinds() -> Vec<Recipe> {
     ];
     let mut words: Vec<u64> = [0, 1, 2, 9, u64::from(u32::MAX)].map(constant).to_vec();
     words.extend([0, 1, 2, 3, 7, 1 << 31].map(|n| step(6, 0, 0, 0, n)));
-    words.extend([step(1, 0, 0, 0, 0), step(1, 1, 0, 0, 0)]);
+    words.extend([step(1, 0, 0, 0, 0), step(1, 1, 0, 0, 0), step(11, 0, 0, 0, 0), step(11, 1, 0, 0, 0)]);
     for kind in 2..=5 {
         words.extend([step(kind, 0, 1, 0, 0), step(kind, 1, 0, 0, 0), step(kind, 1, 1, 0, 0)]);
     }
@@ -294,6 +298,106 @@ pub fn editions() -> Vec<Recipe> {
     all
 }
 
+/// The exponential of a place.
+fn exp(a: u64) -> u64 {
+    step(11, a, 0, 0, 0)
+}
+
+/// Constants about the range from -8 to 8.
+fn constants() -> Vec<f64> {
+    let near = |x: f64| [x.to_bits() - 1, x.to_bits(), x.to_bits() + 1].map(f64::from_bits);
+    let small = [0.0, -0.0, 5e-324, -5e-324, f64::MIN_POSITIVE, 2.225073858507201e-308, 1.0, -1.0, 0.1, 5.5, -7.75];
+    let out = [9.0, -9.0, 700.0, f64::MAX, f64::MIN, f64::INFINITY, f64::NEG_INFINITY, f64::NAN];
+    [&near(8.0)[..], &near(-8.0), &small, &out].concat()
+}
+
+/// Exponentials of every shape; of constants about the range, alone and before other coefficients, which may be
+/// anything; of a sum that rounds into the range.
+fn exponentials_of_inputs() -> Vec<Recipe> {
+    let shapes: [(&[usize], &[usize]); 14] = [
+        (&[], &[]),
+        (&[1], &[1]),
+        (&[6], &[1]),
+        (&[6], &[4]),
+        (&[64], &[2]),
+        (&[4, 3], &[1, 1]),
+        (&[4, 3], &[2, 1]),
+        (&[4, 5], &[1, 4]),
+        (&[4, 3], &[3, 2]),
+        (&[1, 5], &[1, 3]),
+        (&[3, 2, 4], &[2, 1, 3]),
+        (&[3, 2, 3], &[2, 2, 2]),
+        (&[2, 3, 2, 3], &[2, 2, 1, 3]),
+        (&[2, 2, 2, 2], &[1, 2, 2, 2]),
+    ];
+    let mut all = vec![];
+    for (limits, lengths) in shapes {
+        let count: usize = lengths.iter().product();
+        let cyclic = |row: &[f64]| (0..count).map(|k| row[k % row.len()]).collect::<Vec<f64>>();
+        for row in [&[0.3, -0.7, 1.1, 0.2, -1.9, 2.3, 1e-9][..], &[-8.0, 3.0, 1.0, 7.0, 0.5], &[0.0, 0.0, -0.0], &[2.0, 1e200]] {
+            all.push(holding(&[word(limits, lengths)], &cyclic(row), &[exp(0)]));
+        }
+    }
+    for c in constants() {
+        all.push(holding(&[word(&[], &[])], &[c], &[exp(0)]));
+        all.push(holding(&[line(5, 3)], &[c, 1.5, -0.3], &[exp(0)]));
+        all.push(holding(&[word(&[2, 3], &[2, 2])], &[0.5, c, c, c], &[exp(0)]));
+    }
+    let over = [f64::EPSILON, 8.0 * f64::EPSILON, -f64::EPSILON];
+    all.extend(over.map(|d| holding(&[0, line(3, 2)], &[d, 8.0, 1.0], &[step(2, 0, 1, 0, 0), exp(2)])));
+    all
+}
+
+/// Exponentials of exponentials, until one stops; of what a step makes; between other steps.
+fn exponentials_of_steps() -> Vec<Recipe> {
+    let again = |count: u64| (0..count).map(exp).collect::<Vec<u64>>();
+    let mut all = vec![];
+    // of the last two the heads are the floats next to 8
+    for c in [0.0, -8.0, -1.0, 1.0, 2.0794415416798366, 2.079441541679837] {
+        all.extend((2..=6).map(|count| holding(&[line(4, 2)], &[c, 0.25], &again(count))));
+    }
+    // rooms of Poisson: e^(c v - c), multiplied, and one more of their product
+    let rooms = [step(3, 0, 1, 0, 0), exp(4), step(3, 2, 3, 0, 0), exp(6), step(4, 5, 7, 0, 0), exp(8)];
+    let heads = [line(12, 2), 0, line(9, 2), 0];
+    all.push(holding(&heads, &[0.0, 1.25, 1.25, 0.0, 0.4, 0.4], &rooms));
+    all.push(holding(&heads, &[0.0, 7.5, 7.5, 0.0, 8.5, 8.5], &rooms));
+    // through a substitution, a shift, a quotient and powers
+    let of_steps = [step(10, 0, 1, 0, 0), step(9, 0, 0, 0, 1), step(5, 0, 1, 0, 0), step(6, 0, 0, 0, 0), step(6, 0, 0, 0, 3)];
+    for made in of_steps {
+        let steps = [made, exp(2), step(4, 3, 1, 0, 0), exp(4)];
+        all.push(holding(&[line(5, 3), word(&[4, 3], &[2, 2])], &[0.5, -0.25, 0.125, 0.3, 0.1, -0.2, 0.7], &steps));
+    }
+    all
+}
+
+/// Where an exponential stops: at every step of twelve, alone and with another behind it; one that nobody needs; and
+/// what is told before it.
+fn stops() -> Vec<Recipe> {
+    // inputs: one that has an exponential, one that has none
+    let of = |steps: &[u64]| holding(&[line(3, 2), line(3, 2)], &[0.5, 2.0, 8.5, 1.0], steps);
+    let mut all = vec![];
+    for at in 0..12 {
+        let mut steps: Vec<u64> = (0..12).map(|k| if k % 3 == 1 { exp(0) } else { step(4, 0, (k + 1).min(2), 0, 0) }).collect();
+        steps[0] = constant(7);
+        steps[at] = exp(1);
+        all.push(of(&steps));
+        steps[11] = exp(1);
+        all.push(of(&steps));
+    }
+    all.push(of(&[exp(1), step(1, 0, 0, 0, 0)]));
+    all.push(of(&[exp(0), step(1, 0, 0, 0, 0)]));
+    // the check comes first: another refusal behind the step that would stop
+    let behind = [step(12, 0, 0, 0, 0), exp(3), exp(0) | 1, step(7, 0, 0, 2, 0), step(7, 0, 0, 0, 3), step(4, 0, 3, 0, 0)];
+    all.extend(behind.map(|last| of(&[exp(1), last])));
+    all
+}
+
+/// Kind 11: document 02, W13. In both editions.
+pub fn exponentials() -> Vec<Recipe> {
+    let lists = [exponentials_of_inputs(), exponentials_of_steps(), stops()];
+    lists.into_iter().flatten().flat_map(|r| [r.clone(), r.of_edition(1)]).collect()
+}
+
 /// Buffers as long as a run takes, longer, one short each, several short at once, and none.
 pub fn lent(recipe: Recipe) -> Vec<Lending> {
     let exact = Lending::exact(recipe.clone());
@@ -328,11 +432,15 @@ fn measured() -> Vec<Recipe> {
         let heads = [word(&[64, 64], &[64, 1]), word(&[64, 64], &[1, 64])];
         holding(&heads, &[1.0; 128], &[constant(3), step(4, 0, 1, 0, 0), step(1, 1, 0, 0, 0)])
     };
-    vec![example, shrinking, large, many(0, 64), many(16, 48), counting(&[], &[constant(5)])]
+    let stopping = {
+        let steps = [step(4, 0, 1, 0, 0), step(11, 1, 0, 0, 0), step(11, 0, 0, 0, 0), constant(4)];
+        holding(&[line(8, 3), word(&[4, 4], &[2, 2])], &[9.0, 1.0, 2.0, 1.0, 2.0, 3.0, 4.0], &steps)
+    };
+    vec![example, shrinking, large, many(0, 64), many(16, 48), counting(&[], &[constant(5)]), stopping]
 }
 
 pub fn all() -> Vec<Lending> {
-    let lists = [sizes(), chains(), shifts(), fields(), operands(), headers(), counts(), kinds(), editions()];
+    let lists = [sizes(), chains(), shifts(), fields(), operands(), headers(), counts(), kinds(), editions(), exponentials()];
     let measured = measured().into_iter().flat_map(lent);
     lists.into_iter().flatten().map(Lending::ample).chain(measured).collect()
 }

@@ -1,7 +1,8 @@
 //! What the check of a recipe answers, from document 01's 'Recipes' and 'Refusal numbers'; and what its steps give, by
-//! the source; edition 1's power of zero from document 02, W7.
+//! the source; from document 02 edition 1's power of zero (W7) and where a run stops (W13).
 
 use crate::case::Case;
+use crate::headed;
 use crate::operations::named;
 use crate::oracle::{taken, Given};
 use crate::refusals::{self, below_limit, Refusal, PLACE};
@@ -64,8 +65,8 @@ pub struct Step {
     pub spare: u64,
 }
 
-/// Which of a, b, variable and n a kind uses; kinds 11 to 15 are none.
-const USES: [[bool; 4]; 11] = {
+/// Which of a, b, variable and n a kind uses; kinds 12 to 15 are none.
+const USES: [[bool; 4]; 12] = {
     const NO: bool = false;
     const YES: bool = true;
     [
@@ -80,6 +81,7 @@ const USES: [[bool; 4]; 11] = {
         [YES, NO, YES, YES],
         [YES, NO, YES, YES],
         [YES, YES, YES, NO],
+        [YES, NO, NO, NO],
     ]
 };
 
@@ -137,7 +139,8 @@ impl Step {
                 let v = below_limit(&a, self.variable, self.n).map_err(|refusal| refusal.number)?;
                 refusals::announced_shift(&a, v, self.n as usize)
             }
-            _ => refusals::announced_substitution(&a, &b, self.variable),
+            10 => refusals::announced_substitution(&a, &b, self.variable),
+            _ => refusals::announced_series(&a),
         };
         if told.count() <= COUNT {
             Ok(told)
@@ -146,10 +149,18 @@ impl Step {
         }
     }
 
-    /// The source's answer, but for a power of zero in edition 1.
+    /// An exponential of a value whose constant term has none: document 02, W13.
+    fn stops(&self, values: &[Value]) -> bool {
+        self.kind == 11 && !headed::has_head(values[self.a as usize].1[0])
+    }
+
+    /// The source's answer, but for a power of zero in edition 1 and the head of an exponential.
     fn value(&self, values: &[Value], edition: u64) -> Value {
         if self.is_idle(edition) {
             return (one_like(&values[self.a as usize].0), vec![1.0]);
+        }
+        if self.kind == 11 {
+            return headed::exponential(&values[self.a as usize]);
         }
         let name = [
             "from_u32",
@@ -214,8 +225,8 @@ pub fn check(headers: &[u64], steps: &[u64], edition: u64) -> Result<Vec<Header>
     Ok(known)
 }
 
-/// The value of every place of a recipe that the check accepts.
-pub fn values(recipe: &Recipe) -> Vec<Value> {
+/// The value of every place of a recipe that the check accepts; or 12 at the first step that stops it.
+pub fn values(recipe: &Recipe) -> Result<Vec<Value>, Refused> {
     let mut values: Vec<Value> = vec![];
     let mut at = 0;
     for word in &recipe.headers {
@@ -224,7 +235,11 @@ pub fn values(recipe: &Recipe) -> Vec<Value> {
         at += header.count();
     }
     for word in &recipe.steps {
-        values.push(Step::read(*word).value(&values, recipe.edition));
+        let step = Step::read(*word);
+        if step.stops(&values) {
+            return Err(Refused::at(12, values.len() as u64));
+        }
+        values.push(step.value(&values, recipe.edition));
     }
-    values
+    Ok(values)
 }

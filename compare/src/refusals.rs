@@ -115,13 +115,19 @@ pub fn quotient(case: &Case) -> Gate {
     pair(case, announced_quotient)
 }
 
+/// The limit of each variable, and 1 where the operand's length is 1.
+pub fn announced_series(a: &Header) -> Header {
+    let mut all = *a;
+    for v in 0..all.vars {
+        all.lengths[v] = if a.lengths[v] == 1 { 1 } else { a.limits[v] };
+    }
+    all
+}
+
 /// Tests 1, 2, 5 and 6 of one operand.
 pub fn series(case: &Case) -> Gate {
-    let mut a = operand(case)?;
-    for v in 0..a.vars {
-        a.lengths[v] = if a.lengths[v] == 1 { 1 } else { a.limits[v] };
-    }
-    worked(case, a)
+    let a = operand(case)?;
+    worked(case, announced_series(&a))
 }
 
 /// 0 announces one with no variables.

@@ -116,6 +116,11 @@ fn limits() -> Vec<Vec<u8>> {
     all.extend([42, 43].map(padded_line));
     let refused = [step(15, 0, 0, 0, 0), step(7, 0, 0, 3, 0), step(7, 0, 0, 0, 17), step(4, 1, 0, 0, 0)];
     all.extend(refused.map(|last| counting(&[word(&[6, 43])], &[constant(1), last])));
+    // an exponential of 256 places and of 258, of a constant that has one and of one that has none
+    for limits in [[16, 16], [6, 43]] {
+        let head = Header::new(&limits, &[2, 2]).word();
+        all.extend([8.0, 8.5].map(|c| holding(&[head], &[c, 0.5, -0.25, 0.125], &[step(11, 0, 0, 0, 0), constant(3)])));
+    }
     all.iter().map(sheet).collect()
 }
 
@@ -132,7 +137,7 @@ fn patterns() -> Vec<Vec<u8>> {
 
 /// Sheets of the recipes that the run is tried on: each kind, each field, operands, shifts, long chains.
 fn runs() -> Vec<Vec<u8>> {
-    let lists: [Vec<Recipe>; 7] = [
+    let lists: [Vec<Recipe>; 8] = [
         recipe_edges::kinds(),
         recipe_edges::shifts(),
         recipe_edges::chains(),
@@ -140,6 +145,7 @@ fn runs() -> Vec<Vec<u8>> {
         recipe_edges::fields(),
         recipe_edges::counts(),
         recipe_edges::editions(),
+        recipe_edges::exponentials(),
     ];
     lists.iter().flatten().chain(&[many(16, 48)]).map(sheet).collect()
 }

@@ -64,7 +64,7 @@ fn answer(sheet: &[u8]) -> Result<String, Refused> {
     if !is_small(&known, recipe.headers.len()) {
         return Err(Refused::at(5, PLACE));
     }
-    let (header, coefficients) = values(&recipe).pop().expect("a step");
+    let (header, coefficients) = values(&recipe)?.pop().expect("a step");
     let lines: String = coefficients.iter().map(|x| format!("{:016x}\n", bits(*x))).collect();
     Ok(format!("done {}\n{:016x}\n{lines}", recipe.steps.len(), header.word()))
 }
@@ -143,7 +143,7 @@ fn steps(rng: &mut Rng, headers: &[u64], count: usize, edition: u64) -> Vec<u64>
 
 /// A step at a place: fields that its kind uses are drawn around what is right, seldom another one.
 fn step(rng: &mut Rng, place: usize) -> u64 {
-    let kinds = if rng.chance(10) { 16 } else { 11 };
+    let kinds = if rng.chance(10) { 16 } else { 12 };
     let kind = rng.below(kinds) as u64;
     let uses = Step::uses(kind).unwrap_or([false; 4]).map(|used| used != rng.chance(2));
     let operand =

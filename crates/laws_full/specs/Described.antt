@@ -83,6 +83,7 @@ module _ (s : Step) (a b : Value) where
         k8 = λ o h f g. listed _ (bounds-expansion (f refl) (s .variable) (s .n));
         k9 = λ o h f g. listed _ (bounds-shifted (f refl) (s .variable) (s .n));
         k10 = λ o h f g. substitute-bounded x (h refl) (f refl) g;
+        k11 = λ o h f g. absurd (false≢true o);
         past = λ k o h f g. bounded-constant 0;
       })
 
@@ -134,5 +135,6 @@ module _ (s : Step) (a b : Value) where
           k8 = λ o c d e. shift-counts (d refl);
           k9 = λ o c d e. shift-counts (d refl);
           k10 = λ o c d e. substitute-counts (c refl) (d refl) e;
+          k11 = λ o c d e. absurd (false≢true o);
           past = λ k o c d e. counts-listed (λ w. 1) counts-one;
         })

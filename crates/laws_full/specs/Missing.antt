@@ -15,7 +15,7 @@ use Rattle.model_recipes.specs.declared.Step.{Step}
 use Rattle.model_recipes.specs.Kinds.{idle}
 use Rattle.model_recipes.specs.Steps.{rows, usesOf}
 use Rattle.model_recipes.specs.Recipe.{families}
-use Rattle.model_texts.specs.Full.{sumFull, productFull, quotientFull, powerFull, shiftFull, substitutionFull}
+use Rattle.model_texts.specs.Full.{sumFull, productFull, quotientFull, seriesFull, powerFull, shiftFull, substitutionFull}
 use Rattle.model_texts.specs.Full.{fullAfter}
 use Rattle.recipes_laws.specs.EachKind.{by-kind}
 
@@ -65,7 +65,7 @@ module _ (ed : ℕ) (s : Step) (a b : Header) (w x y z : ℕ) where
       → (usesOf k .a ≡ true → a .vars ≤ w → y ≡ 1)
       → (usesOf k .b ≡ true → b .vars ≤ w → z ≡ 1) → announced (announces k) a b .vars ≤ w
       → fullAfter (family k) w x y z ≡ 1
-  unfolding announced single paired families rows fullAfter sumFull productFull quotientFull
+  unfolding announced single paired families rows fullAfter sumFull productFull quotientFull seriesFull
   missing-one =
       by-kind (record {
         k0 = λ c d e h. refl;
@@ -79,5 +79,6 @@ module _ (ed : ℕ) (s : Step) (a b : Header) (w x y z : ℕ) where
         k8 = λ c d e h. shift-one (s .n) w (s .variable) y (d refl h);
         k9 = λ c d e h. shift-one (s .n) w (s .variable) y (d refl h);
         k10 = λ c d e h. substitution-one (c refl) (d refl) (e refl) h;
+        k11 = λ c d e h. rw (d refl h);
         past = λ k c d e h. refl;
       })

@@ -83,6 +83,7 @@ module _ (s : Step) (a b c d : Value) where
         k8 = λ h f g. ap (λ (y : Value). row s 8 y b) (f refl);
         k9 = λ h f g. ap (λ (y : Value). row s 9 y b) (f refl);
         k10 = λ h f g. substitute-same x (h refl) (f refl) g;
+        k11 = λ h f g. refl;
         past = λ k h f g. refl;
       })
 
@@ -105,6 +106,7 @@ result-four s a b =
       k8 = λ f. refl;
       k9 = λ f. refl;
       k10 = λ f. refl;
+      k11 = λ f. refl;
       past = λ k f. refl;
     })
 

@@ -78,7 +78,7 @@ substitutionLengths v a b = four (λ k. cond (eqb k v) 1 (at a k) + (at a v - 1)
 abbrev pub endlessLengths : List ℕ
 endlessLengths = four (λ k. 0)
 
--- ---- what each kind makes of its operands, row by row
+-- ---- what each kind makes of its operands, row by row; an exponential has no whole coefficients, and so no row
 
 unfoldable pub results : Step → Value → Value → List Value
 results s a b =

@@ -29,6 +29,7 @@ module _ (s : Step) where
         k8 = λ h. refl;
         k9 = λ h. refl;
         k10 = λ h. refl;
+        k11 = λ h. refl;
         past = λ k h. absurd (false≢true h);
       })
 
@@ -47,6 +48,7 @@ module _ (s : Step) where
         k8 = λ h. h;
         k9 = λ h. h;
         k10 = λ h. refl;
+        k11 = λ h. h;
         past = λ k h. absurd (false≢true h);
       })
 
@@ -67,6 +69,7 @@ module _ (s : Step) where
         k8 = λ h. refl;
         k9 = λ h. refl;
         k10 = λ h. refl;
+        k11 = λ h. refl;
         past = λ k h. h;
       })
 

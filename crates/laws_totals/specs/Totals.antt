@@ -171,6 +171,7 @@ module _ (s : Step) (a b : Value) (x y : Float) (p i j : ℕ) (small : p < 64) (
               whole = subst (Whole _) (sym (shifted-total (a .lengths) (s .variable) (s .n) (u .four) (u .bounded) variable)) (u .whole);
             };
         k10 = λ o f g h. absurd (omega arith);
+        k11 = λ o f g h. absurd (omega arith);
         past = λ k o f g h. absurd (omega arith);
       })
 

@@ -17,6 +17,7 @@ use Rattle.model_faults.specs.Broken.{brokenText}
 use Rattle.model_faults.specs.WordOne.{sizesFault}
 use Rattle.model_faults.specs.StepWord.{formedCause}
 use Rattle.model_faults.specs.StepCount.{variableCause, limitCause, countCause}
+use Rattle.model_faults.specs.StepStop.{stopCause}
 use Rattle.model_faults.specs.Own.{whereText, lineOf, ownFault}
 
 -- the step w is refused by n, known what the places before it announce
@@ -25,7 +26,8 @@ stepCause n w p known =
     cond (eqb n 7) (formedCause w p)
     (cond (eqb n 3) (variableCause w known)
     (cond (eqb n 4) (limitCause w known)
-    (countCause w known)))
+    (cond (eqb n 12) (stopCause w)
+    (countCause w known))))
 
 -- t: the bytes of the sheet
 module _ (t : List ℕ) where

@@ -3,6 +3,7 @@ pub mod Broken
 pub mod WordOne
 pub mod StepWord
 pub mod StepCount
+pub mod StepStop
 pub mod Own
 pub mod Fault
 pub mod Help

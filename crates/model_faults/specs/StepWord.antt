@@ -1,5 +1,5 @@
 -- REFERENCE 6.2, 6.4, 9. Refusal 7 at a step, document 01: operands name earlier places; fields that a kind does not
--- use and the last 14 bits must be zero; 11 to 15 are no kinds. Tested from the left of the word to its right.
+-- use and the last 14 bits must be zero; 12 to 15 are no kinds. Tested from the left of the word to its right.
 use Prim.Native.Nat.{ℕ}
 use Prim.Native.String.{String}
 use mathlib.Core.Bool.{Bool, cond}
@@ -38,7 +38,7 @@ unfoldable pub formedCause : ℕ → ℕ → List ℕ
 formedCause w p =
     let s = stepOf w in
     let u = usesOf (s .kind) in
-    unless (u .kind) (say "there is no kind " (s .kind) "; take 0 to 10.\n")
+    unless (u .kind) (say "there is no kind " (s .kind) "; take 0 to 11.\n")
     (unless (namedBefore p (u .a) (s .a)) (bytes "operand a" ++ operandText (u .a) (s .a) p (s .kind))
     (unless (namedBefore p (u .b) (s .b)) (bytes "operand b" ++ operandText (u .b) (s .b) p (s .kind))
     (fieldsCause w)))

@@ -52,7 +52,7 @@ totalText given whole total shown = cond (goodTotal total) (sharesText given who
 unfoldable pub barText : ℕ → ℕ → ℕ → List ℕ
 barText vars p k =
     tell "No total follows from the inputs: place " p
-    ++ (bytes " is a " ++ (kindText k ++ (bytes ".\n" ++ when (eqb vars 1) (bytes "Parts are taken of a total of 1.\n"))))
+    ++ (bytes " is of kind " ++ (kindText k ++ (bytes ".\n" ++ when (eqb vars 1) (bytes "Parts are taken of a total of 1.\n"))))
 
 unfoldable pub totalsText : Given → Sums → List ℕ
 totalsText (Number t) s = totalText true (s .whole) t (s .shown)

@@ -1,6 +1,6 @@
--- REFERENCE 6.2. Document 01, 'Recipes', and document 02, W7: the table of kinds, a row each. What a kind is called,
--- which fields of the step word it uses, the family by which it announces, its operation on the operands' values, and
--- that operation's own gate.
+-- REFERENCE 6.2. Document 01, 'Recipes', and document 02, W7 and W13: the table of kinds, a row each. What a kind is
+-- called, which fields of the step word it uses, the family by which it announces, its operation on the operands'
+-- values, and that operation's own gate.
 use Prim.Native.Nat.{ℕ}
 use Prim.Native.String.{String}
 use mathlib.Core.List.{List, [], _∷_}
@@ -9,7 +9,7 @@ use lib.Dec.{eqb}
 use lib.ListN.{length}
 use Rattle.model.specs.declared.Refusal.{Refusal}
 use Rattle.model.specs.declared.Family.{Family}
-use Rattle.model.specs.declared.Family.the-variants.{Constant, Same, Sum, Product, Quotient, Power, Shift, Substitution, One}
+use Rattle.model.specs.declared.Family.the-variants.{Constant, Same, Sum, Product, Quotient, Power, Shift, Series, Substitution, One}
 use Rattle.model.specs.Header.{noHeader, ones}
 use Rattle.model.specs.Word.{wordOf}
 use Rattle.model.specs.Gates.{oneGate, workGate, inGate, pairGate, withGate}
@@ -24,6 +24,7 @@ use Rattle.model.specs.Quotient.{quotientPoly}
 use Rattle.model.specs.Power.{powerPoly}
 use Rattle.model.specs.Shifts.{derivativePoly, expansionPoly, shiftDownPoly}
 use Rattle.model.specs.Substitute.{substitutePoly}
+use Rattle.model_exponential.specs.Step.{exponentialPoly}
 use Rattle.model_recipes.specs.declared.Step.{Step}
 use Rattle.model_recipes.specs.declared.Uses.{Uses}
 
@@ -105,7 +106,19 @@ powerRow e =
       gate = λ s a b n m. workGate (powerFamily e (s .n)) (wordOf (a .head)) (length (a .coeffs)) n m;
     }
 
--- 0 to 10 in the edition e; there is no other kind
+-- Document 02, W13: the constant of a gives the head. A constant that has no exponential stops the run, which is no
+-- matter of the gate (`Stops`, Stops.antt).
+abbrev exponentialRow : Kind
+exponentialRow =
+    record {
+      name = "exp";
+      uses = uses true false false false;
+      family = λ s. Series;
+      value = λ s a b. exponentialPoly a;
+      gate = λ s a b n m. workGate Series (wordOf (a .head)) (length (a .coeffs)) n m;
+    }
+
+-- 0 to 11 in the edition e; there is no other kind
 abbrev pub kinds : ℕ → List Kind
 kinds e =
     constantRow
@@ -119,4 +132,5 @@ kinds e =
     ∷ shift "taylor_expansion_of_coeff" expansionPoly
     ∷ shift "shift_down" shiftDownPoly
     ∷ pair "subst_var" true (λ s. Substitution (s .variable)) (λ s. substitutePoly (s .variable))
+    ∷ exponentialRow
     ∷ []

@@ -4,4 +4,5 @@ pub mod Recipe
 pub mod Check
 pub mod Reasons
 pub mod Run
+pub mod Stops
 pub mod Promises

@@ -28,7 +28,7 @@ pub data WrongSizes (it : Recipe) : Type 0 where
 -- 7, in the step word w at the place p: no such kind; an operand that names no earlier place; a field that its kind
 -- does not use; the last bits
 pub data WrongWord (w p : ℕ) : Type 0 where
-  no-kind : 10 < stepOf w .kind → WrongWord w p
+  no-kind : 11 < stepOf w .kind → WrongWord w p
   late-a : usesOf (stepOf w .kind) .a ≡ true → p ≤ stepOf w .a → WrongWord w p
   late-b : usesOf (stepOf w .kind) .b ≡ true → p ≤ stepOf w .b → WrongWord w p
   unused-a : usesOf (stepOf w .kind) .a ≡ false → 0 < stepOf w .a → WrongWord w p

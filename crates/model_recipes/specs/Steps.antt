@@ -27,9 +27,9 @@ wordOfStep s = stepFields s * 2 ^ 14
 abbrev pub noKind : Uses
 noKind = record { kind = false; a = false; b = false; variable = false; n = false }
 
--- the table's rows, the same in every edition; 11 to 15 are refused
+-- the table's rows, the same in every edition; 12 to 15 are refused
 unfoldable pub rows : List Uses
-rows = map (λ k. k .uses) (kinds 0) ++ (noKind ∷ noKind ∷ noKind ∷ noKind ∷ noKind ∷ [])
+rows = map (λ k. k .uses) (kinds 0) ++ (noKind ∷ noKind ∷ noKind ∷ noKind ∷ [])
 
 abbrev pub usesOf : ℕ → Uses
 usesOf k = getD rows k noKind

@@ -33,6 +33,8 @@ impl Step {
     pub const SHIFT_DOWN: usize = 9;
 
     pub const SUBSTITUTION: usize = 10;
+
+    pub const EXP: usize = 11;
 }
 
 // Which fields a kind of step uses, where there is such a kind.
@@ -55,7 +57,8 @@ pub enum CheckAnswer {
     Refused(Refusal),
 }
 
-// Every step's value was written, with its header word; or nothing was.
+// Every step's value was written, with its header word; or the run was refused: before its first step, and nothing was
+// written, or at a step that stops it (12), and +0.0 and 0 stand where values and words would.
 pub enum RunAnswer {
     Done,
     Refused(Refusal),

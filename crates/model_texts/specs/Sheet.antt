@@ -4,7 +4,7 @@
 -- document 02, W5), a byte after
 -- the last line (8); 7 and 8 are at no place in particular (64). Then comes the check, then the program's own limits:
 -- 256 coefficients an input or step, 2,048 for all inputs, 2,048 a pool (else 5, 64). Then the run, on buffers exactly
--- as long as the check says.
+-- as long as the check says; by document 02, W13, it may stop at a step (12).
 use Prim.Native.Nat.{ℕ, zero, suc, _+_, _-_, _*_, _/_, _%_, _^_}
 use mathlib.Core.List.{List}
 use mathlib.Core.Bool.{Bool, _&&_, cond}
@@ -20,7 +20,7 @@ use Rattle.model.specs.Gates.{badWord}
 use Rattle.model.specs.Poly.{Poly}
 use Rattle.model_recipes.specs.Recipe.{Recipe, recipeOf, inputHeads, announcedPlaces, announcedSteps, total, largest}
 use Rattle.model_recipes.specs.Check.{askAt, orElse, knownEdition, rightSizes, checkRefusal}
-use Rattle.model_recipes.specs.Run.{stepValues, noValue, runRefusal}
+use Rattle.model_recipes.specs.Run.{stepValues, noValue, runRefusal, runStop}
 use Rattle.model_texts.specs.Hex.{isLine, wordAt}
 use Rattle.model_texts.specs.Printed.{doneText, refusedText}
 
@@ -35,7 +35,8 @@ unfoldable pub recipeRefusal : Recipe → List Float → Refusal
 recipeRefusal it cs =
     orElse (checkRefusal it)
     (orElse (ownRefusal it)
-    (runRefusal it cs (zeros (total (announcedSteps it))) (table (length (it .steps)) (λ k. 0)) (zeros (8 * largest (announcedSteps it)))))
+    (orElse (runRefusal it cs (zeros (total (announcedSteps it))) (table (length (it .steps)) (λ k. 0)) (zeros (8 * largest (announcedSteps it))))
+    (runStop it cs)))
 
 -- t: the bytes of the sheet
 module _ (t : List ℕ) where

@@ -17,7 +17,7 @@ use Rattle.model.specs.Word.{headerOf}
 use Rattle.model.specs.Refusals.{refusedBy, noRefusal, zeros, cleared}
 use Rattle.model_recipes.specs.Recipe.{Recipe, inputHeads, announcedPlaces, announcedSteps, total, largest}
 use Rattle.model_recipes.specs.Check.{orElse, checkRefusal}
-use Rattle.model_recipes.specs.Run.{lentRefusal}
+use Rattle.model_recipes.specs.Run.{zeroPool, lentRefusal}
 use Rattle.shape_words.specs.Lengths.{lengths-of, count-most}
 use Rattle.recipes_kinds.specs.Known.{Known}
 use Rattle.recipes_check.specs.Asks.{or-first, or-next}
@@ -99,6 +99,11 @@ words-end k n known ws words e l f =
     let p : part k (k + n) known ≡ ws = ap (λ (z : ℕ). take z (drop k known)) m ∙ e in
     let len : length ws ≡ n = ap length (sym e) ∙ length-take-le n (drop k known) (omega (arith, length-drop k known)) in
     f ∙ rw (p, len)
+
+-- a pool that was written to in its first n places, and then cleared there
+pub pool-end : {m : ℕ} (n : ℕ) (old used : List Float) {new : List Float} → m ≡ n → drop n used ≡ drop n old
+    → new ≡ zeroPool m used → new ≡ zeroPool n old
+pool-end n old used e d f = f ∙ rw (e, d)
 
 -- the scratch was used, and then cleared
 pub scratch-end : {m : ℕ} (n : ℕ) (old used : List Float) {front : List Float} {k : ℕ} → m ≡ 8 * n → length used ≡ m

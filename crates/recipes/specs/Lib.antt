@@ -1,4 +1,5 @@
 pub mod Standing
 pub mod Running
+pub mod Stopping
 pub mod Admission
 pub mod Ran

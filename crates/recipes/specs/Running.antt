@@ -45,10 +45,10 @@ use Rattle.recipes.specs.Standing.{at-new, input-at}
 
 -- ---- operands of a step that is right
 
-uses-a : (k : ℕ) → k ≤ 10 → (k ≡ 0 → ⊥) → usesOf k .a ≡ true
+uses-a : (k : ℕ) → k ≤ 11 → (k ≡ 0 → ⊥) → usesOf k .a ≡ true
 unfolding rows
 uses-a =
-    by-kind {P = λ k. k ≤ 10 → (k ≡ 0 → ⊥) → usesOf k .a ≡ true}
+    by-kind {P = λ k. k ≤ 11 → (k ≡ 0 → ⊥) → usesOf k .a ≡ true}
     (record {
       k0 = λ _ n. absurd (n refl);
       k1 = λ _ _. refl;
@@ -61,6 +61,7 @@ uses-a =
       k8 = λ _ _. refl;
       k9 = λ _ _. refl;
       k10 = λ _ _. refl;
+      k11 = λ _ _. refl;
       past = λ k l _. absurd (omega (arith, l));
     })
 
@@ -75,8 +76,8 @@ module _ (w p : ℕ) (f : formed w p ≡ true) where
   abbrev s : Step
   s = stepOf w
 
-  pub few-kinds : s .kind ≤ 10
-  few-kinds = decide (leb (s .kind) 10) (leb-true _ _) (λ t. absurd (formed-right w p f (no-kind (leb-false _ _ t))))
+  pub few-kinds : s .kind ≤ 11
+  few-kinds = decide (leb (s .kind) 11) (leb-true _ _) (λ t. absurd (formed-right w p f (no-kind (leb-false _ _ t))))
 
   pub operands-early : (s .kind ≡ 0 → ⊥) → (s .a < p) × (s .b < p)
   operands-early n =
@@ -102,7 +103,7 @@ laid-snoc (x ∷ xs) (y ∷ ys) h v e =
     ap (λ (l : List Float). padded (stored x) (y .coeffs) ++ l) (laid-snoc xs ys h v (omega (arith, e)))
     ∙ sym (append-assoc (padded (stored x) (y .coeffs)) (laid xs ys) (padded (stored h) (v .coeffs)))
 
-total-front : (known : List Header) (i : ℕ) → total (take i known) ≤ total known
+pub total-front : (known : List Header) (i : ℕ) → total (take i known) ≤ total known
 unfolding total
 total-front known zero = omega arith
 total-front [] (suc i) = omega arith
@@ -155,7 +156,7 @@ module _ {it : Recipe} {cs : List Float} {old-known : List ℕ} {mp ms : ℕ} (g
   count-inputs : length (inputValues (it .headers) cs) ≡ k
   count-inputs = length-inputs (it .headers) cs ∙ length-map (it .headers) headerOf
 
-  length-values : (i : ℕ) → i ≤ length (it .steps) → length (values (upTo it i) cs) ≡ k + i
+  pub length-values : (i : ℕ) → i ≤ length (it .steps) → length (values (upTo it i) cs) ≡ k + i
   unfolding values
   length-values i l = omega
       (arith, length-chain (stepValue (it .edition)) (inputValues (it .headers) cs) (take i (it .steps)), count-inputs, length-take-le i (it .steps) l)
@@ -248,7 +249,7 @@ module _ {it : Recipe} {cs : List Float} {old-known : List ℕ} {mp ms : ℕ} (g
     keeps-now : Keeps (announcedStep ed w before) (stepValue ed w vs)
     keeps-now = keeps-at it cs (g .none) (g .full) (g .room) i l
 
-    formed-at : formed w (k + i) ≡ true
+    pub formed-at : formed w (k + i) ≡ true
     unfolding announcedPlaces
     formed-at = rw (length-known it i l) at (clear-now .formed)
 
@@ -318,7 +319,7 @@ module _ {it : Recipe} {cs : List Float} {old-known : List ℕ} {mp ms : ℕ} (g
           ap (λ (v : Poly). valueIn ed step v (lyingAt k known starts cs (take at pool) (step .b))) (place-is (step .a) (o .0))
           ∙ (ap (valueIn ed step (valueAt vs (step .a))) (place-is (step .b) (o .1)) ∙ same-value))
 
-      next-values : values (upTo it (i + 1)) cs ≡ vs ++ (stepValue ed w vs ∷ [])
+      pub next-values : values (upTo it (i + 1)) cs ≡ vs ++ (stepValue ed w vs ∷ [])
       unfolding values
       next-values =
           rw (add-one i) (ap (chain (stepValue (it .edition)) (inputValues (it .headers) cs)) (take-suc (it .steps) i 0 l)

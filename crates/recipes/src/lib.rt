@@ -1,6 +1,7 @@
 // Recipes (document 01): the check and the run. They take any words, any number of them, and any buffers.
 pub mod admit;
 mod running;
+mod stop;
 
 use admit::admit;
 use admit::run_admitted;
@@ -33,8 +34,9 @@ pub fn check(headers: &[u64], steps: &[u64], edition: u64) -> CheckAnswer
 }
 
 // The values of the steps, end to end at announced counts in the pool, and their true headers in `words`: refusals of
-// the check, then 2, 5, 6.
-// Done, the first 8 times the largest announced count of scratch are +0.0.
+// the check, then 2, 5, 6, then 12 at the first step that stops the run.
+// Done, the first 8 times the largest announced count of scratch are +0.0. After a stop they are too, and so is the
+// announced pool, and the words of the steps are 0.
 pub fn run(
     headers: &[u64],
     coefficients: &[f64],
@@ -62,7 +64,7 @@ pub fn run(
     if refused.number != 0 {
         return RunAnswer::Refused(refused);
     }
-    run_admitted(
+    let ended = run_admitted(
         headers,
         coefficients,
         steps,
@@ -72,5 +74,9 @@ pub fn run(
         words,
         scratch,
     );
+    let stop = ended.stop;
+    if stop.number != 0 {
+        return RunAnswer::Refused(stop);
+    }
     RunAnswer::Done
 }

@@ -1,6 +1,7 @@
 // The steps of a run, one after the other. `known` holds a header word a place: the true one of every place that has
 // its value, the announced one of the others. `starts` says where each value begins, an input's among the coefficients,
 // a step's in the pool.
+use crate::stop::is_stop;
 use gates::stored_of;
 use model::Family;
 use model::Header;
@@ -30,6 +31,7 @@ ghost use Rattle.shape_words.specs.Rules.{Ruled};
 ghost use Rattle.recipes_steps.specs.Ready.{valueOf};
 ghost use Rattle.recipes.specs.Standing.{valueIn, lyingAt, StepIn, Begun, Placing};
 ghost use Rattle.recipes.specs.Running.{Admitted};
+ghost use Rattle.recipes.specs.Stopping.{Stood};
 
 // Where each of these values begins, end to end.
 fn note_starts(headers: &[u64], starts: &mut [usize])
@@ -154,7 +156,8 @@ fn step_word(
     )
 }
 
-// Every step in order. `known` holds the words that all places announce, `starts` where each value begins.
+// The steps in order, up to one that stops the run; answers how many were made. `known` holds the words that all places
+// announce, `starts` where each value begins.
 pub fn run_steps(
     headers: &[u64],
     coefficients: &[f64],
@@ -164,17 +167,21 @@ pub fn run_steps(
     starts: &[usize],
     pool: &mut [f64],
     scratch: &mut [f64],
-)
+) -> usize
     requires { ⌜ Admitted (recipeOf edition (now headers) (now steps)) (now coefficients) (now known) (length (now pool))
         (length (now scratch)) ⌝
         ∗ ⌜ Placing (inputHeads (now headers)) (announcedSteps (recipeOf edition (now headers) (now steps))) (now starts) ⌝
         ∗ ⌜ 64 ≤ length (now starts) ⌝ }
-    ensures words { λ _. ⌜ take (length (now (steps .entry))) (drop (length (now (headers .entry))) (now (known .exit)))
+    ensures made { λ r. ⌜ Stood (recipeOf edition (now (headers .entry)) (now (steps .entry))) (now (coefficients .entry)) r ⌝ }
+    ensures words { λ r. ⌜ (r ≡ length (now (steps .entry)) → take (length (now (steps .entry))) (drop (length (now (headers .entry))) (now (known .exit)))
         ≡ map (λ v. wordOf (v .head)) (stepValues (recipeOf edition (now (headers .entry)) (now (steps .entry)))
-        (now (coefficients .entry))) ⌝ }
-    ensures values { λ _. ⌜ now (pool .exit) ≡ laid (announcedSteps (recipeOf edition (now (headers .entry)) (now (steps .entry))))
+        (now (coefficients .entry)))) ⌝ }
+    ensures values { λ r. ⌜ (r ≡ length (now (steps .entry)) → now (pool .exit)
+        ≡ laid (announcedSteps (recipeOf edition (now (headers .entry)) (now (steps .entry))))
         (stepValues (recipeOf edition (now (headers .entry)) (now (steps .entry))) (now (coefficients .entry)))
-        ++ drop (total (announcedSteps (recipeOf edition (now (headers .entry)) (now (steps .entry))))) (now (pool .entry)) ⌝ }
+        ++ drop (total (announcedSteps (recipeOf edition (now (headers .entry)) (now (steps .entry))))) (now (pool .entry))) ⌝ }
+    ensures behind { λ _. ⌜ drop (total (announcedSteps (recipeOf edition (now (headers .entry)) (now (steps .entry))))) (now (pool .exit))
+        ≡ drop (total (announcedSteps (recipeOf edition (now (headers .entry)) (now (steps .entry))))) (now (pool .entry)) ⌝ }
     ensures spent { λ _. ⌜ length (now (scratch .exit)) ≡ length (now (scratch .entry)) ⌝ }
 {
     let inputs = headers.len();
@@ -183,6 +190,9 @@ pub fn run_steps(
         let s = step_of(steps[i]);
         let p = inputs + i;
         let at = starts[p];
+        if is_stop(s, inputs, starts, coefficients, &pool[..at]) {
+            return i;
+        }
         let room = stored_of(header_of(known[p]));
         let word = step_word(
             edition,
@@ -199,4 +209,5 @@ pub fn run_steps(
         known[p] = word;
         i += 1;
     }
+    i
 }

@@ -44,8 +44,8 @@ const CONSTANT: Uses = Uses {
     n: true,
 };
 
-// Negate.
-const NEGATE: Uses = Uses {
+// Negate, exp.
+const SINGLE: Uses = Uses {
     kind: true,
     a: true,
     b: false,
@@ -101,7 +101,7 @@ const NO_KIND: Uses = Uses {
 // A row for each kind.
 const ROWS: [Uses; 16] = [
     CONSTANT,
-    NEGATE,
+    SINGLE,
     PAIR,
     PAIR,
     PAIR,
@@ -111,7 +111,7 @@ const ROWS: [Uses; 16] = [
     SHIFT,
     SHIFT,
     SUBSTITUTION,
-    NO_KIND,
+    SINGLE,
     NO_KIND,
     NO_KIND,
     NO_KIND,
@@ -187,6 +187,7 @@ pub fn family_of(edition: u64, s: Step) -> Family
         Step::EXPANSION => Family::Shift(s.variable, s.n as usize),
         Step::SHIFT_DOWN => Family::Shift(s.variable, s.n as usize),
         Step::SUBSTITUTION => Family::Substitution(s.variable),
+        Step::EXP => Family::Series,
         _ => Family::Constant,
     }
 }

@@ -1,4 +1,4 @@
--- The buffers after a run that is not refused: each step's true header and coefficients stand in its own places.
+-- The buffers after a run that is done: each step's true header and coefficients stand in its own places.
 use Prim.Native.Nat.{ℕ, _+_, _<_}
 use mathlib.Core.List.{List, map, _++_}
 use mathlib.Core.Path.{_≡_, ap, _∙_}
@@ -11,7 +11,7 @@ use Rattle.model.specs.Word.{wordOf, fields}
 use Rattle.model.specs.Refusals.{padded}
 use Rattle.model.specs.Poly.{Poly}
 use Rattle.model_recipes.specs.Recipe.{Recipe, headAt, announcedPlaces, announcedSteps, total}
-use Rattle.model_recipes.specs.Run.{noValue, valueAt, values, stepValues, laid, runRefusal, runEnd, runPool, runWords}
+use Rattle.model_recipes.specs.Run.{noValue, valueAt, values, stepValues, laid, runStop, runRefusal, runEnd, runPool, runWords}
 use Rattle.shape.specs.Under.{count-under}
 use Rattle.recipes_laws.specs.Follows.{Follows}
 use Rattle.recipes_laws.specs.Ahead.{length-announced}
@@ -39,13 +39,13 @@ module _ (it : Recipe) (cs : List Float) (f : Follows (announcedPlaces it) (valu
       }
 
   module _ (pool : List Float) (words : List ℕ) (scratch : List Float)
-      (z : runRefusal it cs pool words scratch .number ≡ 0) (i : ℕ) (l : i < length (it .steps)) where
+      (z : runRefusal it cs pool words scratch .number ≡ 0) (y : runStop it cs .number ≡ 0) (i : ℕ) (l : i < length (it .steps)) where
     pub word-kept : getD (runWords it cs pool words scratch) i 0 ≡ wordOf (valueAt (values it cs) (length (it .headers) + i) .head)
     unfolding runWords runEnd wordOf fields
     word-kept =
         let word : Poly → ℕ = λ v. wordOf (v .head) in
         let ws = map word (stepValues it cs) in
-        rw (end-done (runRefusal it cs pool words scratch) z)
+        rw (end-done (runRefusal it cs pool words scratch) (runStop it cs) z y)
         (List·getD-append ws (drop (length (it .steps)) words) 0 i (omega (arith, length-map (stepValues it cs) word, same-steps, length-announced it))
         ∙ (List·getD-map word (stepValues it cs) i noValue ∙ ap word (step-value i)))
 
@@ -58,6 +58,6 @@ module _ (it : Recipe) (cs : List Float) (f : Follows (announcedPlaces it) (valu
         rw (
           ← step-head i,
           ← step-value i,
-          end-done (runRefusal it cs pool words scratch) z,
+          end-done (runRefusal it cs pool words scratch) (runStop it cs) z y,
         )
         (laid-at (announcedSteps it) (stepValues it cs) rest steps-fit i (omega (arith, length-announced it)))

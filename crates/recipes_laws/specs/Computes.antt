@@ -17,6 +17,7 @@ use Rattle.model.specs.Quotient.{quotientPoly}
 use Rattle.model.specs.Power.{powerPoly}
 use Rattle.model.specs.Shifts.{derivativePoly, expansionPoly, shiftDownPoly}
 use Rattle.model.specs.Substitute.{substitutePoly}
+use Rattle.model_exponential.specs.Step.{exponentialPoly}
 use Rattle.model_recipes.specs.Kinds.{oneLike}
 use Rattle.model_recipes.specs.Steps.{stepOf, rows, usesOf}
 use Rattle.model_recipes.specs.Check.{formed}
@@ -52,7 +53,7 @@ module _ (ed w p : ℕ) (before all : List Poly) (f : formed w p ≡ true) (same
   unfolding operations rows
   computed =
       record {
-        kinds = decide (leb (s .kind) 10) (leb-true _ _) (λ t. absurd (formed-right w p f (no-kind (leb-false _ _ t))));
+        kinds = decide (leb (s .kind) 11) (leb-true _ _) (λ t. absurd (formed-right w p f (no-kind (leb-false _ _ t))));
         a-earlier = early-a;
         b-earlier = early-b;
         constants = λ e. row 0 e;
@@ -71,4 +72,5 @@ module _ (ed w p : ℕ) (before all : List Poly) (f : formed w p ≡ true) (same
         expands = λ e. row 8 e ∙ one 8 (expansionPoly (s .variable) (s .n)) e refl;
         shifts = λ e. row 9 e ∙ one 9 (shiftDownPoly (s .variable) (s .n)) e refl;
         substitutes = λ e. row 10 e ∙ two 10 (substitutePoly (s .variable)) e refl refl;
+        exponentials = λ e. row 11 e ∙ one 11 exponentialPoly e refl;
       }

@@ -1,5 +1,5 @@
--- What holds of every row of document 01's table of kinds, and of the numbers past it, holds of every number: laws of
--- steps are tables of eleven rows.
+-- What holds of every row of the table of kinds (Kinds.antt), and of the numbers past it, holds of every number: laws
+-- of steps are tables of twelve rows.
 use Prim.Native.Nat.{ℕ, zero, suc}
 
 pub record EachKind (P : ℕ → Type 0) : Type 0 where
@@ -20,8 +20,10 @@ pub record EachKind (P : ℕ → Type 0) : Type 0 where
   pub k9 : P 9
   -- `subst_var`
   pub k10 : P 10
+  -- exp
+  pub k11 : P 11
   -- no kind
-  pub past : (k : ℕ) → P (suc (suc (suc (suc (suc (suc (suc (suc (suc (suc (suc k)))))))))))
+  pub past : (k : ℕ) → P (suc (suc (suc (suc (suc (suc (suc (suc (suc (suc (suc (suc k))))))))))))
 
 pub by-kind : {P : ℕ → Type 0} → EachKind P → (k : ℕ) → P k
 by-kind r zero = r .k0
@@ -35,4 +37,5 @@ by-kind r (suc (suc (suc (suc (suc (suc (suc zero))))))) = r .k7
 by-kind r (suc (suc (suc (suc (suc (suc (suc (suc zero)))))))) = r .k8
 by-kind r (suc (suc (suc (suc (suc (suc (suc (suc (suc zero))))))))) = r .k9
 by-kind r (suc (suc (suc (suc (suc (suc (suc (suc (suc (suc zero)))))))))) = r .k10
-by-kind r (suc (suc (suc (suc (suc (suc (suc (suc (suc (suc (suc k))))))))))) = r .past k
+by-kind r (suc (suc (suc (suc (suc (suc (suc (suc (suc (suc (suc zero))))))))))) = r .k11
+by-kind r (suc (suc (suc (suc (suc (suc (suc (suc (suc (suc (suc (suc k)))))))))))) = r .past k

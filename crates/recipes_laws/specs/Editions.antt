@@ -47,6 +47,7 @@ module _ (e : ℕ) (s : Step) where
         k8 = λ _. refl;
         k9 = λ _. refl;
         k10 = λ _. refl;
+        k11 = λ _. refl;
         past = λ k _. refl;
       })
 
@@ -66,6 +67,7 @@ module _ (e : ℕ) (s : Step) where
         k8 = λ _. refl;
         k9 = λ _. refl;
         k10 = λ _. refl;
+        k11 = λ _. refl;
         past = λ k _. refl;
       })
 

@@ -19,8 +19,10 @@ use Rattle.model.specs.Header.{stored, noHeader}
 use Rattle.model.specs.Word.{headerOf}
 use Rattle.model.specs.Announced.{announced}
 use Rattle.model.specs.Poly.{Poly}
-use Rattle.model.specs.Readings.{oneF}
+use Rattle.model.specs.Readings.{oneF, first}
 use Rattle.model.specs.Power.{powerPoly}
+use Rattle.model_exponential.specs.Head.{expHead}
+use Rattle.model_exponential.specs.Step.{exponentialPoly}
 use Rattle.model_recipes.specs.Kinds.{idle, oneLike, powerFamily}
 use Rattle.model_recipes.specs.Steps.{stepOf}
 use Rattle.model_recipes.specs.Recipe.{families, familyOf, headAt, announcedStep, inputHeads, total}
@@ -35,6 +37,7 @@ use Rattle.laws_keeps.specs.Keeps.{negated-keeps, combined-keeps}
 use Rattle.laws_keeps.specs.ProductKeeps.{product-keeps}
 use Rattle.laws_keeps.specs.QuotientKeeps.{quotient-keeps}
 use Rattle.laws_keeps.specs.PowerKeeps.{power-keeps}
+use Rattle.laws_keeps.specs.SeriesKeeps.{exp-keeps}
 use Rattle.laws_keeps.specs.ShiftKeeps.{derivative-keeps, expansion-keeps, shift-down-keeps}
 use Rattle.laws_keeps.specs.SubstituteKeeps.{substitute-keeps}
 use Rattle.recipes_check.specs.Inputs.{none-good, inputs-good, first-good}
@@ -48,7 +51,7 @@ module _ (ed : ℕ) (s : Step) (a b : Poly) (g : Regular (a .head)) (h : Regular
   power-row = decide (idle ed (s .n)) (λ t. rw t (one-keeps oneF g)) (λ t. rw t (power-keeps (s .n) a g full))
 
   row-keeps : (k : ℕ) → Keeps (announced (getD (families ed s) k Constant) (a .head) (b .head)) (getD (operations ed s a b) k noValue)
-  unfolding families operations announced
+  unfolding families operations announced exponentialPoly
   row-keeps =
       by-kind (record {
         k0 = none-keeps _;
@@ -62,6 +65,7 @@ module _ (ed : ℕ) (s : Step) (a b : Poly) (g : Regular (a .head)) (h : Regular
         k8 = expansion-keeps (s .variable) (s .n) a g;
         k9 = shift-down-keeps (s .variable) (s .n) a g;
         k10 = substitute-keeps (s .variable) a b g h full;
+        k11 = exp-keeps (expHead (first (a .coeffs))) a g;
         past = λ k. none-keeps _;
       })
 

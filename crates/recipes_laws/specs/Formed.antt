@@ -16,10 +16,10 @@ use Rattle.model_recipes.specs.Reasons.{WrongWord, no-kind, late-a, late-b, unu
 use Rattle.recipes_kinds.specs.Known.{small-kind}
 use Rattle.shape_words.specs.Faults.{not-both}
 
--- the table's rule: there are the kinds 0 to 10
-kind-is : (k : ℕ) → k < 16 → usesOf k .kind ≡ leb k 10
+-- the table's rule: there are the kinds 0 to 11
+kind-is : (k : ℕ) → k < 16 → usesOf k .kind ≡ leb k 11
 unfolding rows table
-kind-is k h = sym (List·getD-map (λ (u : Uses). u .kind) rows k noKind) ∙ table-at false (λ j. leb j 10) 16 k h
+kind-is k h = sym (List·getD-map (λ (u : Uses). u .kind) rows k noKind) ∙ table-at false (λ j. leb j 11) 16 k h
 
 -- the six tests
 pub record Tests (w p : ℕ) : Type 0 where

@@ -11,6 +11,7 @@ pub mod Numbers
 pub mod OwnGates
 pub mod NoneRefuses
 pub mod Ends
+pub mod Stopped
 pub mod Laid
 pub mod Demand
 pub mod Computes

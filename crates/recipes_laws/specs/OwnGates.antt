@@ -19,6 +19,7 @@ use Rattle.model.specs.Product.{productGate}
 use Rattle.model.specs.Quotient.{quotientGate}
 use Rattle.model.specs.Power.{powerGate}
 use Rattle.model.specs.Shifts.{shiftGate}
+use Rattle.model.specs.Series.{seriesGate}
 use Rattle.model.specs.Substitute.{substituteGate}
 use Rattle.model_recipes.specs.Kinds.{idle}
 use Rattle.model_recipes.specs.Run.{gates}
@@ -47,6 +48,8 @@ module _ (ed : ℕ) (s : Step) (a b : Poly) (out scratch : List Float) where
     pub expands : row 8 ≡ shiftGate w (a .coeffs) (s .variable) (s .n) out
     pub shifts : row 9 ≡ shiftGate w (a .coeffs) (s .variable) (s .n) out
     pub substitutes : row 10 ≡ substituteGate (s .variable) w (a .coeffs) u (b .coeffs) out scratch
+    -- `exp`, whatever its head
+    pub exponentials : (head : Float) → row 11 ≡ seriesGate w (a .coeffs) head out scratch
 
   pub own-gates : OwnGates
   unfolding gates
@@ -63,4 +66,5 @@ module _ (ed : ℕ) (s : Step) (a b : Poly) (out scratch : List Float) where
         expands = refl;
         shifts = refl;
         substitutes = refl;
+        exponentials = λ head. refl;
       }

@@ -12,7 +12,7 @@ use borrow.Author.Tests.{le-leb}
 use Rattle.model.specs.declared.Header.{Header}
 use Rattle.model_recipes.specs.declared.Step.{Step}
 use Rattle.model.specs.declared.Family.{Family}
-use Rattle.model.specs.declared.Family.the-variants.{Constant, Same, Sum, Product, Quotient, Power, Shift, Substitution, One}
+use Rattle.model.specs.declared.Family.the-variants.{Constant, Same, Sum, Product, Quotient, Power, Shift, Series, Substitution, One}
 use Rattle.model.specs.Header.{limit, stored, noHeader, ones, span, zeroWith}
 use Rattle.model.specs.Word.{headerOf, goodWord, wordOf}
 use Rattle.model.specs.Announced.{announced}
@@ -107,6 +107,7 @@ module _ (ed : ℕ) (s : Step) (a b : Poly) (n m : ℕ) (o : Operand a) (u : Ope
         k8 = λ r v d. in-passes a o (Shift (s .variable) (s .n)) (s .variable) (s .n) r v d;
         k9 = λ r v d. in-passes a o (Shift (s .variable) (s .n)) (s .variable) (s .n) r v d;
         k10 = λ r _ _. pair-passes (Substitution (s .variable)) a b o u r;
+        k11 = λ r _ _. work-passes a o Series r;
         past = λ k r _ _. refl;
       })
 

@@ -1,4 +1,4 @@
--- What refuses a run: the check, by 7 at most, or a buffer that is too short, by 2, 5 or 6.
+-- What refuses a run: the check, by 7 at most, or a buffer that is too short, by 2, 5 or 6; then a stop, by 12.
 use Prim.Native.Nat.{ℕ, _*_, _≤_}
 use mathlib.Core.Bool.{true, _&&_}
 use mathlib.Core.List.{List}
@@ -15,13 +15,15 @@ use Rattle.model.specs.Refusals.{noRefusal}
 use Rattle.model_recipes.specs.Recipe.{Recipe, inputHeads, announcedSteps, total, largest}
 use Rattle.model_recipes.specs.Check.{checkRefusal}
 use Rattle.model_recipes.specs.Reasons.{StepReason, wrong-word, no-variable, large-n, large-count}
-use Rattle.model_recipes.specs.Run.{lentRefusal, runRefusal}
+use Rattle.model_recipes.specs.Run.{lentRefusal, runStop, runRefusal}
 use Rattle.gates.specs.Gate.{passed}
 use Rattle.gates.specs.Small.{Small, at-small, word-small, asked-small}
-use Rattle.recipes_check.specs.Asks.{or-first, or-next, by-refusal}
+use Rattle.recipes_check.specs.Asks.{or-first, or-next, or-none, by-refusal}
+use Rattle.recipes_check.specs.Judged.{accepts}
 use Rattle.recipes_laws.specs.StepReasons.{Stopped, step-stopped}
 use Rattle.recipes_laws.specs.Outcome.{Outcome, by-sizes, at-input, at-step, not-refused, outcome}
 use Rattle.recipes_laws.specs.Exact.{known, length-known}
+use Rattle.recipes_laws.specs.Stopped.{stop-small}
 
 -- ---- the check refuses by 7 at most, at an input, a step or no place
 
@@ -99,3 +101,8 @@ module _ (it : Recipe) (cs : List Float) (pool : List Float) (words : List ℕ) 
       by-refusal (checkRefusal it)
       (λ z. rw (or-next (checkRefusal it) lent z) (lent-small it (length cs) (length pool) (length words) (length scratch)))
       (λ n. rw (or-first {r = checkRefusal it} lent n) (check-small it))
+
+  -- the stop of a run that is not refused before its first step
+  pub run-stop-small : runRefusal it cs pool words scratch .number ≡ 0 → Small 12 64 (runStop it cs)
+  unfolding runRefusal
+  run-stop-small z = stop-small it cs (accepts it (or-none (checkRefusal it) lent z .0) .sizes .fit)

@@ -1,5 +1,5 @@
--- A run is refused exactly for document 01's reasons: by the check, or else by 2, 5 or 6 for a buffer that is too
--- short, and for nothing else. Where there is no reason it is done.
+-- A run is refused exactly for the documents' reasons: by the check, or else by 2, 5 or 6 for a buffer that is too
+-- short, or else by 12 at the first step that stops it, and for nothing else. Where there is no reason it is done.
 use Prim.Native.Nat.{ℕ, _*_}
 use mathlib.Core.Bool.{Bool, true, false, _&&_}
 use mathlib.Core.List.{List}
@@ -16,11 +16,13 @@ use Rattle.model.specs.Refusals.{ask, noRefusal, refusedBy}
 use Rattle.model_recipes.specs.Recipe.{Recipe, inputHeads, announcedSteps, total, largest}
 use Rattle.model_recipes.specs.Check.{orElse, checkRefusal, checkAnswer}
 use Rattle.model_recipes.specs.Reasons.{FirstReason, NoReason, RunReason, of-check, few-coefficients, short-pool, few-words, short-scratch}
-use Rattle.model_recipes.specs.Run.{lentRefusal, runRefusal, runEnd, runAnswer}
+use Rattle.model_recipes.specs.Run.{lentRefusal, runStop, runRefusal, runEnd, runAnswer}
+use Rattle.model_recipes.specs.Stops.{RunRefused, before, at-step}
 use Rattle.recipes_check.specs.Asks.{or-first, or-next, by-refusal}
 use Rattle.recipes_check.specs.Answered.{answer-no, answer-yes}
 use Rattle.recipes_laws.specs.Exact.{check-exact}
-use Rattle.recipes_laws.specs.Ends.{end-refused, end-done, answer-refused}
+use Rattle.recipes_laws.specs.Ends.{end-refused, end-stopped, end-done, answer-refused}
+use Rattle.recipes_laws.specs.Stopped.{Stopping, goes-on, stops, stopping, stop-at}
 
 and-no : (b : Bool) → (b && false) ≡ false
 and-no true = refl
@@ -103,7 +105,7 @@ module _ (it : Recipe) where
 -- any words, coefficients and buffers
 module _ (it : Recipe) (cs : List Float) (pool : List Float) (words : List ℕ) (scratch : List Float) where
   abbrev pub Reason : Refusal → Type 0
-  Reason r = RunReason it (length cs) (length pool) (length words) (length scratch) r
+  Reason r = RunRefused it cs (length pool) (length words) (length scratch) r
 
   pub record RunExact : Type 0 where
     -- done where there is no reason
@@ -113,21 +115,61 @@ module _ (it : Recipe) (cs : List Float) (pool : List Float) (words : List ℕ) 
     -- and for nothing else
     pub refused : (r : Refusal) → runAnswer it cs pool words scratch ≡ Refused r → Reason r
 
+  -- before the first step
+  abbrev Early : Refusal → Type 0
+  Early r = RunReason it (length cs) (length pool) (length words) (length scratch) r
+
   abbrev q : Refusal
   q = runRefusal it cs pool words scratch
 
-  reason : (q .number ≡ 0 → ⊥) → Reason q
-  unfolding runRefusal
-  reason n = reason-of it _ _ _ _ n
+  abbrev s : Refusal
+  s = runStop it cs
 
-  is-due : {r : Refusal} → Reason r → Due it (length cs) (length pool) (length words) (length scratch) r
+  early : (q .number ≡ 0 → ⊥) → Early q
+  unfolding runRefusal
+  early n = reason-of it _ _ _ _ n
+
+  is-due : {r : Refusal} → Early r → Due it (length cs) (length pool) (length words) (length scratch) r
   is-due x = due it _ _ _ _ x
 
-  pub run-exact : RunExact
+  none-early : q .number ≡ 0 → (r : Refusal) → Early r → ⊥
+  unfolding runRefusal
+  none-early z r x = is-due x .some (ap (λ (y : Refusal). y .number) (sym (is-due x .is)) ∙ z)
+
+  is-none : ((r : Refusal) → Early r → ⊥) → q .number ≡ 0
+  is-none f = by-refusal q (λ z. z) (λ n. absurd (f q (early n)))
+
+  late-by : {r : Refusal} → q .number ≡ 0 → Stopping it cs r → (r .number ≡ 0 → ⊥) → Reason r
+  late-by z (goes-on f) n = absurd (n refl)
+  late-by z (stops i t) n = at-step i (none-early z) t
+
+  late : q .number ≡ 0 → (s .number ≡ 0 → ⊥) → Reason s
+  late z = late-by z (stopping it cs)
+
+  no-stop : ((r : Refusal) → Reason r → ⊥) → q .number ≡ 0 → s .number ≡ 0
+  no-stop f z = by-refusal s (λ y. y) (λ n. absurd (f s (late z n)))
+
+  refuses-by : {r : Refusal} → Reason r → runAnswer it cs pool words scratch ≡ Refused r
   unfolding runAnswer runEnd runRefusal
+  refuses-by (before r x) = rw (is-due x .is, end-refused r s (is-due x .some))
+  refuses-by (at-step i f t) =
+      let e = stop-at it cs i t in
+      let n : s .number ≡ 0 → ⊥ = λ z. let k = ap (λ (y : Refusal). y .number) e in omega (arith, z, k) in
+      rw (end-stopped q s (is-none f) n, e)
+
+  -- the first of the two is a reason
+  either : (orElse q s .number ≡ 0 → ⊥) → Reason (orElse q s)
+  either n =
+      by-refusal q
+      (λ z. rw (or-next q s z) (late z (rw (or-next q s z) at n)))
+      (λ y. rw (or-first {r = q} s y) (before q (early y)))
+
+  pub run-exact : RunExact
+  unfolding runAnswer runEnd
   run-exact =
       record {
-        done = λ f. by-refusal q (λ z. rw (end-done q z)) (λ n. absurd (f q (reason n)));
-        refuses = λ r x. rw (is-due x .is, end-refused r (is-due x .some));
-        refused = λ r e. let a = answer-refused q (sym e) in let n : q .number ≡ 0 → ⊥ = rw (← a .0) at (a .1) in rw (a .0) at (reason n);
+        done = λ f. let z = is-none (λ r x. f r (before r x)) in rw (end-done q s z (no-stop f z));
+        refuses = λ r x. refuses-by x;
+        refused = λ r e.
+            let a = answer-refused q s (sym e) in let n : orElse q s .number ≡ 0 → ⊥ = rw (← a .0) at (a .1) in rw (a .0) at (either n);
       }

@@ -14,13 +14,16 @@ use Rattle.lists.specs.Part.{Kept, kept-set}
 use Rattle.model.specs.declared.Header.{Header}
 use Rattle.model_recipes.specs.declared.Step.{Step}
 use Rattle.model.specs.declared.Family.{Family}
-use Rattle.model.specs.declared.Family.the-variants.{Constant, Power, Substitution}
+use Rattle.model.specs.declared.Family.the-variants.{Constant, Power, Series, Substitution}
 use Rattle.model.specs.Header.{limit, stored, noHeader}
 use Rattle.model.specs.Announced.{announced}
 use Rattle.model.specs.Refusals.{zeros, padded}
 use Rattle.model.specs.Poly.{Poly, poly}
 use Rattle.model.specs.Power.{powerPoly}
+use Rattle.model.specs.Readings.{first}
 use Rattle.model.specs.Substitute.{substitutePoly}
+use Rattle.model_exponential.specs.Head.{expHead}
+use Rattle.model_exponential.specs.Step.{exponentialPoly}
 use Rattle.model_recipes.specs.Recipe.{families, familyOf}
 use Rattle.model_recipes.specs.Run.{operations, noValue}
 use Rattle.shape_words.specs.Rules.{Ruled, Good}
@@ -31,12 +34,14 @@ use Rattle.laws_keeps.specs.Keeps.{negated-keeps, combined-keeps}
 use Rattle.laws_keeps.specs.ProductKeeps.{product-keeps}
 use Rattle.laws_keeps.specs.QuotientKeeps.{quotient-keeps}
 use Rattle.laws_keeps.specs.PowerKeeps.{power-keeps}
+use Rattle.laws_keeps.specs.SeriesKeeps.{exp-keeps}
 use Rattle.laws_keeps.specs.ShiftKeeps.{derivative-keeps, expansion-keeps, shift-down-keeps}
 use Rattle.laws_keeps.specs.SubstituteKeeps.{substitute-keeps}
 use Rattle.shape_operands.specs.Lent.{Lies, Lent, kept-as, kept-then, padded-on}
 use Rattle.recipes_singles.specs.Change.{changeFamily, changedPoly, Changing}
 use Rattle.recipes_pairs.specs.Pair.{pairFamily, pairPoly, Pairing, pair-sum, pair-product, pair-quotient}
 use Rattle.recipes_singles.specs.Power.{Powering}
+use Rattle.recipes_singles.specs.Exponential.{Exponential}
 use Rattle.shape_operands.specs.Announces.{Announces}
 
 -- the kind's operation in edition 0
@@ -48,10 +53,10 @@ pub record Placed (x : Header) (xi : Bool) (xf : ℕ) (y : Header) (yi : Bool) (
   pub left : Lies x xi xf at mc
   pub right : Lies y yi yf at mc
 
--- a kind from 1 to 10; the variable and n of a shift, 7 to 9, are tested
+-- a kind from 1 to 11; the variable and n of a shift, 7 to 9, are tested
 pub record Known (s : Step) (x : Header) : Type 0 where
   pub some : 0 < s .kind
-  pub most : s .kind ≤ 10
+  pub most : s .kind ≤ 11
   pub var : 7 ≤ s .kind → s .kind ≤ 9 → s .variable < 4
   pub below : 7 ≤ s .kind → s .kind ≤ 9 → s .n < limit x (s .variable)
 
@@ -76,7 +81,7 @@ pub record Making (s : Step) (x y h : Header) (n : ℕ) : Type 0 where
 past : {n k : ℕ} → n ≤ k → (k ≡ n → ⊥) → n + 1 ≤ k
 past h ne = omega arith
 
-not-last : {k : ℕ} → k ≤ 10 → (k ≡ 10 → ⊥) → k ≤ 9
+not-last : {n k : ℕ} → k ≤ n + 1 → (k ≡ n + 1 → ⊥) → k ≤ n
 not-last h ne = omega arith
 
 -- what holds of 2, 3, 4 and 5
@@ -115,14 +120,16 @@ of-change P p1 p7 p8 p9 k lo hi =
     (λ n7. decide (eqb k 8) (λ e. rw (eqb-true k 8 e) p8)
     (λ n8. let e : k ≡ 9 = omega (arith, past (past (lo (eqb-false k 1 n1)) (eqb-false k 7 n7)) (eqb-false k 8 n8)) in rw e p9)))
 
--- what holds of 1 to 10
-of-any : (P : ℕ → Type 0) → P 1 → P 2 → P 3 → P 4 → P 5 → P 6 → P 7 → P 8 → P 9 → P 10 → (k : ℕ) → 0 < k → k ≤ 10 → P k
-of-any P p1 p2 p3 p4 p5 p6 p7 p8 p9 p10 k lo hi =
+-- what holds of 1 to 11
+of-any : (P : ℕ → Type 0) → P 1 → P 2 → P 3 → P 4 → P 5 → P 6 → P 7 → P 8 → P 9 → P 10 → P 11 → (k : ℕ) → 0 < k → k ≤ 11 → P k
+of-any P p1 p2 p3 p4 p5 p6 p7 p8 p9 p10 p11 k lo hi =
     decide (eqb k 6) (λ e. rw (eqb-true k 6 e) p6)
     (λ n6. decide (eqb k 10) (λ e. rw (eqb-true k 10 e) p10)
-    (λ n10. decide (pairTest k)
+    (λ n10. decide (eqb k 11) (λ e. rw (eqb-true k 11 e) p11)
+    (λ n11. decide (pairTest k)
     (λ t. of-pair P p2 p3 p4 p5 k (pair-low k lo t) (pair-high k t))
-    (λ t. of-change P p1 p7 p8 p9 k (change-high k t (eqb-false k 6 n6)) (not-last hi (eqb-false k 10 n10)))))
+    (λ t. of-change P p1 p7 p8 p9 k (change-high k t (eqb-false k 6 n6))
+    (not-last (not-last hi (eqb-false k 11 n11)) (eqb-false k 10 n10))))))
 
 -- ---- each kind
 
@@ -151,6 +158,18 @@ module _ {s : Step} {x y h : Header} {n : ℕ} (g : Making s x y h n) where
     unfolding valueOf operations
     substitute-value a b = rw e
 
+  module _ (e : s .kind ≡ 11) where
+    exponential-is : announced (familyOf 0 s) x y ≡ announced Series x noHeader
+    unfolding announced families
+    exponential-is = rw e
+
+    pub to-exponential : Exponential x h n
+    to-exponential = record { left = g .left; is = g .is ∙ exponential-is; most = g .most; all = g .all }
+
+    pub exponential-value : (a b : Poly) → exponentialPoly a ≡ valueOf s a b
+    unfolding valueOf operations
+    exponential-value a b = rw e
+
   module _ (t : pairTest (s .kind) ≡ true) where
     pair-is : familyOf 0 s ≡ pairFamily (s .kind)
     unfolding families
@@ -171,12 +190,12 @@ module _ {s : Step} {x y h : Header} {n : ℕ} (g : Making s x y h n) where
         (pair-quotient 5 a b (omega arith) (λ z. omega arith))
         (s .kind) (pair-low (s .kind) (g .known .some) t) (pair-high (s .kind) t)
 
-  module _ (n6 : s .kind ≡ 6 → ⊥) (t : pairTest (s .kind) ≡ false) (n10 : s .kind ≡ 10 → ⊥) where
+  module _ (n6 : s .kind ≡ 6 → ⊥) (t : pairTest (s .kind) ≡ false) (n10 : s .kind ≡ 10 → ⊥) (n11 : s .kind ≡ 11 → ⊥) where
     high : (s .kind ≡ 1 → ⊥) → 7 ≤ s .kind
     high = change-high (s .kind) t n6
 
     low : s .kind ≤ 9
-    low = not-last (g .known .most) n10
+    low = not-last (not-last (g .known .most) n11) n10
 
     change-is : announced (familyOf 0 s) x y ≡ announced (changeFamily (s .kind) (s .variable) (s .n)) x noHeader
     unfolding announced families
@@ -202,7 +221,7 @@ module _ {s : Step} {x y h : Header} {n : ℕ} (g : Making s x y h n) where
 
   module _ (a b : List Float) (la : length a ≡ stored x) where
     value-keeps : Keeps h (valueOf s (poly x a) (poly y b))
-    unfolding valueOf operations families announced
+    unfolding valueOf operations families announced exponentialPoly
     value-keeps =
         let gx = g .left .regular in
         let gy = g .right .regular in
@@ -219,6 +238,7 @@ module _ {s : Step} {x y h : Header} {n : ℕ} (g : Making s x y h n) where
         (expansion-keeps (s .variable) (s .n) p gx)
         (shift-down-keeps (s .variable) (s .n) p gx)
         (substitute-keeps (s .variable) p q gx gy la)
+        (exp-keeps (expHead (first a)) p gx)
         (s .kind) (g .known .some) (g .known .most))
 
     pub value-ruled : Ruled (valueOf s (poly x a) (poly y b) .head)

@@ -101,6 +101,9 @@ fn value_to(
             scratch,
         );
     }
+    if kind == Step::EXP {
+        return recipes_singles::exp_to(x, xi, xf, h, n, coefficients, pool, at, scratch);
+    }
     recipes_singles::change_to(
         kind,
         s.variable,

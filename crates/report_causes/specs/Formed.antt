@@ -15,7 +15,7 @@ use Rattle.model_faults.specs.StepWord.{unusedText, operandText, fieldsCause, f
 
 module _ (w : ℕ) {s : Step} {u : Uses} (es : s ≡ stepOf w) (eu : u ≡ usesOf (s .kind)) where
   module _ (p : ℕ) where
-    pub formed-kind : u .kind ≡ false → say "there is no kind " (s .kind) "; take 0 to 10.\n" ≡ formedCause w p
+    pub formed-kind : u .kind ≡ false → say "there is no kind " (s .kind) "; take 0 to 11.\n" ≡ formedCause w p
     unfolding formedCause
     formed-kind e = rw (← es, ← eu, e)
 

@@ -14,6 +14,7 @@ ghost use Rattle.model.specs.Word.{headerOf};
 ghost use Rattle.model_recipes.specs.Check.{namedBefore, zeroUnless};
 ghost use Rattle.model_faults.specs.StepWord.{lateText, unusedText, operandText, fieldsCause, formedCause};
 ghost use Rattle.model_faults.specs.StepCount.{hasText, variableCause, limitCause, countCause};
+ghost use Rattle.model_faults.specs.StepStop.{stopCause};
 ghost use Rattle.model_faults.specs.Fault.{stepCause};
 ghost use Rattle.recipes_kinds.specs.Known.{Known};
 ghost use Rattle.report_lines.specs.Puts.{Puts};
@@ -87,7 +88,7 @@ pub fn put_formed_cause(word: u64, p: usize, at: usize, to: &mut [u8]) -> usize
     let k = s.kind;
     let u = uses_of(k);
     if !u.kind {
-        return say(b"there is no kind ", k, b"; take 0 to 10.\n", at, to);
+        return say(b"there is no kind ", k, b"; take 0 to 11.\n", at, to);
     }
     if !is_named(p, u.a, s.a) {
         let next = put(b"operand a", at, to);
@@ -156,6 +157,20 @@ fn put_count_cause(word: u64, known: &[u64], at: usize, to: &mut [u8]) -> usize
     )
 }
 
+// 12: the first coefficient of its operand has no exponential.
+fn put_stop_cause(word: u64, at: usize, to: &mut [u8]) -> usize
+    ensures { λ r. ⌜ Puts (stopCause word) at (now (to .entry)) (now (to .exit)) r ⌝ }
+{
+    let s = step_of(word);
+    say(
+        b"the first coefficient of place ",
+        s.a,
+        b" is not from -8 to 8;\nwhere that is meant, divide that place by n, take exp, then the power n of it.\n",
+        at,
+        to,
+    )
+}
+
 // The step at the place p is refused by `number`; known what the places before it announce.
 pub fn put_step_cause(
     number: u8,
@@ -176,6 +191,9 @@ pub fn put_step_cause(
     }
     if number == 4 {
         return put_limit_cause(word, known, at, to);
+    }
+    if number == 12 {
+        return put_stop_cause(word, at, to);
     }
     put_count_cause(word, known, at, to)
 }

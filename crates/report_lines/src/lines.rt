@@ -65,6 +65,7 @@ pub fn put_kind(kind: usize, at: usize, to: &mut [u8]) -> usize
         Step::EXPANSION => put(b"taylor_expansion_of_coeff", at, to),
         Step::SHIFT_DOWN => put(b"shift_down", at, to),
         Step::SUBSTITUTION => put(b"subst_var", at, to),
+        Step::EXP => put(b"exp", at, to),
         _ => at,
     }
 }

@@ -178,7 +178,7 @@ module _ (t : List ℕ) where
   header-fits : (v c : ℕ) → Fits 52 110 (causeText v c)
   header-fits v c = record { most = cause-length v c; keeps = λ d l. columns-earlier (causeText v c) d 28 (omega arith) (cause-columns v c) }
 
-  read-fits : (r : Refusal) → Small 8 512 r → r ≡ readRefusal t → Fits 80 140 (readFault t r)
+  read-fits : (r : Refusal) → Small 12 512 r → r ≡ readRefusal t → Fits 80 140 (readFault t r)
   unfolding readFault sizesFault bytes
   read-fits r s e =
       decide (eqb (r .number) 8)
@@ -204,7 +204,7 @@ module _ (t : List ℕ) where
     count-few : coefficientCount t ≤ 65536
     count-few = omega (arith, opened-few o, o .sizes .few)
 
-    place-fits : (p n : ℕ) → p < 64 → Fits 80 81 (placeFault t p n)
+    place-fits : (p n : ℕ) → p < 64 → Fits 80 163 (placeFault t p n)
     unfolding placeFault lineOf sheetRecipe
     place-fits p n l =
         let k = inputCount t in
@@ -229,16 +229,19 @@ module _ (t : List ℕ) where
     unfolding coefficientCount sheetRecipe
     inputs-few = rw (← headers-many t, inputs-first (recipeOf (sheetEdition t) (sheetHeaders t) (sheetSteps t))) count-few
 
-    recipe-fits : (r : Refusal) → Fits 80 81 (recipeFault t r)
+    recipe-fits : (r : Refusal) → Fits 80 163 (recipeFault t r)
     unfolding recipeFault sheetRecipe
     recipe-fits r =
         decide (ltb (r .place) 64)
         (λ b. rw b (place-fits (r .place) (r .number) (ltb-true (r .place) 64 b)))
-        (λ b. rw b (own-fits (announcedPlaces (sheetRecipe t)) (inputCount t) (places-known (sheetSteps t)) places-few inputs-few))
+        (λ b.
+        rw b
+        (fits-up (own-fits (announcedPlaces (sheetRecipe t)) (inputCount t) (places-known (sheetSteps t)) places-few inputs-few)
+        (omega arith) (omega arith)))
 
   -- ---- the sentence
 
-  text-fits : Fits 80 140 (faultText t)
+  text-fits : Fits 80 163 (faultText t)
   unfolding faultText
   text-fits =
       let r = sheetRefusal t in
@@ -247,11 +250,12 @@ module _ (t : List ℕ) where
       (λ a.
       decide (isNone (readRefusal t))
       (λ b. rw (a, b) (fits-up (recipe-fits (opened t (eqb-true _ _ b)) r) (omega arith) (omega arith)))
-      (λ b. rw (a, b) (read-fits r (refusal-small t) (read-is t (eqb-false (readRefusal t .number) 0 b)))))
+      (λ b.
+      rw (a, b) (fits-up (read-fits r (refusal-small t) (read-is t (eqb-false (readRefusal t .number) 0 b))) (omega arith) (omega arith))))
 
   -- ---- with the line that `recipe` prints
 
-  refused-lines : (r : Refusal) → Small 8 512 r → Lines 50 (refusedText r)
+  refused-lines : (r : Refusal) → Small 12 512 r → Lines 50 (refusedText r)
   unfolding refusedText
   refused-lines r s =
       lines-up
@@ -262,7 +266,7 @@ module _ (t : List ℕ) where
       (rest-then (piece 1 space refl) (rest-then (three (r .cause) (omega (arith, s .cause))) newline-rest)))))))))
       (omega arith)
 
-  pub fault-length : length (faultReport t) ≤ 190
+  pub fault-length : length (faultReport t) ≤ 213
   unfolding faultReport
   fault-length =
       omega (

@@ -13,7 +13,7 @@ use Rattle.model.specs.Word.{goodWord}
 use Rattle.model.specs.Refusals.{askFor, ask, refusedBy, noRefusal, zeros}
 use Rattle.model_recipes.specs.Recipe.{Recipe, inputHeads, announcedPlaces, announcedSteps, total, largest}
 use Rattle.model_recipes.specs.Check.{askAt, orElse, checkRefusal}
-use Rattle.model_recipes.specs.Run.{lentRefusal, runRefusal}
+use Rattle.model_recipes.specs.Run.{lentRefusal, runRefusal, runStop}
 use Rattle.model_texts.specs.Sheet.{inputCount, stepCount, sheetHeaders, sheetEdition, sheetCoefficients, sheetSteps, sheetRecipe}
 use Rattle.model_texts.specs.Sheet.{ownRefusal, recipeRefusal, readRefusal, sheetRefusal}
 use Rattle.shape_words.specs.Faults.{not-both}
@@ -21,11 +21,12 @@ use Rattle.recipes_check.specs.Asks.{or-first, or-next, by-refusal}
 use Rattle.recipes_laws.specs.StepReasons.{Stopped, step-stopped}
 use Rattle.recipes_laws.specs.Outcome.{GoodInputs, Outcome, by-sizes, at-input, at-step, not-refused, outcome}
 use Rattle.recipes_laws.specs.Exact.{known, length-known}
+use Rattle.recipes_laws.specs.Stopped.{Stopping, goes-on, stops, stopping}
 use Rattle.sheet_reading.specs.Headers.{headerOn, good-at}
 use Rattle.sheet_solving.specs.Opened.{Opened, opened, headers-many, steps-many}
 use Rattle.sheet_reading.specs.Reading.{Read}
 use Rattle.sheet_solving.specs.Running.{Opening}
-use Rattle.sheet_solving.specs.Ended.{ranRefusal}
+use Rattle.sheet_solving.specs.Ended.{ranRefusal, endRefusal}
 
 -- k inputs, n steps
 pub record Placed (k n : ℕ) (r : Refusal) : Type 0 where
@@ -72,6 +73,12 @@ check-placed it (not-refused s f c) g = nowhere refl
 or-placed : {k n : ℕ} (a b : Refusal) → Placed k n a → Placed k n b → Placed k n (orElse a b)
 or-placed a b p q = by-refusal a (λ z. rw (or-next a b z) q) (λ z. rw (or-first {r = a} b z) p)
 
+-- ---- the run's stop
+
+stopping-placed : (it : Recipe) (cs : List Float) {r : Refusal} → Stopping it cs r → Placed (length (it .headers)) (length (it .steps)) r
+stopping-placed it cs (goes-on f) = nowhere refl
+stopping-placed it cs (stops i s) = record { from = λ l. omega arith; to = λ l. omega (arith, s .among) }
+
 recipe-placed : (it : Recipe) (cs : List Float) → GoodInputs (it .headers) (length (it .headers))
     → Placed (length (it .headers)) (length (it .steps)) (recipeRefusal it cs)
 unfolding recipeRefusal ownRefusal runRefusal
@@ -80,11 +87,13 @@ recipe-placed it cs g =
     let pool : List Float = zeros (total (announcedSteps it)) in
     let words : List ℕ = table (length (it .steps)) (λ k. 0) in
     let scratch : List Float = zeros (8 * largest (announcedSteps it)) in
-    or-placed (checkRefusal it) (orElse (ownRefusal it) (ranRefusal it cs)) c
-    (or-placed (ownRefusal it) (ranRefusal it cs)
+    or-placed (checkRefusal it) (orElse (ownRefusal it) (endRefusal it cs)) c
+    (or-placed (ownRefusal it) (endRefusal it cs)
     (nowhere (own-nowhere ((leb (largest (announcedPlaces it)) 256 && leb (total (inputHeads (it .headers))) 2048) && leb (total (announcedSteps it)) 2048)))
+    (or-placed (ranRefusal it cs) (runStop it cs)
     (or-placed (checkRefusal it) (lentRefusal it (length cs) (length pool) (length words) (length scratch)) c
-    (nowhere (lent-nowhere it (length cs) (length pool) (length words) (length scratch)))))
+    (nowhere (lent-nowhere it (length cs) (length pool) (length words) (length scratch))))
+    (stopping-placed it cs (stopping it cs))))
 
 -- ---- the sheet
 

@@ -18,6 +18,7 @@ use Rattle.model_texts.specs.Printed.{decimal}
 use Rattle.model_faults.specs.WordOne.{wordOneCause, sizesCause}
 use Rattle.model_faults.specs.StepWord.{lateText, unusedText, operandText, fieldsCause, formedCause}
 use Rattle.model_faults.specs.StepCount.{hasText, variableCause, limitCause, countCause}
+use Rattle.model_faults.specs.StepStop.{stopCause}
 use Rattle.model_faults.specs.Own.{whereText, lineOf, largeFault, totalsFault, firstLarge, ownFault}
 use Rattle.model_faults.specs.Fault.{stepCause}
 use Rattle.shape_words.specs.Lengths.{lengths-of, count-most}
@@ -102,8 +103,8 @@ formed-fits w p =
     let k = small-kind w in
     fits-unless (usesOf (stepOf w .kind) .kind)
     (fits-up
-    (fits-say "there is no kind " (stepOf w .kind) "; take 0 to 10.\n" (piece 17 (bytes "there is no kind ") refl)
-    (two-digits (stepOf w .kind) (omega (arith, k))) (fits-text 15 16 (bytes "; take 0 to 10.\n") refl)) (omega arith) (omega arith))
+    (fits-say "there is no kind " (stepOf w .kind) "; take 0 to 11.\n" (piece 17 (bytes "there is no kind ") refl)
+    (two-digits (stepOf w .kind) (omega (arith, k))) (fits-text 15 16 (bytes "; take 0 to 11.\n") refl)) (omega arith) (omega arith))
     (fits-unless (namedBefore p (usesOf (stepOf w .kind) .a) (stepOf w .a))
     (fits-up
     (fits-then (piece 9 (bytes "operand a") refl) (operand-fits (usesOf (stepOf w .kind) .a) (stepOf w .a) p (stepOf w .kind) (a-small w) k))
@@ -154,11 +155,27 @@ module _ (w : ℕ) {known : List Header} (g : Known known) where
       (eight n (count-most (lengths-of (step-regular 0 w g .rules)))) (fits-text 33 34 (bytes " coefficients; 4096 are the most.\n") refl))
       (omega arith) (omega arith)
 
-  pub step-fits : (n p : ℕ) → Fits 57 58 (stepCause n w p known)
+  -- two lines
+  stop-fits : Fits 57 140 (stopCause w)
+  unfolding stopCause bytes inColumns
+  stop-fits =
+      fits-up
+      (fits-say "the first coefficient of place " (stepOf w .a)
+      " is not from -8 to 8;\nwhere that is meant, divide that place by n, take exp, then the power n of it.\n"
+      (piece 31 (bytes "the first coefficient of place ") refl) (two-digits (stepOf w .a) (omega (arith, a-small w)))
+      (fits-text 21 101
+      (bytes " is not from -8 to 8;\nwhere that is meant, divide that place by n, take exp, then the power n of it.\n") refl))
+      (omega arith) (omega arith)
+
+  long : {t : List ℕ} → Fits 57 58 t → Fits 57 140 t
+  long f = fits-up f (omega arith) (omega arith)
+
+  pub step-fits : (n p : ℕ) → Fits 57 140 (stepCause n w p known)
   unfolding stepCause
   step-fits n p =
-      fits-either (eqb n 7) (formed-fits w p)
-      (fits-either (eqb n 3) variable-fits (fits-either (eqb n 4) limit-fits count-fits))
+      fits-either (eqb n 7) (long (formed-fits w p))
+      (fits-either (eqb n 3) (long variable-fits) (fits-either (eqb n 4) (long limit-fits)
+      (fits-either (eqb n 12) stop-fits (long count-fits))))
 
 -- ---- word one
 

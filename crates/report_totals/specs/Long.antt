@@ -89,7 +89,7 @@ unfolding barText bytes
 bar-lines vars p k l =
     let front = tell-two "No total follows from the inputs: place " p (piece 40 (bytes "No total follows from the inputs: place ") refl) (omega arith) in
     lines-up
-    (lines (omega arith) (rest-then front (rest-then (piece 6 (bytes " is a ") refl) (rest-then (kind-piece k) (one-rest (eqb vars 1))))))
+    (lines (omega arith) (rest-then front (rest-then (piece 12 (bytes " is of kind ") refl) (rest-then (kind-piece k) (one-rest (eqb vars 1))))))
     (omega arith)
 
 totals-lines : (g : Given) (s : Sums) → Lines 200 (totalsText g s)

@@ -86,7 +86,7 @@ fn put_bar(vars: usize, p: usize, kind: usize, at: usize, to: &mut [u8]) -> usiz
     ensures { λ r. ⌜ Puts (barText vars p kind) at (now (to .entry)) (now (to .exit)) r ⌝ }
 {
     let a = tell(b"No total follows from the inputs: place ", p, at, to);
-    let b = put(b" is a ", a, to);
+    let b = put(b" is of kind ", a, to);
     let c = put_kind(kind, b, to);
     let d = put(b".\n", c, to);
     put_if(vars == 1, b"Parts are taken of a total of 1.\n", d, to)

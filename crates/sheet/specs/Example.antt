@@ -17,7 +17,7 @@ use Rattle.model.specs.Shifts.{rowsFrom, rowSum, shiftDownPoly}
 use Rattle.model_recipes.specs.Steps.{stepOf, rows}
 use Rattle.model_recipes.specs.Recipe.{families, announcedStep, announcedPlaces, announcedSteps, total, largest}
 use Rattle.model_recipes.specs.Check.{orElse, rightSizes, formed, stepRefusal, inputsRefusal, stepsRefusal, checkRefusal}
-use Rattle.model_recipes.specs.Run.{inputValues, operations, stepValue, values, stepValues, lentRefusal, runRefusal}
+use Rattle.model_recipes.specs.Run.{inputValues, operations, stepValue, values, stepValues, lentRefusal, runRefusal, stepStops, stopFrom, runStop}
 use Rattle.model_texts.specs.Hex.{isDigit, digitOf, digitFor, isLine, wordAt, hexLine, hexLines}
 use Rattle.model_texts.specs.Printed.{digits, decimal, doneText, refusedText}
 use Rattle.model_texts.specs.Sheet.{ownRefusal, recipeRefusal, inputCount, stepCount, sheetRecipe, sheetEdition, spare, sheetHeaders}
@@ -63,7 +63,7 @@ faultOutput = 114 ∷ 101 ∷ 102 ∷ 117 ∷ 115 ∷ 101 ∷ 100 ∷ 32 ∷ 49 
 pub example-holds : sheetOutput exampleSheet ≡ exampleOutput
 unfolding exampleSheet exampleOutput sheetOutput lastValue sheetRefusal readRefusal headersRefusal sheetSteps
     sheetCoefficients coefficientCount sheetHeaders sheetRecipe sheetEdition spare stepCount inputCount recipeRefusal ownRefusal refusedText
-    doneText decimal digits hexLines hexLine wordAt isLine digitFor digitOf isDigit runRefusal lentRefusal stepValues
+    doneText decimal digits hexLines hexLine wordAt isLine digitFor digitOf isDigit runRefusal lentRefusal runStop stopFrom stepStops stepValues
     values stepValue operations inputValues checkRefusal stepsRefusal inputsRefusal stepRefusal formed rightSizes
     orElse largest total announcedSteps announcedPlaces announcedStep families rows stepOf shiftDownPoly rowSum
     rowsFrom announced paired single minCap lowerCap inside index offset strides wordOf fields goodWord faultOf headerFault soundVar
@@ -74,7 +74,7 @@ example-holds = refl
 pub byte-behind : sheetOutput (exampleSheet ++ (10 ∷ [])) ≡ refusedOutput
 unfolding exampleSheet refusedOutput sheetOutput lastValue sheetRefusal readRefusal headersRefusal sheetSteps
     sheetCoefficients coefficientCount sheetHeaders sheetRecipe sheetEdition spare stepCount inputCount recipeRefusal ownRefusal refusedText
-    doneText decimal digits hexLines hexLine wordAt isLine digitFor digitOf isDigit runRefusal lentRefusal stepValues
+    doneText decimal digits hexLines hexLine wordAt isLine digitFor digitOf isDigit runRefusal lentRefusal runStop stopFrom stepStops stepValues
     values stepValue operations inputValues checkRefusal stepsRefusal inputsRefusal stepRefusal formed rightSizes
     orElse largest total announcedSteps announcedPlaces announcedStep families rows stepOf shiftDownPoly rowSum
     rowsFrom announced paired single minCap lowerCap inside index offset strides wordOf fields goodWord faultOf headerFault soundVar
@@ -84,7 +84,7 @@ byte-behind = refl
 pub nothing-there : sheetOutput [] ≡ refusedOutput
 unfolding refusedOutput sheetOutput lastValue sheetRefusal readRefusal headersRefusal sheetSteps sheetCoefficients
     coefficientCount sheetHeaders sheetRecipe sheetEdition spare stepCount inputCount recipeRefusal ownRefusal refusedText doneText decimal
-    digits hexLines hexLine wordAt isLine digitFor digitOf isDigit runRefusal lentRefusal stepValues values stepValue
+    digits hexLines hexLine wordAt isLine digitFor digitOf isDigit runRefusal lentRefusal runStop stopFrom stepStops stepValues values stepValue
     operations inputValues checkRefusal stepsRefusal inputsRefusal stepRefusal formed rightSizes orElse largest total
     announcedSteps announcedPlaces announcedStep families rows stepOf shiftDownPoly rowSum rowsFrom minCap lowerCap announced paired
     single inside index offset strides wordOf fields goodWord faultOf headerFault soundVar headerOf span walk table

@@ -1,4 +1,4 @@
--- A run of a sheet's recipe, refused or done, and where its last value lies.
+-- A run of a sheet's recipe, stopped or done, and where its last value lies.
 use Prim.Native.Nat.{ℕ, zero, suc, _+_, _-_, _*_, _≤_, _<_}
 use mathlib.Core.List.{List, [], _∷_, _++_, map}
 use mathlib.Core.Path.{_≡_, refl, sym, ap, _∙_}
@@ -14,7 +14,8 @@ use Rattle.model.specs.Word.{headerOf, wordOf}
 use Rattle.model.specs.Refusals.{noRefusal, zeroF, zeros, padded}
 use Rattle.model.specs.Poly.{Poly}
 use Rattle.model_recipes.specs.Recipe.{Recipe, recipeOf, headAt, inputHeads, announcedPlaces, announcedSteps, total, largest}
-use Rattle.model_recipes.specs.Run.{noValue, valueAt, values, stepValues, laid, done, runRefusal, runEnd, runPool, runWords}
+use Rattle.model_recipes.specs.Check.{orElse}
+use Rattle.model_recipes.specs.Run.{noValue, valueAt, values, stepValues, laid, done, runRefusal, runStop, runEnd, runPool, runWords, zeroPool}
 use Rattle.model_texts.specs.Sheet.{wordOn, inputCount, stepCount, coefficientCount, sheetCoefficients, sheetRecipe, sheetRefusal, lastValue}
 use Rattle.shape_words.specs.Rules.{Ruled}
 use Rattle.shape_words.specs.Words.{unpack-pack}
@@ -27,12 +28,13 @@ use Rattle.recipes_laws.specs.Refuses.{run-none}
 use Rattle.recipes_laws.specs.Ahead.{announced-at, length-announced, step-largest}
 use Rattle.recipes_laws.specs.Values.{follows-all}
 use Rattle.recipes_laws.specs.Buffers.{word-kept, coeffs-kept}
+use Rattle.recipes_laws.specs.Stopped.{Stopping, goes-on, stops, stopping}
 use Rattle.recipes.specs.Running.{Admitted}
 use Rattle.sheet_solving.specs.Opened.{headers-many, steps-many}
 use Rattle.sheet_solving.specs.declared.Solved.{Solved}
 use Rattle.sheet_solving.specs.Running.{RunningIn, Passed, passed, steps-largest}
-use Rattle.sheet_solving.specs.Solves.{solvedBy, LastAt, Ends}
-use Rattle.sheet_solving.specs.Ended.{ranRefusal, opening-few, opening-count, opening-refusal}
+use Rattle.sheet_solving.specs.Solves.{unsolved, solvedBy, LastAt, Ends}
+use Rattle.sheet_solving.specs.Ended.{ranRefusal, left-zeros, opening-few, opening-count, opening-before, opening-refusal}
 
 -- the places of a value end before the pool does
 total-take : (hs : List Header) (i : ℕ) → i < length hs → total (take i hs) + stored (getD hs i noHeader) ≤ total hs
@@ -40,6 +42,11 @@ unfolding total
 total-take [] i l = absurd (omega arith)
 total-take (h ∷ hs) zero l = omega arith
 total-take (h ∷ hs) (suc i) l = omega (arith, total-take hs i (omega arith))
+
+-- a stop of the number 0 is none
+no-stop : {it : Recipe} {cs : List Float} {q : Refusal} → Stopping it cs q → q .number ≡ 0 → noRefusal ≡ q
+no-stop (goes-on f) z = refl
+no-stop (stops i s) z = absurd (omega (arith, z))
 
 -- c: how many coefficients are given; pool, words and scratch as they came
 module _ {t : List ℕ} {it : Recipe} {known : List ℕ} {c : ℕ} (pool : List Float) (words : List ℕ) (scratch : List Float)
@@ -59,6 +66,9 @@ module _ {t : List ℕ} {it : Recipe} {known : List ℕ} {c : ℕ} (pool : List 
 
   pub in-some : 1 ≤ length (it .steps)
   in-some = in-passed .accepts .sizes .some
+
+  pub in-fit : length (it .steps) ≤ 64
+  in-fit = omega (arith, in-passed .accepts .sizes .fit)
 
   pub in-words : length (it .steps) ≤ length words
   in-words = omega (arith, r .words, in-passed .accepts .sizes .fit)
@@ -98,8 +108,9 @@ module _ {t : List ℕ} {it : Recipe} {known : List ℕ} {c : ℕ} (pool : List 
         ap (λ (x : Refusal). x .number) (run-none it cs pool words scratch (in-passed .check)
         (record { coeffs = given-len; pool = in-admitted .pool; words = in-words; scratch = in-admitted .room }))
 
-    ran-none : noRefusal ≡ sheetRefusal t
-    ran-none =
+    -- so the sheet is refused by its stop alone
+    ran-refusal : runStop it cs ≡ sheetRefusal t
+    ran-refusal =
         let p : ℕ = total (announcedSteps it) in
         let s : ℕ = 8 * largest (announcedSteps it) in
         let exact : ranRefusal it cs ≡ noRefusal =
@@ -110,16 +121,25 @@ module _ {t : List ℕ} {it : Recipe} {known : List ℕ} {c : ℕ} (pool : List 
           words = omega (arith, length-table {A = ℕ} (λ k. 0) (length (it .steps)));
           scratch = omega (arith, length-table (λ (k : ℕ). zeroF) s);
         }) in
-        sym (opening-refusal (r .opened) (r .steps) ∙ (or-next _ _ (r .judged) ∙ rw (← e) exact))
+        let stop : orElse (ranRefusal it cs) (runStop it cs) ≡ runStop it cs = rw exact (or-next noRefusal (runStop it cs) refl) in
+        sym (opening-refusal (r .opened) (r .steps) ∙ (or-next _ _ (r .judged) ∙ rw (← e) stop))
 
-    -- ws, ps: words and pool as the run left them; the last value lies from the place f on
-    module _ {ws : List ℕ} {ps : List Float} {f : ℕ}
+    -- it stopped, and the announced places of the pool were cleared
+    pub ran-stopped : {q : Refusal} {ps : List Float} {s : Solved} → q ≡ runStop it cs → (q .number ≡ 0 → ⊥)
+        → ps ≡ zeroPool (total (announcedSteps it)) pool → s ≡ unsolved q → Ends t (it .headers) (it .steps) pool ps s
+    ran-stopped eq n ep es =
+        let before = ap (λ (x : Refusal). x .number) (opening-before (r .opened) (r .steps)) ∙ r .judged in
+        let left = ap (λ (x : Recipe). zeroPool (total (announcedSteps x)) pool) in-is ∙ left-zeros t pool before in
+        rw es (record { refusal = eq ∙ ran-refusal; refused = λ z. record { numbers = refl; pool = ep ∙ left }; done = λ z. absurd (n z) })
+
+    -- ws, ps: words and pool as the run left them, which did not stop; the last value lies from the place f on
+    module _ {ws : List ℕ} {ps : List Float} {f : ℕ} (y : runStop it cs .number ≡ 0)
         (pe : ps ≡ laid (announcedSteps it) (stepValues it cs) ++ drop (total (announcedSteps it)) pool)
         (we : ws ≡ map (λ v. wordOf (v .head)) (stepValues it cs) ++ drop (length (it .steps)) words)
         (ef : f ≡ total (take (length (it .steps) - 1) (announcedSteps it))) (lp : length ps ≡ length pool) where
       ended : runEnd it cs pool words scratch ≡ done
       unfolding runEnd
-      ended = end-done (runRefusal it cs pool words scratch) none
+      ended = end-done (runRefusal it cs pool words scratch) (runStop it cs) none y
 
       ep : ps ≡ runPool it cs pool words scratch
       unfolding runPool
@@ -148,7 +168,7 @@ module _ {t : List ℕ} {it : Recipe} {known : List ℕ} {c : ℕ} (pool : List 
       word-is : getD ws (length (it .steps) - 1) 0 ≡ wordOf (lastValue t .head)
       word-is =
           ap (λ (l : List ℕ). getD l (length (it .steps) - 1) 0) ew
-          ∙ (word-kept it cs follow pool words scratch none (length (it .steps) - 1) last-in ∙ ap (λ (v : Poly). wordOf (v .head)) value-last)
+          ∙ (word-kept it cs follow pool words scratch none y (length (it .steps) - 1) last-in ∙ ap (λ (v : Poly). wordOf (v .head)) value-last)
 
       head-is : headerOf (getD ws (length (it .steps) - 1) 0) ≡ lastValue t .head
       head-is = ap headerOf word-is ∙ unpack-pack (lastValue t .head) (keep .regular)
@@ -177,7 +197,7 @@ module _ {t : List ℕ} {it : Recipe} {known : List ℕ} {c : ℕ} (pool : List 
       coefficients-are =
           let xs : List Float = lastValue t .coeffs in
           let kept : take most (drop f ps) ≡ padded most xs =
-          rw (ep, ef) (coeffs-kept it cs follow pool words scratch none (length (it .steps) - 1) last-in
+          rw (ep, ef) (coeffs-kept it cs follow pool words scratch none y (length (it .steps) - 1) last-in
           ∙ ap (λ (v : Poly). padded most (v .coeffs)) value-last) in
           ap (λ (i : ℕ). take i (drop f ps)) count-is
           ∙ (sym (take-take (length xs) most (drop f ps) value-fits) ∙ (ap (take (length xs)) kept ∙ take-at xs (zeros (most - length xs)) (length xs) refl))
@@ -198,5 +218,11 @@ module _ {t : List ℕ} {it : Recipe} {known : List ℕ} {c : ℕ} (pool : List 
           }
 
       pub ran-done : {s : Solved} → s ≡ solvedBy (length (it .headers)) (length (it .steps)) (getD ws (length (it .steps) - 1) 0) f
-          → Ends t (it .headers) (it .steps) ps s
-      ran-done e = rw e (record { refusal = ran-none; none = refl; done = λ z. record { inputs = refl; steps = refl; last = ran-last } })
+          → Ends t (it .headers) (it .steps) pool ps s
+      ran-done e =
+          rw e
+          (record {
+            refusal = no-stop (stopping it cs) y ∙ ran-refusal;
+            refused = λ z. absurd (z refl);
+            done = λ z. record { inputs = refl; steps = refl; last = ran-last };
+          })

@@ -2,14 +2,17 @@
 use Prim.Native.Nat.{ℕ, _+_, _≤_}
 use mathlib.Core.List.{List, map}
 use mathlib.Core.Path.{_≡_}
+use mathlib.Core.Bool.{cond}
 use lib.Ieee.{Float}
 use lib.ListN.{length, take, drop}
 use Rattle.model.specs.declared.Refusal.{Refusal}
 use Rattle.model.specs.Header.{stored}
 use Rattle.model.specs.Word.{headerOf, wordOf}
-use Rattle.model.specs.Refusals.{noRefusal}
-use Rattle.model_recipes.specs.Recipe.{announcedPlaces}
-use Rattle.model_texts.specs.Sheet.{inputCount, stepCount, sheetHeaders, sheetSteps, sheetRecipe, sheetRefusal, lastValue}
+use Rattle.model.specs.Refusals.{noRefusal, isNone}
+use Rattle.model_recipes.specs.Recipe.{announcedPlaces, announcedSteps, total}
+use Rattle.model_recipes.specs.Check.{orElse, checkRefusal}
+use Rattle.model_recipes.specs.Run.{zeroPool}
+use Rattle.model_texts.specs.Sheet.{inputCount, stepCount, sheetHeaders, sheetSteps, sheetRecipe, ownRefusal, readRefusal, sheetRefusal, lastValue}
 use Rattle.recipes_kinds.specs.Known.{Known}
 use Rattle.sheet_solving.specs.declared.Solved.{Solved}
 
@@ -37,9 +40,30 @@ pub record Ending (t hs ss : List ℕ) (pool : List Float) (s : Solved) : Type 0
   pub steps : s .steps ≡ length ss
   pub last : LastAt t pool (s .header) (s .from) (s .count)
 
-pub record Ends (t hs ss : List ℕ) (pool : List Float) (s : Solved) : Type 0 where
+-- ---- what a refusal leaves
+
+-- by what the sheet t is refused before its run: as it is read, by the check, by the program's own limits
+unfoldable pub beforeRun : List ℕ → Refusal
+beforeRun t = orElse (readRefusal t) (orElse (checkRefusal (sheetRecipe t)) (ownRefusal (sheetRecipe t)))
+
+-- of the pool ps: all of it where the sheet is refused before its run; a run that stops has cleared what it announced
+unfoldable pub leftPool : List ℕ → List Float → List Float
+leftPool t ps = cond (isNone (beforeRun t)) (zeroPool (total (announcedSteps (sheetRecipe t))) ps) ps
+
+-- every number 0, and the pool, which was ps
+pub record Unsolved (t : List ℕ) (ps ps' : List Float) (s : Solved) : Type 0 where
+  pub numbers : s ≡ unsolved (s .refusal)
+  pub pool : ps' ≡ leftPool t ps
+
+pub unsolved-by : {s : Solved} {r : Refusal} → s ≡ unsolved r → s ≡ unsolved (s .refusal)
+unsolved-by e = rw e
+
+-- ---- how it ends
+
+-- of the run of a sheet that is not refused before it; ps: the pool as it came
+pub record Ends (t hs ss : List ℕ) (ps pool : List Float) (s : Solved) : Type 0 where
   pub refusal : s .refusal ≡ sheetRefusal t
-  pub none : s .refusal .number ≡ 0
+  pub refused : (s .refusal .number ≡ 0 → ⊥) → Unsolved t ps pool s
   pub done : s .refusal .number ≡ 0 → Ending t hs ss pool s
 
 -- the sheet t is not refused; hs, ss, ks, ps: the buffers for headers, steps, places and the pool, as they are left
@@ -72,17 +96,9 @@ solution-front hs' d h =
       last = d .last;
     }
 
--- what a refusal leaves: every number 0, and the pool, which was ps, as it was
-pub record Unsolved (ps ps' : List Float) (s : Solved) : Type 0 where
-  pub numbers : s ≡ unsolved (s .refusal)
-  pub pool : ps' ≡ ps
-
-pub unsolved-by : {s : Solved} {r : Refusal} → s ≡ unsolved r → s ≡ unsolved (s .refusal)
-unsolved-by e = rw e
-
 pub record Ended (t hs ss ks : List ℕ) (ps ps' : List Float) (s : Solved) : Type 0 where
   pub refusal : s .refusal ≡ sheetRefusal t
-  pub refused : (s .refusal .number ≡ 0 → ⊥) → Unsolved ps ps' s
+  pub refused : (s .refusal .number ≡ 0 → ⊥) → Unsolved t ps ps' s
   pub done : s .refusal .number ≡ 0 → Solution t hs ss ks ps' s
 
 -- as long as any sheet takes: buffers of m steps, k places and p places of a pool; of n headers besides
@@ -105,5 +121,5 @@ pub record Solves (t hs ss ks : List ℕ) (ps : List Float) (hs' ss' ks' : List 
   pub steps-len : length ss' ≡ length ss
   pub known-len : length ks' ≡ length ks
   pub pool-len : length ps' ≡ length ps
-  pub refused : (s .refusal .number ≡ 0 → ⊥) → Unsolved ps ps' s
+  pub refused : (s .refusal .number ≡ 0 → ⊥) → Unsolved t ps ps' s
   pub done : s .refusal .number ≡ 0 → Solution t hs' ss' ks' ps' s

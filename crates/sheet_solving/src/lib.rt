@@ -70,7 +70,8 @@ impl Solved {
 
 // How a sheet ends. Where it is not refused, its input headers, its steps and the words that its places announce stand
 // at the front of `headers`, `steps` and `known`, and the coefficients of the last value in `pool`. Where it is
-// refused, `pool` is as it was, and what lies in the other three is not said: they are filled as the sheet is read.
+// refused, `pool` is as it was, but that a run which stops leaves +0.0 in its announced places; and what lies in the
+// other three is not said: they are filled as the sheet is read.
 pub fn solve(
     text: &[u8],
     headers: &mut [u64],

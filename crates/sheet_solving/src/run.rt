@@ -31,7 +31,7 @@ fn run_in(
 ) -> Solved
     requires { ⌜ RunningIn (now text) (recipeOf edition (now headers) (now steps)) (now known) (length (now coefficients)) (length (now pool))
         (length (now words)) (length (now scratch)) ⌝ }
-    ensures { λ s. ⌜ Ends (now (text .entry)) (now (headers .entry)) (now (steps .entry)) (now (pool .exit)) s ⌝ }
+    ensures { λ s. ⌜ Ends (now (text .entry)) (now (headers .entry)) (now (steps .entry)) (now (pool .entry)) (now (pool .exit)) s ⌝ }
     ensures spent_known { λ _. ⌜ length (now (known .exit)) ≡ length (now (known .entry)) ⌝ }
     ensures spent_coefficients { λ _. ⌜ length (now (coefficients .exit)) ≡ length (now (coefficients .entry)) ⌝ }
     ensures spent_words { λ _. ⌜ length (now (words .exit)) ≡ length (now (words .entry)) ⌝ }
@@ -39,7 +39,7 @@ fn run_in(
 {
     let n = steps.len();
     fill_floats(text, 1 + headers.len(), coefficients);
-    let from = run_admitted(
+    let ran = run_admitted(
         headers,
         coefficients,
         steps,
@@ -49,7 +49,10 @@ fn run_in(
         words,
         scratch,
     );
-    Solved::done(headers.len(), n, words[n - 1], from)
+    if ran.stop.number != 0 {
+        return Solved::refused(ran.stop);
+    }
+    Solved::done(headers.len(), n, words[n - 1], ran.last)
 }
 
 // The same with memory of its own but for the pool; `known` are the words that the places announce, `given` how many
@@ -64,7 +67,7 @@ fn run_judged(
     pool: &mut [f64],
 ) -> Solved
     requires { ⌜ Running (now text) (recipeOf edition (now headers) (now steps)) (now known) given ⌝ ∗ ⌜ 2048 ≤ length (now pool) ⌝ }
-    ensures { λ s. ⌜ Ends (now (text .entry)) (now (headers .entry)) (now (steps .entry)) (now (pool .exit)) s ⌝ }
+    ensures { λ s. ⌜ Ends (now (text .entry)) (now (headers .entry)) (now (steps .entry)) (now (pool .entry)) (now (pool .exit)) s ⌝ }
 {
     let mut coefficients = floats();
     let mut announced = places();

@@ -404,8 +404,8 @@ pub extern "C" fn taylor_check(
 }
 
 // The steps of a recipe of an edition, their values end to end in the pool and their header words in `words`: refusals
-// 1 to 7; 0 when
-// done.
+// 1 to 7, and 12 at a step that stops the run, which leaves +0.0 in the announced pool and 0 in the words of the steps;
+// 0 when done.
 #[no_mangle]
 pub extern "C" fn taylor_run(
     headers: &[u64],

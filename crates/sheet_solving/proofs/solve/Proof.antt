@@ -5,7 +5,7 @@ use Rattle.model.specs.declared.Refusal.{Refusal}
 use Rattle.model_texts.specs.Sheet.{readRefusal}
 use Rattle.sheet_solving.specs.declared.Solved.{Solved}
 use Rattle.sheet_solving.specs.Opened.{opened}
-use Rattle.sheet_solving.specs.Ended.{read-refused}
+use Rattle.sheet_solving.specs.Ended.{read-refused, read-left}
 use Rattle.sheet_solving.specs.Solves.{unsolved-by, solution-front}
 use borrow.Author.Needs.{needs}
 use Rattle.sheet_solving.proofs.solve.Statement.{statement}
@@ -25,7 +25,8 @@ returns c =
       steps-len = refl;
       known-len = refl;
       pool-len = refl;
-      refused = λ z. record { numbers = unsolved-by (c .refused .ensures); pool = refl };
+      refused = λ z.
+          record { numbers = unsolved-by (c .refused .ensures); pool = read-left _ _ (c5 .read .ensures .answer) (c .before .if1 .taken) };
       done = λ z. absurd (c .before .if1 .taken (ap (λ (s : Solved). s .refusal .number) (sym (c .refused .ensures)) ∙ z));
     }
 

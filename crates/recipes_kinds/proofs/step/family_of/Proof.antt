@@ -11,7 +11,7 @@ use borrow.Author.Needs.{needs}
 use Rattle.recipes_kinds.proofs.step.family_of.Statement.{statement}
 use Rattle.recipes_kinds.proofs.step.family_of.Tie as tie
 
--- the arm of no number: none of 1 to 10
+-- the arm of no number: none of 1 to 11
 rest-constant : (c : tie.At-match-rest) → Constant ≡ familyOf (c .before .args .edition) (c .before .args .s)
 unfolding families
 rest-constant c =
@@ -62,11 +62,15 @@ unfolding families
 returns-10 c = simp (c .match .keys10)
 
 returns-11 : tie.Need-returns-11
-returns-11 c = rest-constant c
+unfolding families
+returns-11 c = simp (c .match .keys11)
+
+returns-12 : tie.Need-returns-12
+returns-12 c = rest-constant c
 
 pub family-of-spec : {M : Type 1} → statement M
 family-of-spec =
     tie.close
     (tie.spec
     (λ c κs. search needs) (λ c. search needs) (λ c. search needs) (λ c. search needs) returns returns-2 returns-3 returns-4 returns-5
-    returns-6 returns-7 returns-8 returns-9 returns-10 returns-11)
+    returns-6 returns-7 returns-8 returns-9 returns-10 returns-11 returns-12)

@@ -4,7 +4,8 @@ use lib.ListN.{take}
 use Rattle.model.specs.Refusals.{padded}
 use Rattle.model.specs.Poly.{Poly}
 use Rattle.shape_operands.specs.Lent.{lying, kept-as}
-use Rattle.recipes_steps.specs.Ready.{to-power, power-value, to-pair, pair-value, to-substitute, substitute-value, to-change, change-value}
+use Rattle.recipes_steps.specs.Ready.{to-power, power-value, to-pair, pair-value, to-substitute, substitute-value, to-exponential, exponential-value}
+use Rattle.recipes_steps.specs.Ready.{to-change, change-value}
 use borrow.Author.Needs.{needs}
 use Rattle.recipes_steps.proofs.perform.value_to.Statement.{statement}
 use Rattle.recipes_steps.proofs.perform.value_to.Tie as tie
@@ -95,27 +96,53 @@ returns-3 c =
       ),
     )
 
-change-to-requires : tie.Need-change-to-requires
-change-to-requires c κs =
-    let start = c .before .before .before .before .before .before .before .before .before in (
-      to-change (start .pre .0) (c .before .before .before .before .before .if1 .left)
-          (c .before .before .before .before .if2 .left) (c .before .before .before .if3 .left),
-      (start .pre .1 .0 .left, start .pre .1 .1),
-    )
+exp-to-requires : tie.Need-exp-to-requires
+exp-to-requires c κs =
+    let start = c .before .before .before .before .before .before .before .before .before in
+    (to-exponential (start .pre .0) (c .before .before .if4 .taken), (start .pre .1 .0 .left, start .pre .1 .1))
 
 returns-4 : tie.Need-returns-4
 returns-4 c =
-    let c4 = c .before .before .before .before in let c8 = c4 .before .before .before .before in let c9 = c8 .before in
-    let c10 = c9 .before in
-    let start = c10 .before .before .before .before in (
-      c4 .change-to .ensures .0 ∙ ap (λ (p : Poly). p .head)
-          (change-value (start .pre .0) (c10 .if1 .left) (c9 .if2 .left) (c8 .if3 .left)
+    let c4 = c .before .before .before .before in let c7 = c4 .before .before .before in
+    let start = c7 .before .before .before .before .before .before .before in (
+      c4 .exp-to .ensures .0 ∙ ap (λ (p : Poly). p .head)
+          (exponential-value (start .pre .0) (c7 .if4 .taken)
           (lying (start .args .xi) (start .args .coefficients .now) (take (start .args .at) (start .args .pool .now))
           (start .args .xf) (start .args .x)) (lying (start .args .yi) (start .args .coefficients .now)
           (take (start .args .at) (start .args .pool .now)) (start .args .yf) (start .args .y))),
       (
         kept-as (ap (λ (p : Poly). padded (start .args .n) (p .coeffs))
-            (change-value (start .pre .0) (c10 .if1 .left) (c9 .if2 .left) (c8 .if3 .left)
+            (exponential-value (start .pre .0) (c7 .if4 .taken)
+            (lying (start .args .xi) (start .args .coefficients .now) (take (start .args .at) (start .args .pool .now))
+            (start .args .xf) (start .args .x)) (lying (start .args .yi) (start .args .coefficients .now)
+            (take (start .args .at) (start .args .pool .now)) (start .args .yf) (start .args .y))))
+            (c4 .exp-to .ensures .1 .0),
+        search needs,
+      ),
+    )
+
+change-to-requires : tie.Need-change-to-requires
+change-to-requires c κs =
+    let start = c .before .before .before .before .before .before .before .before .before .before in (
+      to-change (start .pre .0) (c .before .before .before .before .before .before .if1 .left)
+          (c .before .before .before .before .before .if2 .left) (c .before .before .before .before .if3 .left)
+          (c .before .before .before .if4 .left),
+      (start .pre .1 .0 .left, start .pre .1 .1),
+    )
+
+returns-5 : tie.Need-returns-5
+returns-5 c =
+    let c4 = c .before .before .before .before in let c7 = c4 .before .before .before .before in let c8 = c7 .before in
+    let c9 = c8 .before in let c10 = c9 .before in
+    let start = c10 .before .before .before .before in (
+      c4 .change-to .ensures .0 ∙ ap (λ (p : Poly). p .head)
+          (change-value (start .pre .0) (c10 .if1 .left) (c9 .if2 .left) (c8 .if3 .left) (c7 .if4 .left)
+          (lying (start .args .xi) (start .args .coefficients .now) (take (start .args .at) (start .args .pool .now))
+          (start .args .xf) (start .args .x)) (lying (start .args .yi) (start .args .coefficients .now)
+          (take (start .args .at) (start .args .pool .now)) (start .args .yf) (start .args .y))),
+      (
+        kept-as (ap (λ (p : Poly). padded (start .args .n) (p .coeffs))
+            (change-value (start .pre .0) (c10 .if1 .left) (c9 .if2 .left) (c8 .if3 .left) (c7 .if4 .left)
             (lying (start .args .xi) (start .args .coefficients .now) (take (start .args .at) (start .args .pool .now))
             (start .args .xf) (start .args .x)) (lying (start .args .yi) (start .args .coefficients .now)
             (take (start .args .at) (start .args .pool .now)) (start .args .yf) (start .args .y))))
@@ -130,4 +157,4 @@ value-to-spec =
     (tie.spec
     power-to-requires (λ c. search needs) (λ c. search needs) returns pair-to-requires (λ c. search needs)
     (λ c. search needs) returns-2 stored-of-requires stored-of-requires-2 substitute-to-requires (λ c. search needs) (λ c. search needs) returns-3
-    (λ c. search needs) change-to-requires (λ c. search needs) (λ c. search needs) returns-4)
+    exp-to-requires (λ c. search needs) (λ c. search needs) returns-4 (λ c. search needs) change-to-requires (λ c. search needs) (λ c. search needs) returns-5)

@@ -30,11 +30,24 @@ returns-3 c =
 returns-4 : tie.Need-returns-4
 unfolding stepCause
 returns-4 c =
+    let c4 = c .before .before .before .before in
     rw (
-      ne-eqb _ _ (c .before .before .before .before .before .before .if1 .left),
-      ne-eqb _ _
-          (c .before .before .before .before .before .if2 .left),
-      ne-eqb _ _ (c .before .before .before .before .if3 .left),
+      ne-eqb _ _ (c4 .before .before .before .if1 .left),
+      ne-eqb _ _ (c4 .before .before .if2 .left),
+      ne-eqb _ _ (c4 .before .if3 .left),
+      eq-eqb _ _ (c4 .if4 .taken),
+    )
+    (c .before .before .put-stop-cause .ensures)
+
+returns-5 : tie.Need-returns-5
+unfolding stepCause
+returns-5 c =
+    let c4 = c .before .before .before .before in
+    rw (
+      ne-eqb _ _ (c4 .before .before .before .if1 .left),
+      ne-eqb _ _ (c4 .before .before .if2 .left),
+      ne-eqb _ _ (c4 .before .if3 .left),
+      ne-eqb _ _ (c4 .if4 .left),
     )
     (c .before .before .put-count-cause .ensures)
 
@@ -53,4 +66,7 @@ put-step-cause-spec =
     returns-3
     (λ c κs. search needs)
     (λ c. search needs)
-    returns-4)
+    returns-4
+    (λ c κs. search needs)
+    (λ c. search needs)
+    returns-5)

@@ -55,18 +55,24 @@ returns-11 : tie.Need-returns-11
 unfolding kindText kindNames bytes
 returns-11 c = rw (c .before .before .before .before .before .match .keys11) (c .before .before .put11 .ensures)
 
--- none of 0 to 10
 returns-12 : tie.Need-returns-12
 unfolding kindText kindNames bytes
-returns-12 c =
+returns-12 c = rw (c .before .before .before .before .before .match .keys12) (c .before .before .put12 .ensures)
+
+-- none of 0 to 11
+returns-13 : tie.Need-returns-13
+unfolding kindText kindNames bytes
+returns-13 c =
     let r = c .match .rest in
-    let ne = r .0 .0 .0 .0 .0 .0 .0 .0 .0 .0 .1 in
+    let ne = r .0 .0 .0 .0 .0 .0 .0 .0 .0 .0 .0 .1 in
     rw (List·getD-eq-default kindNames "" {n = c .before .before .args .kind} (past-kinds (omega arith) r)) (puts-none _ _)
 
 pub put-kind-spec : {M : Type 1} → statement M
 put-kind-spec =
     tie.close
     (tie.spec
+    (λ c. search needs)
+    (λ c κs. search needs)
     (λ c. search needs)
     (λ c κs. search needs)
     (λ c. search needs)
@@ -111,4 +117,6 @@ put-kind-spec =
     returns-10
     (λ c. search needs)
     returns-11
-    returns-12)
+    (λ c. search needs)
+    returns-12
+    returns-13)

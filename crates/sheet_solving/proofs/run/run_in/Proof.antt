@@ -1,7 +1,8 @@
 use native.Mathlib.Omega.{arith}
-use mathlib.Core.Path.{_≡_, refl}
+use mathlib.Core.Path.{_≡_, refl, sym, ap, _∙_}
+use Rattle.model.specs.declared.Refusal.{Refusal}
 use Rattle.model_texts.specs.Sheet.{sheetCoefficients}
-use Rattle.sheet_solving.specs.Ran.{in-few, in-some, in-words, in-admitted, floats-read, ran-ruled, ran-done}
+use Rattle.sheet_solving.specs.Ran.{in-few, in-some, in-fit, in-words, in-admitted, floats-read, ran-stopped, ran-ruled, ran-done}
 use borrow.Author.Needs.{needs}
 use Rattle.sheet_solving.proofs.run.run_in.Statement.{statement}
 use Rattle.sheet_solving.proofs.run.run_in.Tie as tie
@@ -29,18 +30,38 @@ run-admitted-requires c κs =
           (start .pre),
     )
 
+-- the run stopped
+returns : tie.Need-returns
+returns c = (
+  let ran = c .before .before .before .before .before .before .before .before .before .before .before in
+      let filled = ran .before .before .before .before .before .before .before .before in
+      let start = filled .before .before .before .before .before .before .before .before .before .before in
+      let some = c .before .if1 .taken in
+      ran-stopped (start .args .pool .now) (start .args .words .now) (start .args .scratch .now) (start .pre)
+      (coefficients-read filled) (ran .run-admitted .ensures .0) some (ran .run-admitted .ensures .1 .1 .1 .0 some)
+      (c .refused .ensures),
+  (search needs, (search needs, (search needs, search needs))),
+)
+
 sub-done : tie.Need-sub-done
 sub-done c =
-    let c12 = c .before .before .before .before .before .before .before .before .before .before .before .before in
-    let c24 = c12 .before .before .before .before .before .before .before .before .before .before .before .before in
-    let start = c24 .before .before in
+    let ran = c .before .before .before .before .before .before .before .before .before .before in
+    let filled = ran .before .before .before .before .before .before .before .before in
+    let start = filled .before .before .before .before .before .before .before .before .before .before in
     in-some (start .args .pool .now) (start .args .words .now) (start .args .scratch .now) (start .pre)
+
+mul-done : tie.Need-mul-done
+mul-done c =
+    let ran = c .before .before .before .before .before .before .before .before .before .before in
+    let filled = ran .before .before .before .before .before .before .before .before in
+    let start = filled .before .before .before .before .before .before .before .before .before .before in
+    search (needs, in-fit (start .args .pool .now) (start .args .words .now) (start .args .scratch .now) (start .pre))
 
 slice-read-done : tie.Need-slice-read-done
 slice-read-done c =
-    let c12 = c .before .before .before .before .before .before .before .before .before .before .before .before in
-    let c24 = c12 .before .before .before .before .before .before .before .before .before .before .before .before in
-    let start = c24 .before .before .before in
+    let ran = c .before .before .before .before .before .before .before .before .before .before .before in
+    let filled = ran .before .before .before .before .before .before .before .before in
+    let start = filled .before .before .before .before .before .before .before .before .before .before in
     omega (
       arith,
       in-some (start .args .pool .now) (start .args .words .now) (start .args .scratch .now) (start .pre),
@@ -49,28 +70,41 @@ slice-read-done c =
 
 done-requires : tie.Need-done-requires
 done-requires c κs =
-    let c9 = c .before .before .before .before .before .before .before .before .before in
-    let c17 = c9 .before .before .before .before .before .before .before .before in
-    let start = c17 .before .before .before .before .before .before .before .before .before .before in
+    let ran = c .before .before .before .before .before .before .before .before .before .before .before in
+    let filled = ran .before .before .before .before .before .before .before .before in
+    let start = filled .before .before .before .before .before .before .before .before .before .before in
+    let none = c .before .if1 .left in
     ran-ruled (start .args .pool .now) (start .args .words .now) (start .args .scratch .now) (start .pre)
-    (coefficients-read c17) (c9 .run-admitted .ensures .0) (c9 .run-admitted .ensures .1 .0)
-    (c9 .run-admitted .ensures .1 .1 .1 .0) (c9 .run-admitted .kept .1 .1 .1 .1 .1 .0)
+    (coefficients-read filled) (ap (λ (q : Refusal). q .number) (sym (ran .run-admitted .ensures .0)) ∙ none)
+    (ran .run-admitted .ensures .1 .0 none) (ran .run-admitted .ensures .1 .1 .0 none)
+    (ran .run-admitted .ensures .1 .1 .1 .1 .1 .1 .0) (ran .run-admitted .kept .1 .1 .1 .1 .1 .0)
 
-returns : tie.Need-returns
-returns c = (
-  let c10 = c .before .before .before .before .before .before .before .before .before .before in
-      let c18 = c10 .before .before .before .before .before .before .before .before in
-      let start = c18 .before .before .before .before .before .before .before .before .before .before in
+returns-2 : tie.Need-returns-2
+returns-2 c =
+    let ran = c .before .before .before .before .before .before .before .before .before .before .before .before in
+    let filled = ran .before .before .before .before .before .before .before .before in
+    let start = filled .before .before .before .before .before .before .before .before .before .before in
+    let none = c .before .before .if1 .left in (
       ran-done (start .args .pool .now) (start .args .words .now) (start .args .scratch .now) (start .pre)
-      (coefficients-read c18) (c10 .run-admitted .ensures .0) (c10 .run-admitted .ensures .1 .0)
-      (c10 .run-admitted .ensures .1 .1 .1 .0) (c10 .run-admitted .kept .1 .1 .1 .1 .1 .0) (c .done .ensures),
-  (search needs, (search needs, (search needs, search needs))),
-)
+          (coefficients-read filled) (ap (λ (q : Refusal). q .number) (sym (ran .run-admitted .ensures .0)) ∙ none)
+          (ran .run-admitted .ensures .1 .0 none) (ran .run-admitted .ensures .1 .1 .0 none)
+          (ran .run-admitted .ensures .1 .1 .1 .1 .1 .1 .0) (ran .run-admitted .kept .1 .1 .1 .1 .1 .0) (c .done .ensures),
+      (search (needs, ran .run-admitted .kept .1 .1 .1 .1 .0), (filled .fill-floats .kept .1 .1 .0,
+          (search (needs, ran .run-admitted .kept .1 .1 .1 .1 .1 .1 .0),
+          search (needs, ran .run-admitted .kept .1 .1 .1 .1 .1 .1 .1 .0)))),
+    )
+
+same-length-7 : tie.Need-same-length-7
+same-length-7 c =
+    let ran = c .before .before .before .before .before .before .before .before .before .before .before .before in
+    let filled = ran .before .before .before .before .before .before .before .before in
+    search (needs, filled .fill-floats .kept .1 .1 .0)
 
 pub run-in-spec : {M : Type 1} → statement M
 run-in-spec =
     tie.close
     (tie.spec
-    (λ c. search needs) fill-floats-requires run-admitted-requires sub-done (λ c. search needs) slice-read-done
-    done-requires (λ c. search needs) (λ c. search needs) (λ c. search needs) (λ c. search needs) (λ c. search needs)
-    returns)
+    (λ c. search needs) fill-floats-requires run-admitted-requires (λ c κs. search needs) (λ c. search needs)
+    (λ c. search needs) (λ c. search needs) (λ c. search needs) (λ c. search needs) returns sub-done mul-done
+    slice-read-done done-requires (λ c. search needs) same-length-7 (λ c. search needs) (λ c. search needs)
+    (λ c. search needs) returns-2)

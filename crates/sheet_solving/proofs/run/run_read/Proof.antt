@@ -5,7 +5,8 @@ use lib.ListN.{length}
 use lib.Seq.{length-take-le}
 use Rattle.sheet_solving.specs.declared.Solved.{Solved}
 use Rattle.sheet_solving.specs.Solves.{unsolved-by}
-use Rattle.sheet_solving.specs.Ended.{opening-few, opening-fit, opening-known, opening-small, steps-room, steps-read, judged-refused, running, ended-done}
+use Rattle.sheet_solving.specs.Ended.{opening-few, opening-fit, opening-known, opening-small, steps-room, steps-read}
+use Rattle.sheet_solving.specs.Ended.{judged-refused, judged-left, running, ended-done}
 use borrow.Author.Needs.{needs}
 use Rattle.sheet_solving.proofs.run.run_read.Statement.{statement}
 use Rattle.sheet_solving.proofs.run.run_read.Tie as tie
@@ -72,7 +73,15 @@ returns c =
           (steps-read (start .pre .0) (start .args .steps .now) (c13 .step-count .ensures) (c12 .total-of .ensures)
           (start .pre .1 .steps) (c10 .fill-words .ensures))
           (c .before .before .before .before .before .judge-own .ensures) (c .before .if1 .taken);
-      refused = λ z. record { numbers = unsolved-by (c .refused .ensures); pool = refl };
+      refused = λ z.
+          record {
+            numbers = unsolved-by (c .refused .ensures);
+            pool =
+                judged-left (start .pre .0) (start .args .pool .now)
+                (steps-read (start .pre .0) (start .args .steps .now) (c13 .step-count .ensures) (c12 .total-of .ensures)
+                (start .pre .1 .steps) (c10 .fill-words .ensures))
+                (c .before .before .before .before .before .judge-own .ensures) (c .before .if1 .taken);
+          };
       done = λ z. absurd (c .before .if1 .taken (ap (λ (s : Solved). s .refusal .number) (sym (c .refused .ensures)) ∙ z));
     }
 
