@@ -1,0 +1,6 @@
+pub mod Least
+pub mod Bounds
+pub mod Reach
+pub mod Results
+pub mod Rings
+pub mod ShiftsTwice
