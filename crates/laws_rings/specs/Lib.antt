@@ -4,3 +4,4 @@ pub mod Reach
 pub mod Results
 pub mod Rings
 pub mod ShiftsTwice
+pub mod Departments

@@ -1,7 +1,7 @@
--- Sums and products of polynomials with their caps (document 02, W10), as whole numbers: the exact results cut by box and
--- cap.
+-- Sums and products of polynomials with their caps (document 02, W10), as whole numbers: the exact results cut by
+-- box and cap.
 use mathlib.Core.Path.{_≡_, sym, ap, ap₂, _∙_}
-use mathlib.Core.Bool.{true, false}
+use mathlib.Core.Bool.{false}
 use mathlib.Core.List.{List}
 use Prim.Native.Nat.{ℕ, _+_, _*_, _^_, _≤_, _<_, max}
 use native.Mathlib.Nat.{le-trans}
@@ -9,7 +9,6 @@ use native.Mathlib.Omega.{arith}
 use lib.Dec.{ltb}
 use lib.ListN.{length}
 use lib.IntN.{ℤ, pos, _+ℤ_, _*ℤ_, +ℤ-idl, zero-*ℤ, *ℤ-zero}
-use lib.Ieee.{eq}
 use borrow.Author.Tests.{ltb-true, ltb-false}
 use Rattle.lists.specs.Test.{decide}
 use Rattle.lists.specs.Four.{at}
@@ -17,17 +16,17 @@ use Rattle.model.specs.declared.Header.{Header}
 use Rattle.model.specs.Header.{limit}
 use Rattle.model_textbook.specs.Box.{indexMinus}
 use Rattle.model.specs.Announced.{announced, paired}
-use Rattle.model.specs.Poly.{Poly, poly, blockOf, coefficientAt}
+use Rattle.model.specs.Poly.{Poly, blockOf}
 use Rattle.model.specs.Add.{combined}
 use Rattle.model.specs.Product.{productPoly}
 use Rattle.model_textbook.specs.Textbook.{Series, weight, plus, times}
-use Rattle.model_caps.specs.Cap.{cappedPlaces, minCap, cutAt}
+use Rattle.model_caps.specs.Cap.{cutAt}
 use Rattle.model_caps.specs.Order.{Capped, under, capOf, sum, product, Same}
 use Rattle.laws_whole.specs.Compare.{whole-eq}
 use Rattle.shape_words.specs.Rules.{Regular, ruled-at}
 use Rattle.laws_whole.specs.IndexLaws.{in-box-length, within-length, minus-length}
 use Rattle.laws_whole.specs.StoredLaws.{in-box-inside, in-box-below, stored-past}
-use Rattle.shape_words.specs.Lengths.{Inside, inside-is}
+use Rattle.shape_words.specs.Lengths.{inside-is}
 use Rattle.shape.specs.Keeps.{Keeps}
 use Rattle.laws_exact.specs.Wholes.{Wholes, Is}
 use Rattle.laws_exact.specs.Cuts.{numbersOf}

@@ -42,7 +42,7 @@ sum-heads : (p q : Capped) → Heads p q (sum p q)
 unfolding sum combined announced paired
 sum-heads p q = record { vars = refl; limits = refl; cap = refl }
 
-product-heads : (p q : Capped) → Heads p q (product p q)
+pub product-heads : (p q : Capped) → Heads p q (product p q)
 unfolding product productPoly announced paired
 product-heads p q = record { vars = refl; limits = refl; cap = refl }
 
@@ -51,18 +51,18 @@ pub record Alike (x y : Capped) : Type 0 where
   pub limits : x .value .head .limits ≡ y .value .head .limits
   pub cap : x .cap ≡ y .cap
 
-abbrev nvars : Capped → ℕ
+abbrev pub nvars : Capped → ℕ
 nvars p = p .value .head .vars
 
-abbrev lim : Capped → ℕ → ℕ
+abbrev pub lim : Capped → ℕ → ℕ
 lim p k = limit (p .value .head) k
 
-heads-at : {p q x : Capped} → Heads p q x → (k : ℕ) → k < 4 → lim x k ≡ minLimit (nvars p) (nvars q) k (lim p k) (lim q k)
+pub heads-at : {p q x : Capped} → Heads p q x → (k : ℕ) → k < 4 → lim x k ≡ minLimit (nvars p) (nvars q) k (lim p k) (lim q k)
 unfolding minDegreesP1
 heads-at {p} {q} h k l = ap (λ (m : List ℕ). at m k) (h .limits) ∙ at-four (λ k. minLimit (nvars p) (nvars q) k (lim p k) (lim q k)) k l
 
 -- limits by their places
-same-limits : {p q x r s y : Capped} → Heads p q x → Heads r s y → ((k : ℕ) → k < 4 → lim x k ≡ lim y k) → x .value .head .limits ≡ y .value .head .limits
+pub same-limits : {p q x r s y : Capped} → Heads p q x → Heads r s y → ((k : ℕ) → k < 4 → lim x k ≡ lim y k) → x .value .head .limits ≡ y .value .head .limits
 unfolding minDegreesP1
 same-limits {p} {q} {x} {r} {s} {y} h g e =
     h .limits
@@ -115,28 +115,28 @@ module _ {p q x : Capped} (h : Heads p q x) (k : List ℕ) (d : Reach (x .value 
   caps : (underCap (p .cap) k ≡ true) × (underCap (q .cap) k ≡ true)
   caps = min-cap (p .cap) (q .cap) k (rw (h .cap) at (d .cap))
 
-  reach-left : Reach (p .value .head) (p .cap) k
+  pub reach-left : Reach (p .value .head) (p .cap) k
   reach-left = record {
     len = d .len;
     box = λ v l m. omega (arith, d .box v l (omega (arith, h .vars)), heads-at h v l, least-left (nvars p) (nvars q) v (lim p v) (lim q v) m);
     cap = caps .0;
   }
 
-  reach-right : Reach (q .value .head) (q .cap) k
+  pub reach-right : Reach (q .value .head) (q .cap) k
   reach-right = record {
     len = d .len;
     box = λ v l m. omega (arith, d .box v l (omega (arith, h .vars)), heads-at h v l, least-right (nvars p) (nvars q) v (lim p v) (lim q v) m);
     cap = caps .1;
   }
 
-alike-reach : {x y : Capped} → Alike x y → (k : List ℕ) → Reach (x .value .head) (x .cap) k → Reach (y .value .head) (y .cap) k
+pub alike-reach : {x y : Capped} → Alike x y → (k : List ℕ) → Reach (x .value .head) (x .cap) k → Reach (y .value .head) (y .cap) k
 alike-reach e k d = record {
   len = d .len;
   box = λ v l m. rw (← e .limits) (d .box v l (rw (e .vars) m));
   cap = rw (← e .cap) (d .cap);
 }
 
-alike-same : {x y : Capped} {Z Y : Series} {n m : ℕ} → Alike x y → Made x Z n → Made y Y m → Agree (Reach (x .value .head) (x .cap)) Z Y → Same x y
+pub alike-same : {x y : Capped} {Z Y : Series} {n m : ℕ} → Alike x y → Made x Z n → Made y Y m → Agree (Reach (x .value .head) (x .cap)) Z Y → Same x y
 alike-same e = made-same (e .vars) (e .limits) (e .cap)
 
 -- ---- sizes

@@ -1,7 +1,6 @@
 -- Document 02, W11: `shift_down` twice in one variable, by n and by m, equals one by n + m, n + m below the limit, for
 -- whole coefficients, no cap, where |A| is at most 2 ^ 53.
 use mathlib.Core.Path.{_≡_, refl, sym, ap, ap₂, _∙_}
-use mathlib.Core.Bool.{true}
 use mathlib.Core.List.{List}
 use Prim.Native.Nat.{ℕ, suc, _+_, _-_, _^_, _≤_, _<_}
 use native.Mathlib.Nat.{le-trans}
@@ -10,7 +9,6 @@ use lib.Dec.{eqb}
 use lib.ListN.{length, set, length-set}
 use lib.Seq.{set-set}
 use lib.IntN.{ℤ, _+ℤ_}
-use lib.Ieee.{eq}
 use borrow.Author.Tests.{eqb-false, ne-eqb}
 use Rattle.lists.specs.Test.{decide}
 use Rattle.lists.specs.Four.{at, four-same, at-same}
