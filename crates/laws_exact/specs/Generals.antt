@@ -54,7 +54,7 @@ module _ {l : List ℕ} {a : Block} {A : Series} (s : Sits l a) (p : Is l a A) w
 
   stores-of : (k : List ℕ) → length k ≡ 4 → Inside l k → Stores (a .lengths) k (a .places) A
   stores-of k f i = record {
-    known = λ j u.
+    known = λ j u w.
         let e : length j ≡ 4 = in-box-length u ∙ length-four in
         let o = inside-is (a .lengths) j (in-box-inside (a .lengths) length-four u) in
         rw (place-of-four (a .lengths) j length-four e) (stored-at a j (p .at j e (stored-under s o)) o);

@@ -18,7 +18,7 @@ use Rattle.model.specs.Header.{span}
 use Rattle.model.specs.Poly.{Block}
 use Rattle.model.specs.General.{lo, steps, alone, productAt}
 use Rattle.model_textbook.specs.Textbook.{Series, times}
-use Rattle.laws_whole.specs.Index.{InBox}
+use Rattle.laws_whole.specs.Index.{InBox, Within}
 use Rattle.laws_whole.specs.PlaceLaws.{boxPlace}
 use Rattle.laws_whole.specs.SeriesSizes.{sizes, abs-times}
 use Rattle.laws_whole.specs.Whole.{Whole}
@@ -45,7 +45,9 @@ module _ {r k : List ℕ} {a b : Block} (s : Sits r a) (t : Sits r b) (i : Insid
       → Stores (from ly n v) (from k n v) ys Q
       → {x : Float} {c : ℤ} → Whole x c → natAbs c + sizes P Q (from k n v) ≤ 2 ^ 53 → Whole (productAt lx ly r k n v xs ys x) (c +ℤ times P Q (from k n v))
   unfolding productAt from boxPlace
-  place-whole zero v e {P = P} {Q = Q} p q w h = rw (times-nil P Q) (mul-step w (p .known [] InBox.none) (q .known [] InBox.none) (rw (sizes-nil P Q) at h))
+  place-whole zero v e {P = P} {Q = Q} p q w h =
+      rw (times-nil P Q)
+      (mul-step w (p .known [] InBox.none Within.none) (q .known [] InBox.none Within.none) (rw (sizes-nil P Q) at h))
   place-whole (suc n) v e {xs} {ys} {P} {Q} p q w h =
       decide (alone r n v)
       (λ u.

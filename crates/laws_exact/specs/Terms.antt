@@ -22,16 +22,16 @@ use Rattle.laws_whole.specs.Int.{abs-mul}
 use Rattle.laws_whole.specs.SumLaws.{sum-same}
 use Rattle.laws_whole.specs.SumSizes.{sumN-le, sumN-part, abs-sumZ}
 use Rattle.laws_whole.specs.Index.{InBox, Within}
-use Rattle.laws_whole.specs.IndexLaws.{minus-within}
+use Rattle.laws_whole.specs.IndexLaws.{minus-within, within-self}
 use Rattle.laws_whole.specs.PlaceLaws.{boxCount, boxPlace}
 use Rattle.laws_whole.specs.SeriesSizes.{sizes}
 use Rattle.laws_whole.specs.Whole.{Whole, whole-zero}
 use Rattle.laws_whole.specs.Steps.{whole-walk, add-step, whole-products}
 use Rattle.laws_exact.specs.Windows.{sum-window, box-flat, minus-flat, place-flat, times-none, times-row, sizes-row}
 
--- at every index of the box ns the list xs holds P, and P is zero at every other index up to ks
+-- at every index of the box ns up to ks the list xs holds P, and P is zero at every other index up to ks
 pub record Stores (ns ks : List ℕ) (xs : List Float) (P : Series) : Type 0 where
-  pub known : (j : List ℕ) → InBox j ns → Whole (getD xs (boxPlace ns j) nan) (P j)
+  pub known : (j : List ℕ) → InBox j ns → Within j ks → Whole (getD xs (boxPlace ns j) nan) (P j)
   pub past : (j : List ℕ) → Within j ks → (InBox j ns → ⊥) → P j ≡ pos 0
 
 in-first : {i n : ℕ} {j ns : List ℕ} → InBox (i ∷ j) (n ∷ ns) → i < n
@@ -44,7 +44,7 @@ module _ {n k : ℕ} {ns ks : List ℕ} {xs : List Float} {P : Series} (s : Stor
   pub row-stores : (c : ℕ) → c ≡ boxCount ns → i < n → Stores ns ks (drop (i * c) xs) (λ j. P (i ∷ j))
   unfolding boxPlace
   row-stores c e l = record {
-    known = λ j u. rw (getD-drop (i * c) xs (boxPlace ns j) nan, e) (s .known (i ∷ j) (InBox.more l u));
+    known = λ j u w. rw (getD-drop (i * c) xs (boxPlace ns j) nan, e) (s .known (i ∷ j) (InBox.more l u) (Within.more le w));
     past = λ j w o. s .past (i ∷ j) (Within.more le w) (λ u. o (in-rest u));
   }
 
@@ -98,7 +98,7 @@ module _ {n m k : ℕ} {ns ms ks : List ℕ} {xs ys : List Float} {P Q : Series}
         let same : times P Q (k ∷ ks) ≡ sumZ E N L = times-window ∙ sum-same addZ _ E N L (λ j p q. flat-times j) in
         let size : sumN W N L ≤ sizes P Q (k ∷ ks) = le-trans (sumN-le W _ N L (λ j p q. le-of-eq (sym (flat-sizes j)))) sizes-window in
         let adds = whole-products (λ j. getD xs j nan) (λ j. getD ys (k - j) nan) (λ j. P (j ∷ ks)) (λ j. Q ((k - j) ∷ ks)) N L
-        (λ j p q. rw (at-x j) at (s .known (j ∷ ks) (InBox.more (omega arith) u)))
-        (λ j p q. rw (at-y (k - j)) at (t .known ((k - j) ∷ ks) (InBox.more (omega arith) v))) in
+        (λ j p q. rw (at-x j) at (s .known (j ∷ ks) (InBox.more (omega arith) u) (Within.more (omega arith) (within-self ks))))
+        (λ j p q. rw (at-y (k - j)) at (t .known ((k - j) ∷ ks) (InBox.more (omega arith) v) (Within.more (omega arith) (within-self ks)))) in
         let whole : Whole (line xs ys n m k) (sumZ E N L) = rw (← +ℤ-idl (sumZ E N L)) (whole-walk adds whole-zero (omega arith)) in
         rw same (add-step w whole (omega (arith, abs-sumZ E W N L (λ j p q. le-of-eq (abs-mul (P (j ∷ ks)) (Q ((k - j) ∷ ks)))))))

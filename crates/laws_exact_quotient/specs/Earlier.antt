@@ -4,6 +4,7 @@
 use mathlib.Core.Path.{_≡_}
 use mathlib.Core.List.{List, _∷_}
 use Prim.Native.Nat.{ℕ, _+_, _*_, _<_}
+use native.Mathlib.Nat.{le-refl}
 use native.Mathlib.Omega.{arith}
 use lib.Arith.{digits-lt}
 use lib.ListN.{getD, take, drop}
@@ -15,9 +16,9 @@ use Rattle.laws_whole.specs.PlaceLaws.{boxCount, boxPlace}
 use Rattle.laws_whole.specs.Whole.{Whole}
 use Rattle.laws_exact.specs.Terms.{Stores}
 
--- at every index of the box ns whose place lies before that of ks the list xs holds P
+-- at every index of the box ns up to ks whose place lies before that of ks the list xs holds P
 pub record Before (ns ks : List ℕ) (xs : List Float) (P : Series) : Type 0 where
-  pub known : (j : List ℕ) → InBox j ns → boxPlace ns j < boxPlace ns ks → Whole (getD xs (boxPlace ns j) nan) (P j)
+  pub known : (j : List ℕ) → InBox j ns → Within j ks → boxPlace ns j < boxPlace ns ks → Whole (getD xs (boxPlace ns j) nan) (P j)
 
 box-place-lt : {j ns : List ℕ} → InBox j ns → boxPlace ns j < boxCount ns
 unfolding boxPlace boxCount
@@ -34,10 +35,10 @@ module _ {n k : ℕ} {ns ks : List ℕ} {xs : List Float} {P : Series} (s : Befo
   pub row-before : (i : ℕ) → i < k → InBox ks ns → Stores ns ks (drop (i * c) (take (k * c) xs)) (λ j. P (i ∷ j))
   unfolding boxPlace
   row-before i l z = record {
-    known = λ j u.
+    known = λ j u w.
         let h : i * boxCount ns + boxPlace ns j < k * boxCount ns = digits-lt l (box-place-lt u) in
         rw (getD-drop (i * c) (take (k * c) xs) (boxPlace ns j) nan, e, getD-take (k * boxCount ns) xs (i * boxCount ns + boxPlace ns j) nan h)
-        (s .known (i ∷ j) (InBox.more (omega arith) u) (omega arith));
+        (s .known (i ∷ j) (InBox.more (omega arith) u) (Within.more (omega arith) w) (omega arith));
     past = λ j w o. absurd (o (within-in-box w z));
   }
 
@@ -45,5 +46,5 @@ module _ {n k : ℕ} {ns ks : List ℕ} {xs : List Float} {P : Series} (s : Befo
   pub row-own : Before ns ks (drop (k * c) xs) (λ j. P (k ∷ j))
   unfolding boxPlace
   row-own = record {
-    known = λ j u h. rw (getD-drop (k * c) xs (boxPlace ns j) nan, e) (s .known (k ∷ j) (InBox.more own u) (omega arith));
+    known = λ j u w h. rw (getD-drop (k * c) xs (boxPlace ns j) nan, e) (s .known (k ∷ j) (InBox.more own u) (Within.more (le-refl k) w) (omega arith));
   }

@@ -19,7 +19,7 @@ use Rattle.model.specs.General.{lo}
 use Rattle.model.specs.Quotient.{rowsBefore, taken, lessened, quotientAt}
 use Rattle.model_textbook.specs.Textbook.{Series, times}
 use Rattle.laws_whole.specs.Int.{neg-+ℤ-cancel, unit-back}
-use Rattle.laws_whole.specs.Index.{InBox}
+use Rattle.laws_whole.specs.Index.{InBox, Within}
 use Rattle.laws_whole.specs.PlaceLaws.{boxPlace}
 use Rattle.laws_whole.specs.SeriesSizes.{sizes, abs-times}
 use Rattle.laws_whole.specs.Whole.{Whole, whole-zero}
@@ -116,7 +116,7 @@ module _ {r k : List ℕ} {zs : List Float} {y : Block} (s : Sits r (block r zs)
   lessened-whole zero v e {P = P} {B = B} w z =
       let u = w .unit [] refl refl in
       rw (unit-back (P []) (B []) u) at
-      (whole-div (rw (times-nil P B) at z) (w .divisor .known [] InBox.none) u (rw (← times-nil P B) (le-trans (abs-times P B []) (w .room))))
+      (whole-div (rw (times-nil P B) at z) (w .divisor .known [] InBox.none Within.none) u (rw (← times-nil P B) (le-trans (abs-times P B []) (w .room))))
   lessened-whole (suc n) v e w z =
       let o = own-left n v e w in
       lessened-whole n (suc v) (omega arith) (further n v e w) (rw o at (whole-add (whole-neg (taken-whole n v e w)) z (rw o (own-small n v e w))))

@@ -83,13 +83,13 @@ module _ {l : List ℕ} {v : ℕ} {a b : Block} {x y : ℕ → ℤ} (g : Puts l 
   unfolding wide
   wide-weight k n d e = le-trans (made-weight (wide k) refl (rw (at-four (λ w. suc (at k w + p)) v (g .var)) (omega arith)) n d e) (g .bound)
 
-  small : (n d : ℕ) → n + d ≤ p → (k : List ℕ) → length k ≡ 4 → natAbs (made n d k) ≤ 2 ^ 53
+  pub small : (n d : ℕ) → n + d ≤ p → (k : List ℕ) → length k ≡ 4 → natAbs (made n d k) ≤ 2 ^ 53
   small n d e k f =
       let W : ℕ = weight (wide k) (made n d) in
       let up : W * 1 ≤ W * atLeastOne b y ^ n = mul-le-mul-left W (one-le-pow n (atLeastOne b y) (omega arith)) in
       le-trans (weight-at (made n d) (in-wide k f)) (omega (arith, mul-one W, wide-weight k n d e))
 
-  fits : (n d : ℕ) → suc n + d ≤ p → Fits l (made (suc n) d) B
+  pub fits : (n d : ℕ) → suc n + d ≤ p → Fits l (made (suc n) d) B
   unfolding wide
   fits n d e = record {
     at = λ k f i.
