@@ -1,9 +1,14 @@
-// The second placing of a recipe's values (document 02, W4): where each step's part begins, and how long the pool has
-// to be, in specs/. A crate needs a function: this one.
-ghost use mathlib.Core.Path.{_≡_};
+// The plain data of the second placing (document 02, W4). What it means is in specs/, and no laws.
+use model::Refusal;
 
-pub fn same(x: f64) -> f64
-    ensures { λ r. ⌜ r ≡ x ⌝ }
-{
-    x
+// A recipe may be run over a pool in which parts are used again, and this is what it takes: the length of the pool, the
+// largest announced step count, the input coefficient total; and where the last step's value begins.
+pub enum ReuseAnswer {
+    Accepted {
+        pool: usize,
+        largest: usize,
+        inputs: usize,
+        last: usize,
+    },
+    Refused(Refusal),
 }

@@ -2,12 +2,13 @@
 -- last value is what the first placing has. Of either edition.
 use Prim.Native.Nat.{ℕ, zero, suc, _+_, _*_, _≤_, _<_}
 use mathlib.Core.Bool.{true}
-use mathlib.Core.List.{List, [], _∷_, _++_}
-use mathlib.Core.Path.{_≡_, refl, sym, _∙_}
+use mathlib.Core.List.{List, [], _∷_, _++_, map}
+use mathlib.Core.Path.{_≡_, refl, sym, ap, _∙_}
 use native.Mathlib.Omega.{arith}
 use native.Mathlib.Nat.{le-refl}
 use lib.ListN.{length, getD, take, drop}
 use lib.Ieee.{Float}
+use Rattle.lists.specs.Part.{part}
 use Rattle.model.specs.declared.Header.{Header}
 use Rattle.model.specs.Header.{stored}
 use Rattle.model.specs.Refusals.{padded}
@@ -15,7 +16,8 @@ use Rattle.model.specs.Poly.{Poly}
 use Rattle.model_recipes.specs.Recipe.{Recipe, headAt, inputHeads, announcedSteps, total, largest}
 use Rattle.model_recipes.specs.Check.{checkRefusal}
 use Rattle.model_recipes.specs.Run.{valueAt, laid, stepValues}
-use Rattle.model_placing.specs.Placing.{reads, stepReaders, stepCounts}
+use Rattle.model_placing.specs.Placing.{reads, stepReaders, stepCounts, stepOffsets, poolNeeded, lastOffset}
+use Rattle.model_placing.specs.Reuse.{lastStep, lastCount, ReusedPool}
 use Rattle.recipes_laws.specs.Ahead.{length-announced}
 use Rattle.recipes_laws.specs.Values.{follows-all}
 use Rattle.recipes_laws.specs.Buffers.{steps-fit}
@@ -36,6 +38,12 @@ part-is [] vs e i l = absurd (omega arith)
 part-is (h ∷ known) [] e i l = absurd (omega arith)
 part-is (h ∷ known) (v ∷ vs) e zero l = refl
 part-is (h ∷ known) (v ∷ vs) e (suc i) l = part-is known vs (omega arith) i (omega arith)
+
+-- the count of a step
+count-at : (known : List Header) (j : ℕ) → j < length known → getD (map stored known) j 0 ≡ stored (headAt known j)
+count-at [] j l = absurd (omega arith)
+count-at (h ∷ known) zero l = refl
+count-at (h ∷ known) (suc j) l = count-at known j (omega arith)
 
 -- cs the inputs' coefficients
 module _ (it : Recipe) (cs : List Float) where
@@ -69,3 +77,18 @@ module _ (it : Recipe) (cs : List Float) where
         s .latest j e
         ∙ (part-is (announcedSteps it) (stepValues it cs) (fits .same) j l
         ∙ sym (laid-at (announcedSteps it) (stepValues it cs) rest fits j l))
+
+    -- where all steps have written and nothing behind the length was touched, the pool is as such a run has to leave it
+    pub stands-reused : (pool : List Float) {pool' : List Float} → 1 ≤ length (it .steps) → Stands (length (it .steps)) pool'
+        → length pool' ≡ length pool → drop (poolNeeded it) pool' ≡ drop (poolNeeded it) pool → ReusedPool it cs pool pool'
+    unfolding lastOffset stepOffsets stepCounts
+    stands-reused pool {pool'} o s len rest =
+        let l : lastStep it < length (announcedSteps it) = omega (arith, length-announced it) in
+        let c : getD (map stored (announcedSteps it)) (lastStep it) 0 ≡ lastCount it = count-at (announcedSteps it) (lastStep it) l in
+        record {
+          len = len;
+          last =
+              ap (λ (k : ℕ). part (lastOffset it) (lastOffset it + k) pool') (sym c)
+              ∙ (s .latest (lastStep it) (omega arith) ∙ part-is (announcedSteps it) (stepValues it cs) (fits .same) (lastStep it) l);
+          rest = rest;
+        }
