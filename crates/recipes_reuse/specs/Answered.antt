@@ -1,4 +1,5 @@
--- The answer of the second check, from its refusal and the words that the places announce.
+-- The answer of the second check, from its refusal and the words that the places announce; and that its promise admits
+-- one.
 use Prim.Native.Nat.{ℕ, _-_, _≤_}
 use mathlib.Core.List.{List, map}
 use mathlib.Core.Path.{_≡_, sym, ap, _∙_}
@@ -11,11 +12,16 @@ use Rattle.model.specs.Header.{stored}
 use Rattle.model.specs.Word.{headerOf}
 use Rattle.model_recipes.specs.Recipe.{Recipe, inputHeads, announcedSteps, total, largest}
 use Rattle.model_recipes.specs.Check.{checkRefusal}
+use Rattle.model_placing.specs.declared.ReuseAnswer.{ReuseAnswer}
 use Rattle.model_placing.specs.declared.ReuseAnswer.the-variants.{Accepted, Refused}
 use Rattle.model_placing.specs.Placing.{lastReaders, offsets, needed, stepReaders, stepCounts, stepOffsets, poolNeeded, lastOffset}
-use Rattle.model_placing.specs.Reuse.{reuseBy, checkReuseAnswer}
+use Rattle.model_placing.specs.Reuse.{reuseBy, checkReuseAnswer, CheckReusePromise}
 use Rattle.recipes_placing.specs.Placed.{length-offsets}
 use Rattle.recipes_placing.specs.Counted.{countsOf, length-counts}
+
+-- two answers that keep the promise are equal
+pub check-reuse-once : (it : Recipe) {r1 r2 : ReuseAnswer} → CheckReusePromise it r1 → CheckReusePromise it r2 → r1 ≡ r2
+check-reuse-once it p q = p ∙ sym q
 
 pub reuse-no : (it : Recipe) {r : Refusal} → r ≡ checkRefusal it → (r .number ≡ 0 → ⊥) → Refused r ≡ checkReuseAnswer it
 unfolding checkReuseAnswer reuseBy
