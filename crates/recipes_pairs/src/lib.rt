@@ -6,7 +6,7 @@ use shape_words::places::count_of;
 ghost use mathlib.Core.Path.{_≡_};
 ghost use mathlib.Core.Bool.{_||_};
 ghost use Prim.Native.Nat.{_+_, _*_, _≤_};
-ghost use lib.ListN.{length, take};
+ghost use lib.ListN.{length};
 ghost use Rattle.lists.specs.Part.{Kept};
 ghost use Rattle.model.specs.Header.{stored};
 ghost use Rattle.model.specs.Limits.{cutTo};
@@ -16,7 +16,7 @@ ghost use Rattle.model.specs.Product.{isZero};
 ghost use Rattle.shape_words.specs.Rules.{Ruled};
 ghost use Rattle.blocks.specs.Two.{Two, Holds, cutPlaces};
 ghost use Rattle.product.specs.Room.{Stands};
-ghost use Rattle.shape_operands.specs.Lent.{source, lying, Lies, Lent};
+ghost use Rattle.shape_operands.specs.Lent.{source, lying, Aside, Lent};
 ghost use Rattle.recipes_pairs.specs.Pair.{pairOf, pairPoly, leftIn, rightIn, Pairing};
 
 // Both operands into the work, cut to the limits: one at its front, the other from n on. Answers whether one of them,
@@ -116,14 +116,14 @@ pub fn pair_to(
     at: usize,
     scratch: &mut [f64],
 ) -> Header
-    requires { ⌜ Pairing kind x y h n ⌝ ∗ ⌜ Lies x xi xf at (length (now coefficients)) ⌝
-        ∗ ⌜ Lies y yi yf at (length (now coefficients)) ⌝ ∗ ⌜ Lent n at (length (now pool)) (length (now scratch)) ⌝ }
-    ensures head { λ r. ⌜ r ≡ pairPoly kind (lying xi (now (coefficients .entry)) (take at (now (pool .entry))) xf x)
-        (lying yi (now (coefficients .entry)) (take at (now (pool .entry))) yf y) .head ⌝ }
+    requires { ⌜ Pairing kind x y h n ⌝ ∗ ⌜ Aside x xi xf at n (length (now coefficients)) (length (now pool)) ⌝
+        ∗ ⌜ Aside y yi yf at n (length (now coefficients)) (length (now pool)) ⌝ ∗ ⌜ Lent n at (length (now pool)) (length (now scratch)) ⌝ }
+    ensures head { λ r. ⌜ r ≡ pairPoly kind (lying xi (now (coefficients .entry)) (now (pool .entry)) xf x)
+        (lying yi (now (coefficients .entry)) (now (pool .entry)) yf y) .head ⌝ }
     ensures kept { λ r.
         ⌜ Kept at (at + n)
-        (padded n (pairPoly kind (lying xi (now (coefficients .entry)) (take at (now (pool .entry))) xf x)
-        (lying yi (now (coefficients .entry)) (take at (now (pool .entry))) yf y) .coeffs))
+        (padded n (pairPoly kind (lying xi (now (coefficients .entry)) (now (pool .entry)) xf x)
+        (lying yi (now (coefficients .entry)) (now (pool .entry)) yf y) .coeffs))
         (now (pool .entry)) (now (pool .exit)) ⌝ }
     ensures spent { λ _. ⌜ length (now (scratch .exit)) ≡ length (now (scratch .entry)) ⌝ }
 {
@@ -139,7 +139,7 @@ pub fn pair_to(
         limits,
         n,
         coefficients,
-        &pool[..at],
+        pool,
         &mut scratch[..room],
     );
     let end = at + n;

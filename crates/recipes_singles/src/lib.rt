@@ -4,7 +4,7 @@ use gates::stored_of;
 use model::Header;
 ghost use mathlib.Core.Path.{_≡_};
 ghost use Prim.Native.Nat.{_+_, _*_, _≤_, _<_};
-ghost use lib.ListN.{length, take};
+ghost use lib.ListN.{length};
 ghost use Rattle.lists.specs.Part.{Kept};
 ghost use Rattle.model.specs.Header.{stored};
 ghost use Rattle.model.specs.Refusals.{padded};
@@ -13,7 +13,7 @@ ghost use Rattle.model.specs.Power.{powerPoly};
 ghost use Rattle.model_exponential.specs.Step.{exponentialPoly};
 ghost use Rattle.shape_words.specs.Rules.{Ruled};
 ghost use Rattle.power.specs.Room.{Loaded};
-ghost use Rattle.shape_operands.specs.Lent.{source, lying, Lies, Lent};
+ghost use Rattle.shape_operands.specs.Lent.{source, lying, Aside, Lent};
 ghost use Rattle.recipes_singles.specs.Change.{changedPoly, Changing};
 ghost use Rattle.recipes_singles.specs.Power.{Powering};
 ghost use Rattle.recipes_singles.specs.Exponential.{Exponential};
@@ -82,12 +82,12 @@ pub fn change_to(
     at: usize,
     scratch: &mut [f64],
 ) -> Header
-    requires { ⌜ Changing kind v d x h (stored x) n ⌝ ∗ ⌜ Lies x input from at (length (now coefficients)) ⌝
+    requires { ⌜ Changing kind v d x h (stored x) n ⌝ ∗ ⌜ Aside x input from at n (length (now coefficients)) (length (now pool)) ⌝
         ∗ ⌜ Lent n at (length (now pool)) (length (now scratch)) ⌝ }
-    ensures head { λ r. ⌜ r ≡ changedPoly kind v d (lying input (now (coefficients .entry)) (take at (now (pool .entry))) from x) .head ⌝ }
+    ensures head { λ r. ⌜ r ≡ changedPoly kind v d (lying input (now (coefficients .entry)) (now (pool .entry)) from x) .head ⌝ }
     ensures kept { λ r.
         ⌜ Kept at (at + n)
-        (padded n (changedPoly kind v d (lying input (now (coefficients .entry)) (take at (now (pool .entry))) from x)
+        (padded n (changedPoly kind v d (lying input (now (coefficients .entry)) (now (pool .entry)) from x)
         .coeffs)) (now (pool .entry)) (now (pool .exit)) ⌝ }
     ensures spent { λ _. ⌜ length (now (scratch .exit)) ≡ length (now (scratch .entry)) ⌝ }
 {
@@ -100,7 +100,7 @@ pub fn change_to(
         from,
         h,
         coefficients,
-        &pool[..at],
+        pool,
         &mut scratch[..n],
     );
     product::kernel::keep(scratch, n, pool, at);
@@ -138,26 +138,19 @@ pub fn power_to(
     at: usize,
     scratch: &mut [f64],
 ) -> Header
-    requires { ⌜ Powering e x h n ⌝ ∗ ⌜ Lies x input from at (length (now coefficients)) ⌝ ∗ ⌜ Lent n at (length (now pool)) (length (now scratch)) ⌝ }
-    ensures head { λ r. ⌜ r ≡ powerPoly e (lying input (now (coefficients .entry)) (take at (now (pool .entry))) from x) .head ⌝ }
+    requires { ⌜ Powering e x h n ⌝ ∗ ⌜ Aside x input from at n (length (now coefficients)) (length (now pool)) ⌝
+        ∗ ⌜ Lent n at (length (now pool)) (length (now scratch)) ⌝ }
+    ensures head { λ r. ⌜ r ≡ powerPoly e (lying input (now (coefficients .entry)) (now (pool .entry)) from x) .head ⌝ }
     ensures kept { λ r.
         ⌜ Kept at (at + n)
-        (padded n (powerPoly e (lying input (now (coefficients .entry)) (take at (now (pool .entry))) from x) .coeffs))
+        (padded n (powerPoly e (lying input (now (coefficients .entry)) (now (pool .entry)) from x) .coeffs))
         (now (pool .entry)) (now (pool .exit)) ⌝ }
     ensures spent { λ _. ⌜ length (now (scratch .exit)) ≡ length (now (scratch .entry)) ⌝ }
 {
     let limits = h.limits;
     let la = x.lengths;
     let room = 8 * n;
-    load_base(
-        e,
-        x,
-        input,
-        from,
-        coefficients,
-        &pool[..at],
-        &mut scratch[..room],
-    );
+    load_base(e, x, input, from, coefficients, pool, &mut scratch[..room]);
     let end = at + n;
     let r = power::kernel::power_loaded(&mut scratch[..room], la, e, limits, n, &mut pool[at..end]);
     Header::with_lengths(h, r)
@@ -208,11 +201,12 @@ pub fn exp_to(
     at: usize,
     scratch: &mut [f64],
 ) -> Header
-    requires { ⌜ Exponential x h n ⌝ ∗ ⌜ Lies x input from at (length (now coefficients)) ⌝ ∗ ⌜ Lent n at (length (now pool)) (length (now scratch)) ⌝ }
-    ensures head { λ r. ⌜ r ≡ exponentialPoly (lying input (now (coefficients .entry)) (take at (now (pool .entry))) from x) .head ⌝ }
+    requires { ⌜ Exponential x h n ⌝ ∗ ⌜ Aside x input from at n (length (now coefficients)) (length (now pool)) ⌝
+        ∗ ⌜ Lent n at (length (now pool)) (length (now scratch)) ⌝ }
+    ensures head { λ r. ⌜ r ≡ exponentialPoly (lying input (now (coefficients .entry)) (now (pool .entry)) from x) .head ⌝ }
     ensures kept { λ r.
         ⌜ Kept at (at + n)
-        (padded n (exponentialPoly (lying input (now (coefficients .entry)) (take at (now (pool .entry))) from x) .coeffs))
+        (padded n (exponentialPoly (lying input (now (coefficients .entry)) (now (pool .entry)) from x) .coeffs))
         (now (pool .entry)) (now (pool .exit)) ⌝ }
     ensures spent { λ _. ⌜ length (now (scratch .exit)) ≡ length (now (scratch .entry)) ⌝ }
 {
@@ -225,7 +219,7 @@ pub fn exp_to(
         h,
         n,
         coefficients,
-        &pool[..at],
+        pool,
         &mut value[..n],
         &mut scratch[..room],
     );

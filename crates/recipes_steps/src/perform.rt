@@ -17,6 +17,7 @@ ghost use Rattle.model.specs.Constructed.{wholeF};
 ghost use Rattle.model.specs.Refusals.{padded};
 ghost use Rattle.shape_operands.specs.Lent.{lying, Lent};
 ghost use Rattle.recipes_steps.specs.Ready.{valueOf, Placed, Ready, Making};
+ghost use Rattle.recipes_steps.specs.Beside.{Beside};
 
 // A constant to the pool at the place `at`, then +0.0 up to `room` places.
 pub fn constant_to(n: u32, pool: &mut [f64], at: usize, room: usize)
@@ -44,13 +45,14 @@ fn value_to(
     at: usize,
     scratch: &mut [f64],
 ) -> Header
-    requires { ⌜ Making s x y h n ⌝ ∗ ⌜ Placed x xi xf y yi yf at (length (now coefficients)) ⌝ ∗ ⌜ Lent n at (length (now pool)) (length (now scratch)) ⌝ }
-    ensures head { λ r. ⌜ r ≡ valueOf s (lying xi (now (coefficients .entry)) (take at (now (pool .entry))) xf x)
-        (lying yi (now (coefficients .entry)) (take at (now (pool .entry))) yf y) .head ⌝ }
+    requires { ⌜ Making s x y h n ⌝ ∗ ⌜ Beside x xi xf y yi yf at n (length (now coefficients)) (length (now pool)) ⌝
+        ∗ ⌜ Lent n at (length (now pool)) (length (now scratch)) ⌝ }
+    ensures head { λ r. ⌜ r ≡ valueOf s (lying xi (now (coefficients .entry)) (now (pool .entry)) xf x)
+        (lying yi (now (coefficients .entry)) (now (pool .entry)) yf y) .head ⌝ }
     ensures kept { λ r.
         ⌜ Kept at (at + n)
-        (padded n (valueOf s (lying xi (now (coefficients .entry)) (take at (now (pool .entry))) xf x)
-        (lying yi (now (coefficients .entry)) (take at (now (pool .entry))) yf y) .coeffs))
+        (padded n (valueOf s (lying xi (now (coefficients .entry)) (now (pool .entry)) xf x)
+        (lying yi (now (coefficients .entry)) (now (pool .entry)) yf y) .coeffs))
         (now (pool .entry)) (now (pool .exit)) ⌝ }
     ensures spent { λ _. ⌜ length (now (scratch .exit)) ≡ length (now (scratch .entry)) ⌝ }
 {
@@ -121,7 +123,57 @@ fn value_to(
 }
 
 // The value of such a step to the pool, then +0.0 up to `room` places; answers its header word. The operands have the
-// header words xw and yw.
+// header words xw and yw; those that lie in the pool do not overlap the part that is written.
+pub fn perform_beside(
+    s: Step,
+    xw: u64,
+    xi: bool,
+    xf: usize,
+    yw: u64,
+    yi: bool,
+    yf: usize,
+    coefficients: &[f64],
+    pool: &mut [f64],
+    at: usize,
+    room: usize,
+    scratch: &mut [f64],
+) -> u64
+    requires { ⌜ Ready s (headerOf xw) (headerOf yw) room ⌝
+        ∗ ⌜ Beside (headerOf xw) xi xf (headerOf yw) yi yf at room (length (now coefficients)) (length (now pool)) ⌝
+        ∗ ⌜ Lent room at (length (now pool)) (length (now scratch)) ⌝ }
+    ensures word { λ r.
+        ⌜ r ≡ wordOf (valueOf s (lying xi (now (coefficients .entry)) (now (pool .entry)) xf (headerOf xw))
+        (lying yi (now (coefficients .entry)) (now (pool .entry)) yf (headerOf yw)) .head) ⌝ }
+    ensures kept { λ r. ⌜ Kept at (at + room)
+        (padded room (valueOf s (lying xi (now (coefficients .entry)) (now (pool .entry)) xf (headerOf xw))
+        (lying yi (now (coefficients .entry)) (now (pool .entry)) yf (headerOf yw)) .coeffs))
+        (now (pool .entry)) (now (pool .exit)) ⌝ }
+    ensures spent { λ _. ⌜ length (now (scratch .exit)) ≡ length (now (scratch .entry)) ⌝ }
+{
+    let x = header_of(xw);
+    let y = header_of(yw);
+    let h = announced_of(family_of(0, s), x, y);
+    let n = stored_of(h);
+    let r = value_to(
+        s,
+        x,
+        xi,
+        xf,
+        y,
+        yi,
+        yf,
+        h,
+        n,
+        coefficients,
+        pool,
+        at,
+        scratch,
+    );
+    shape_operands::pad(pool, at + n, at + room);
+    pack(r)
+}
+
+// The same of operands that lie before that part.
 pub fn perform(
     s: Step,
     xw: u64,
@@ -148,25 +200,18 @@ pub fn perform(
         (now (pool .entry)) (now (pool .exit)) ⌝ }
     ensures spent { λ _. ⌜ length (now (scratch .exit)) ≡ length (now (scratch .entry)) ⌝ }
 {
-    let x = header_of(xw);
-    let y = header_of(yw);
-    let h = announced_of(family_of(0, s), x, y);
-    let n = stored_of(h);
-    let r = value_to(
+    perform_beside(
         s,
-        x,
+        xw,
         xi,
         xf,
-        y,
+        yw,
         yi,
         yf,
-        h,
-        n,
         coefficients,
         pool,
         at,
+        room,
         scratch,
-    );
-    shape_operands::pad(pool, at + n, at + room);
-    pack(r)
+    )
 }

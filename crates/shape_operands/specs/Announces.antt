@@ -14,8 +14,8 @@ use Rattle.shape_words.specs.Rules.{Good}
 use Rattle.gates.specs.declared.Opened.{Opened}
 use Rattle.gates.specs.Open.{Opens, told-by, opened-ready, opened-fits}
 use Rattle.shape_operands.specs.declared.Operand.{Operand}
-use Rattle.shape_operands.specs.Lent.{Lent}
-use Rattle.shape_operands.specs.Operand.{taken, LiesAt}
+use Rattle.shape_operands.specs.Lent.{Lent, given-aside}
+use Rattle.shape_operands.specs.Operand.{taken, AsideAt}
 
 -- x and y the operands' headers, h the announced one of an operation of the family f, n its count
 pub record Announces (f : Family) (x y h : Header) (n : ℕ) : Type 0 where
@@ -37,11 +37,11 @@ module _ {f : Family} {w m u l n s : ℕ} {r : Opened} (o : Opens f w m u l n s 
       let g = opened-ready o z in
       record { left = rw (t .left) (g .good-a); right = rw (t .right) (g .good-b); is = told-by f t; most = rw (t .told) (g .announced .most); all = t .count }
 
-  pub opened-left : LiesAt (given (r .a) (r .na)) 0 m
-  opened-left = let e = o .tells z .count-a in record { full = e; lies = record { ends = omega (arith, e, opened-fits o z .0) } }
+  pub opened-left : {i mp : ℕ} → AsideAt (given (r .a) (r .na)) 0 i m mp
+  opened-left = let e = o .tells z .count-a in record { full = e; aside = given-aside (omega (arith, e, opened-fits o z .0)) }
 
-  pub opened-right : LiesAt (given (r .b) (r .nb)) 0 l
-  opened-right = let e = o .tells z .count-b in record { full = e; lies = record { ends = omega (arith, e, opened-fits o z .1) } }
+  pub opened-right : {i mp : ℕ} → AsideAt (given (r .b) (r .nb)) 0 i l mp
+  opened-right = let e = o .tells z .count-b in record { full = e; aside = given-aside (omega (arith, e, opened-fits o z .1)) }
 
   pub opened-lent : {k : ℕ} → k ≡ 8 * r .n → Lent (r .n) 0 n k
   opened-lent e =

@@ -4,6 +4,7 @@ use Prim.Native.Nat.{ℕ, zero, suc, _+_, _-_, _*_, _≤_}
 use mathlib.Core.List.{List, [], _∷_, _++_, append-assoc, append-nil}
 use mathlib.Core.Bool.{Bool, true, false, cond}
 use mathlib.Core.Path.{_≡_, refl, sym, ap, _∙_}
+use mathlib.Core.Logic.{inr}
 use native.Mathlib.Omega.{arith}
 use native.Mathlib.Nat.{add-zero, add-suc}
 use lib.ListN.{length, take, drop, length-take, length-drop}
@@ -11,11 +12,12 @@ use lib.Seq.{take-add, take-all, take-at, take-take, drop-drop}
 use lib.Ieee.{Float}
 use borrow.Rule.Slice.PartMut.{putMid}
 use Rattle.lists.specs.Table.{table, length-table}
-use Rattle.lists.specs.Part.{part, below-less, below-then, below-part, Kept, kept-mid}
+use Rattle.lists.specs.Part.{part, below-less, below-then, below-part, drop-take, Kept, kept-mid}
 use Rattle.model.specs.declared.Header.{Header}
 use Rattle.model.specs.Header.{stored}
 use Rattle.model.specs.Refusals.{zeroF, zeros, padded}
 use Rattle.model.specs.Poly.{Poly, poly}
+use Rattle.shape_operands.specs.Apart.{Apart, apart-fewer}
 
 -- where a value lies: among the inputs' coefficients, or in the pool
 abbrev pub source : Bool → List Float → List Float → List Float
@@ -28,6 +30,12 @@ lying input cs pool from h = poly h (take (stored h) (drop from (source input cs
 -- an operand with the header x, which lies before the place `at` where it lies in the pool
 pub record Lies (x : Header) (input : Bool) (from at mc : ℕ) : Type 0 where
   pub ends : from + stored x ≤ cond input mc at
+
+-- an operand with the header x: its places are there, and where it lies in the pool they do not overlap the n places
+-- from `at` on, which are written
+pub record Aside (x : Header) (input : Bool) (from at n mc mp : ℕ) : Type 0 where
+  pub ends : from + stored x ≤ cond input mc mp
+  pub apart : input ≡ false → Apart at n from (stored x)
 
 -- n places of the pool from `at` on, and eight times as many of scratch
 pub record Lent (n at mp ms : ℕ) : Type 0 where
@@ -44,6 +52,37 @@ pub lies-source : {x : Header} {input : Bool} {from at : ℕ} (cs before : List 
     → length before ≡ at → from + stored x ≤ length (source input cs before)
 lies-source {x} {input} {from} cs before h e =
     rw (length-source input cs before, e) (h .ends)
+
+-- the operand's places, read off the whole pool
+pub aside-source : {x : Header} {input : Bool} {from at n : ℕ} (cs pool : List Float) → Aside x input from at n (length cs) (length pool)
+    → from + stored x ≤ length (source input cs pool)
+aside-source {input = input} cs pool h = rw (length-source input cs pool) (h .ends)
+
+-- fewer places are written
+pub aside-fewer : {x : Header} {input : Bool} {from at n m mc mp : ℕ} → Aside x input from at n mc mp → m ≤ n → Aside x input from at m mc mp
+aside-fewer h l = record { ends = h .ends; apart = λ e. apart-fewer (h .apart e) l }
+
+no : true ≡ false → ⊥
+no e = let z : _≡_ {A = ℕ} 0 1 = cc in omega arith
+
+-- an operand that is given
+pub given-aside : {x : Header} {from at n mc mp : ℕ} → from + stored x ≤ mc → Aside x true from at n mc mp
+given-aside h = record { ends = h; apart = λ e. absurd (no e) }
+
+-- an operand that lies before the place `at`
+module _ {x : Header} {from at : ℕ} where
+  pub before-aside : (input : Bool) {mc mp : ℕ} (n : ℕ) → Lies x input from at mc → at ≤ mp → Aside x input from at n mc mp
+  before-aside true n h l = given-aside (h .ends)
+  before-aside false n h l = record { ends = omega (arith, h .ends); apart = λ e. record { either = inr (h .ends) } }
+
+  -- .. is the same there
+  pub lying-before : (input : Bool) (cs pool : List Float) → Lies x input from at (length cs)
+      → lying input cs (take at pool) from x ≡ lying input cs pool from x
+  lying-before true cs pool h = refl
+  lying-before false cs pool h =
+      let e : at ≡ from + (at - from) = omega (arith, h .ends) in
+      ap (poly x) (ap (λ (z : ℕ). take (stored x) (drop from (take z pool))) e
+      ∙ (ap (take (stored x)) (drop-take from (at - from) pool) ∙ take-take (stored x) (at - from) (drop from pool) (omega (arith, h .ends))))
 
 -- what `operand` shows, by where the value lies
 module _ {input : Bool} (cs pool : List Float) where

@@ -1,3 +1,4 @@
+pub mod Apart
 pub mod Lent
 pub mod Operand
 pub mod Announces

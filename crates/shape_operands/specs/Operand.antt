@@ -10,7 +10,7 @@ use Rattle.model.specs.Header.{stored}
 use Rattle.model.specs.Poly.{Poly}
 use Rattle.lists.specs.Part.{Kept}
 use Rattle.shape_operands.specs.declared.Operand.{Operand}
-use Rattle.shape_operands.specs.Lent.{source, lying, Lies, lies-source, length-operand}
+use Rattle.shape_operands.specs.Lent.{source, lying, Aside, aside-source, length-operand}
 
 -- the value with the operand's header that lies where the operand says
 abbrev pub taken : Operand → List Float → List Float → Poly
@@ -20,17 +20,18 @@ pub record Within (p : Operand) (given before : List Float) : Type 0 where
   pub full : p .count ≡ stored (p .head)
   pub ends : p .from + stored (p .head) ≤ length (source (p .input) given before)
 
--- it lies before the place `at` where it is not given; mg the length of what is given
-pub record LiesAt (p : Operand) (at mg : ℕ) : Type 0 where
+-- it does not overlap the n places from `at` on where it is not given; mg and mp the lengths of what is given and of
+-- the buffer
+pub record AsideAt (p : Operand) (at n mg mp : ℕ) : Type 0 where
   pub full : p .count ≡ stored (p .head)
-  pub lies : Lies (p .head) (p .input) (p .from) at mg
+  pub aside : Aside (p .head) (p .input) (p .from) at n mg mp
 
-pub lies-within : {p : Operand} {at : ℕ} (given before : List Float) → LiesAt p at (length given) → length before ≡ at → Within p given before
-lies-within given before h e = record { full = h .full; ends = lies-source given before (h .lies) e }
+pub aside-within : {p : Operand} {at n : ℕ} (given buffer : List Float) → AsideAt p at n (length given) (length buffer) → Within p given buffer
+aside-within given buffer h = record { full = h .full; ends = aside-source given buffer (h .aside) }
 
 -- one that is given is so whatever the buffer holds
-pub given-within : {p : Operand} {at : ℕ} (given before : List Float) → LiesAt p at (length given) → p .input ≡ true → Within p given before
-given-within given before h e = record { full = h .full; ends = rw e (rw e at (h .lies .ends)) }
+pub given-within : {p : Operand} {at n mp : ℕ} (given before : List Float) → AsideAt p at n (length given) mp → p .input ≡ true → Within p given before
+given-within given before h e = record { full = h .full; ends = rw e (rw e at (h .aside .ends)) }
 
 module _ {p : Operand} {given before : List Float} (w : Within p given before) where
   pub within-full : length (taken p given before .coeffs) ≡ stored (p .head)

@@ -1,5 +1,6 @@
 // Where the operands of an operation lie: each among coefficients that are given, or in the buffer that the result goes
-// to, before the result's own part. A call's operands are given; a step's are inputs, or values of earlier steps.
+// to, where it overlaps no place that is written. A call's operands are given; a step's are inputs, or values of
+// earlier steps.
 use model::Header;
 ghost use mathlib.Core.Path.{_≡_};
 ghost use Prim.Native.Nat.{_+_, _-_, _≤_};
@@ -17,7 +18,7 @@ pub struct Operand {
     pub from: usize,
 }
 
-// So many coefficients from `from` on, of those given or of the buffer's part before the result.
+// So many coefficients from `from` on, of those given or of the buffer that the result goes to.
 pub fn stretch<'a>(
     input: bool,
     coefficients: &'a [f64],

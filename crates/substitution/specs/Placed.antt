@@ -5,7 +5,7 @@ use mathlib.Core.Path.{_≡_, refl, sym, ap, _∙_}
 use mathlib.Core.Bool.{true, false, cond}
 use native.Mathlib.Omega.{arith}
 use lib.Dec.{eqb}
-use lib.ListN.{length, take, set}
+use lib.ListN.{length, take, drop, set}
 use lib.Ieee.{Float}
 use borrow.Author.Tests.{eq-eqb, ne-eqb, eqb-true, eqb-false}
 use Rattle.lists.specs.Test.{decide}
@@ -33,7 +33,8 @@ use Rattle.substitution.specs.Horner.{Runs, valueIn, putIn, runs-end, ru
 use Rattle.substitution.specs.Entry.{given-same, given-puts, poly-is, into-lens, into-full, into-small}
 use Rattle.shape_operands.specs.declared.Operand.{Operand}
 use Rattle.shape_operands.specs.Lent.{kept-as, kept-over}
-use Rattle.shape_operands.specs.Operand.{taken}
+use Rattle.shape_operands.specs.Apart.{kept-apart}
+use Rattle.shape_operands.specs.Operand.{taken, AsideAt}
 use Rattle.shape_operands.specs.Announces.{Announces}
 
 pub substituting-given : {v : ℕ} {x y h : Header} {n mw : ℕ} → Announces (Substitution v) x y h n → mw ≡ 8 * n → Given x y h v n (stored x) (stored y) n mw
@@ -159,13 +160,19 @@ module _ (h : Header) {m : Block} {v : Poly} (e : polyOf h m ≡ v) {at n : ℕ}
 
 -- ---- an operand, while the part is written
 
--- an operand that lies before the part is the same
-pub same-operand : (p : Operand) (given : List Float) {m m' : List Float} → m' ≡ m → taken p given m' .coeffs ≡ taken p given m .coeffs
-same-operand p given e = ap (λ (l : List Float). taken p given l .coeffs) e
-
--- and so is one that is given, whatever lies there
+-- one that is given is the same, whatever lies there
 pub given-operand : (p : Operand) (given m m' : List Float) → p .input ≡ true → taken p given m' .coeffs ≡ taken p given m .coeffs
 given-operand p given m m' e = rw e
+
+-- and so is one that does not overlap the part
+pub same-operand : (p : Operand) (given : List Float) {at n mg mp : ℕ} {xs m m' : List Float} → AsideAt p at n mg mp → Kept at (at + n) xs m m'
+    → taken p given m' .coeffs ≡ taken p given m .coeffs
+same-operand p given {m = m} {m' = m'} a k =
+    decide (p .input) (λ e. given-operand p given m m' e)
+    (λ e.
+    let z : p .from + stored (p .head) - p .from ≡ stored (p .head) = omega arith in
+    let q : part (p .from) (p .from + stored (p .head)) m' ≡ part (p .from) (p .from + stored (p .head)) m = kept-apart (a .aside .apart e) k in
+    rw e (ap (λ (j : ℕ). take j (drop (p .from) m')) (sym z) ∙ (q ∙ ap (λ (j : ℕ). take j (drop (p .from) m)) z)))
 
 -- ---- Horner's rule, whose running value stands in that part: u was the buffer, w is it
 

@@ -29,7 +29,7 @@ ghost use Rattle.blocks.specs.Rows.{Cutting};
 ghost use Rattle.blocks.specs.Two.{cutPlaces};
 ghost use Rattle.readings_row.specs.Rows.{Picking};
 ghost use Rattle.shape_operands.specs.Lent.{Lent};
-ghost use Rattle.shape_operands.specs.Operand.{taken, Within, LiesAt};
+ghost use Rattle.shape_operands.specs.Operand.{taken, Within, AsideAt};
 ghost use Rattle.shape_operands.specs.Announces.{Announces};
 ghost use Rattle.product.specs.Room.{Put, Stands};
 ghost use Rattle.substitution_way.specs.Way.{wayOf, putFor};
@@ -171,10 +171,10 @@ fn plain_given(
     out: &mut [f64],
     at: usize,
 ) -> [usize; 4]
-    requires { ⌜ Plain w (p .head .lengths) limits v (stored (p .head)) n ⌝ ∗ ⌜ LiesAt p at (length (now a)) ⌝
+    requires { ⌜ Plain w (p .head .lengths) limits v (stored (p .head)) n ⌝ ∗ ⌜ AsideAt p at n (length (now a)) (length (now out)) ⌝
         ∗ ⌜ p .input ≡ true ⌝ ∗ ⌜ at + n ≤ length (now out) ⌝ }
     ensures { λ r.
-        ⌜ Wrote at n (plainOf w limits v (blockOf (taken p (now (a .entry)) (take at (now (out .entry))))))
+        ⌜ Wrote at n (plainOf w limits v (blockOf (taken p (now (a .entry)) (now (out .entry)))))
         (now (out .entry)) (now (out .exit)) r ⌝ }
 {
     let end = at + n;
@@ -193,14 +193,14 @@ fn plain_earlier(
     at: usize,
     work: &mut [f64],
 ) -> [usize; 4]
-    requires { ⌜ Plain w (p .head .lengths) limits v (stored (p .head)) n ⌝ ∗ ⌜ LiesAt p at (length (now a)) ⌝
+    requires { ⌜ Plain w (p .head .lengths) limits v (stored (p .head)) n ⌝ ∗ ⌜ AsideAt p at n (length (now a)) (length (now out)) ⌝
         ∗ ⌜ at + n ≤ length (now out) ⌝ ∗ ⌜ length (now work) ≡ 8 * n ⌝ }
     ensures { λ r.
-        ⌜ Wrote at n (plainOf w limits v (blockOf (taken p (now (a .entry)) (take at (now (out .entry))))))
+        ⌜ Wrote at n (plainOf w limits v (blockOf (taken p (now (a .entry)) (now (out .entry)))))
         (now (out .entry)) (now (out .exit)) r ⌝ }
     ensures spent { λ _. ⌜ length (now (work .exit)) ≡ length (now (work .entry)) ⌝ }
 {
-    let r = plain_from(w, v, p, limits, a, &out[..at], &mut work[..n]);
+    let r = plain_from(w, v, p, limits, a, out, &mut work[..n]);
     product::kernel::keep(work, n, out, at);
     r
 }
@@ -262,9 +262,9 @@ fn rows_to(
 ) -> [usize; 4]
     requires { ⌜ Hornering (p .head .lengths) v k r b c limits n (stored (p .head)) n (length (now work)) ⌝
         ∗ ⌜ take (count r) (part at (at + n) (now out)) ≡ part n (n + count r) (now work) ⌝
-        ∗ ⌜ LiesAt p at (length (now a)) ⌝ ∗ ⌜ at + n ≤ length (now out) ⌝ }
+        ∗ ⌜ AsideAt p at n (length (now a)) (length (now out)) ⌝ ∗ ⌜ at + n ≤ length (now out) ⌝ }
     ensures { λ q.
-        ⌜ Wrote at n (turns limits v (blockOf (taken p (now (a .entry)) (take at (now (out .entry))))) k
+        ⌜ Wrote at n (turns limits v (blockOf (taken p (now (a .entry)) (now (out .entry)))) k
         (block b (part 0 (count b) (now (work .entry)))) (block r (part n (n + count r) (now (work .entry)))))
         (now (out .entry)) (now (out .exit)) q ⌝ }
     ensures spent { λ _. ⌜ length (now (work .exit)) ≡ length (now (work .entry)) ⌝ }
@@ -275,7 +275,7 @@ fn rows_to(
     let mut value = r;
     while 0 < left {
         left -= 1;
-        row_from(p, c, v, left, a, &out[..at], row, work);
+        row_from(p, c, v, left, a, out, row, work);
         let next = substitution_turn::turn(work, n, value, b, c, limits, &mut out[at..end]);
         value = next;
     }
@@ -297,11 +297,11 @@ fn horner_to(
     work: &mut [f64],
 ) -> [usize; 4]
     requires { ⌜ Puts (p .head .lengths) (q .head .lengths) limits v n (stored (p .head)) (stored (q .head)) n (length (now work)) ⌝
-        ∗ ⌜ isZero (blockOf (taken q (now b) (take at (now out)))) ≡ false ⌝
-        ∗ ⌜ LiesAt p at (length (now a)) × LiesAt q at (length (now b)) ⌝ ∗ ⌜ at + n ≤ length (now out) ⌝ }
+        ∗ ⌜ isZero (blockOf (taken q (now b) (now out))) ≡ false ⌝
+        ∗ ⌜ AsideAt p at n (length (now a)) (length (now out)) × AsideAt q at n (length (now b)) (length (now out)) ⌝ ∗ ⌜ at + n ≤ length (now out) ⌝ }
     ensures { λ r.
-        ⌜ Wrote at n (horner limits v (blockOf (taken p (now (a .entry)) (take at (now (out .entry)))))
-        (lengthAt (p .head .lengths) v) (blockOf (taken q (now (b .entry)) (take at (now (out .entry)))))
+        ⌜ Wrote at n (horner limits v (blockOf (taken p (now (a .entry)) (now (out .entry))))
+        (lengthAt (p .head .lengths) v) (blockOf (taken q (now (b .entry)) (now (out .entry))))
         (constantBlock zeroF)) (now (out .entry)) (now (out .exit)) r ⌝ }
     ensures spent { λ _. ⌜ length (now (work .exit)) ≡ length (now (work .entry)) ⌝ }
 {
@@ -312,14 +312,14 @@ fn horner_to(
     let last = highest(la, v);
     let row = 2 * n;
     let end = at + n;
-    row_from(p, c, v, last, a, &out[..at], row, work);
+    row_from(p, c, v, last, a, out, row, work);
     let r = substitution_turn::first_turn(work, n, c, &mut out[at..end]);
     if last == 0 {
         return r;
     }
     let lb = y.lengths;
     let lengths = cut_to(limits, lb);
-    put_from(q, lengths, b, &out[..at], work);
+    put_from(q, lengths, b, out, work);
     rows_to(p, v, last, r, lengths, c, limits, n, a, out, at, work)
 }
 
@@ -337,15 +337,15 @@ fn front_to(
     work: &mut [f64],
 ) -> [usize; 4]
     requires { ⌜ Given (p .head) (q .head) h v n (stored (p .head)) (stored (q .head)) n (length (now work)) ⌝
-        ∗ ⌜ LiesAt p at (length (now a)) ⌝ ∗ ⌜ LiesAt q at (length (now b)) ⌝ ∗ ⌜ at + n ≤ length (now out) ⌝ }
+        ∗ ⌜ AsideAt p at n (length (now a)) (length (now out)) ⌝ ∗ ⌜ AsideAt q at n (length (now b)) (length (now out)) ⌝ ∗ ⌜ at + n ≤ length (now out) ⌝ }
     ensures { λ r.
-        ⌜ Wrote at n (putFor (p .head .vars) (h .limits) v (blockOf (taken p (now (a .entry)) (take at (now (out .entry)))))
-        (blockOf (taken q (now (b .entry)) (take at (now (out .entry)))))) (now (out .entry)) (now (out .exit)) r ⌝ }
+        ⌜ Wrote at n (putFor (p .head .vars) (h .limits) v (blockOf (taken p (now (a .entry)) (now (out .entry))))
+        (blockOf (taken q (now (b .entry)) (now (out .entry))))) (now (out .entry)) (now (out .exit)) r ⌝ }
     ensures spent { λ _. ⌜ length (now (work .exit)) ≡ length (now (work .entry)) ⌝ }
 {
     let x = p.head;
     let limits = h.limits;
-    let w = way_from(x.vars, v, q, b, &out[..at]);
+    let w = way_from(x.vars, v, q, b, out);
     if 2 < w.kind {
         return horner_to(v, p, q, limits, n, a, b, out, at, work);
     }
@@ -369,13 +369,13 @@ pub fn substitute_to(
     at: usize,
     scratch: &mut [f64],
 ) -> Header
-    requires { ⌜ Announces (Substitution v) (p .head) (q .head) h n ⌝ ∗ ⌜ LiesAt p at (length (now a)) ⌝
-        ∗ ⌜ LiesAt q at (length (now b)) ⌝ ∗ ⌜ Lent n at (length (now out)) (length (now scratch)) ⌝ }
-    ensures head { λ r. ⌜ r ≡ substitutePoly v (taken p (now (a .entry)) (take at (now (out .entry))))
-        (taken q (now (b .entry)) (take at (now (out .entry)))) .head ⌝ }
+    requires { ⌜ Announces (Substitution v) (p .head) (q .head) h n ⌝ ∗ ⌜ AsideAt p at n (length (now a)) (length (now out)) ⌝
+        ∗ ⌜ AsideAt q at n (length (now b)) (length (now out)) ⌝ ∗ ⌜ Lent n at (length (now out)) (length (now scratch)) ⌝ }
+    ensures head { λ r. ⌜ r ≡ substitutePoly v (taken p (now (a .entry)) (now (out .entry)))
+        (taken q (now (b .entry)) (now (out .entry))) .head ⌝ }
     ensures kept { λ r.
-        ⌜ Kept at (at + n) (padded n (substitutePoly v (taken p (now (a .entry)) (take at (now (out .entry))))
-        (taken q (now (b .entry)) (take at (now (out .entry)))) .coeffs)) (now (out .entry)) (now (out .exit)) ⌝ }
+        ⌜ Kept at (at + n) (padded n (substitutePoly v (taken p (now (a .entry)) (now (out .entry)))
+        (taken q (now (b .entry)) (now (out .entry))) .coeffs)) (now (out .entry)) (now (out .exit)) ⌝ }
     ensures spent { λ _. ⌜ length (now (scratch .exit)) ≡ length (now (scratch .entry)) ⌝ }
 {
     let room = 8 * n;

@@ -2,21 +2,21 @@ use native.Mathlib.Omega.{arith}
 use mathlib.Core.Path.{_≡_, refl, sym, _∙_}
 use mathlib.Core.List.{_++_}
 use Prim.Native.Nat.{_+_, _-_, _*_, _≤_}
-use lib.ListN.{length, take, drop, length-take, length-drop, length-append}
+use lib.ListN.{length, drop, length-take, length-drop, length-append}
 use lib.Seq.{length-take-le, take-at}
-use Rattle.shape_operands.specs.Lent.{lying, lies-source, part-kept}
+use Rattle.shape_operands.specs.Lent.{lying, aside-source, part-kept}
 use Rattle.recipes_pairs.specs.Pair.{pairOf, leftIn, rightIn, pair-two, value-head, value-lengths, value-count, value-kept}
 use Rattle.product.specs.Room.{Stands}
 use borrow.Author.Needs.{needs}
 use Rattle.recipes_pairs.proofs.pair_to.Statement.{statement}
 use Rattle.recipes_pairs.proofs.pair_to.Tie as tie
 
-ends : (c : tie.Start) → (c .args .at ≤ length (c .args .pool .now)) × (8 * c .args .n ≤ length (c .args .scratch .now))
-ends c = let g = c .pre .1 .1 .1 in (omega (arith, g .room), g .spare)
+ends : (c : tie.Start) → 8 * c .args .n ≤ length (c .args .scratch .now)
+ends c = c .pre .1 .1 .1 .spare
 
 used : (c : tie.After-load-pair) → length (c .load-pair .last .1 .1 .1 .1 .1 .1 .1 .1 .1 .1 .0)
     ≡ 8 * c .before .before .before .before .before .before .before .args .n
-used c = c .load-pair .kept .1 .1 .1 .1 .1 .1 .1 .1 .1 .1 .0 ∙ length-take-le _ _ (ends (c .before .before .before .before .before .before .before) .1)
+used c = c .load-pair .kept .1 .1 .1 .1 .1 .1 .1 .1 .1 .1 .0 ∙ length-take-le _ _ (ends (c .before .before .before .before .before .before .before))
 
 rooms : (c : tie.After-load-pair) →
     let start = c .before .before .before .before .before .before .before in
@@ -47,24 +47,19 @@ lasts c =
     let g = start .pre .1 .1 .1 in c .pair-front .kept .1 .1 .1 .1 .1 .1 .1 .0 ∙ simp (length-take, length-drop) (omega (arith, g .room))
 
 slice-aggregate-load-pair : tie.Need-slice-aggregate-load-pair
-slice-aggregate-load-pair c = sym (length-take-le _ _ (ends (c .before .before .before .before .before) .0))
-
-slice-aggregate-load-pair-2 : tie.Need-slice-aggregate-load-pair-2
-slice-aggregate-load-pair-2 c = sym (length-take-le _ _ (ends (c .before .before .before .before .before .before) .1))
+slice-aggregate-load-pair c = sym (length-take-le _ _ (ends (c .before .before .before .before .before .before)))
 
 load-pair-requires : tie.Need-load-pair-requires
 load-pair-requires c κs =
     let start = c .before .before .before .before .before .before in (
-      rw (length-take-le _ _ (ends start .1)) (pair-two (start .pre .0)),
+      rw (length-take-le _ _ (ends start)) (pair-two (start .pre .0)),
       (
         start .pre .0 .left .regular .rules,
         (
           start .pre .0 .right .regular .rules,
           (
-            lies-source (start .args .coefficients .now) (take (start .args .at) (start .args .pool .now))
-                (start .pre .1 .0) (length-take-le _ _ (ends start .0)),
-            lies-source (start .args .coefficients .now) (take (start .args .at) (start .args .pool .now))
-                (start .pre .1 .1 .0) (length-take-le _ _ (ends start .0)),
+            aside-source (start .args .coefficients .now) (start .args .pool .now) (start .pre .1 .0),
+            aside-source (start .args .coefficients .now) (start .args .pool .now) (start .pre .1 .1 .0),
           ),
         ),
       ),
@@ -96,8 +91,8 @@ count-of-requires c κs =
     let c9 = c .before .before .before .before .before .before .before .before .before in
     let start = c9 .before .before .before .before .before .before .before in
     value-lengths (start .pre .0) (lying (start .args .xi) (start .args .coefficients .now)
-    (take (start .args .at) (start .args .pool .now)) (start .args .xf) (start .args .x) .coeffs)
-    (lying (start .args .yi) (start .args .coefficients .now) (take (start .args .at) (start .args .pool .now))
+    (start .args .pool .now) (start .args .xf) (start .args .x) .coeffs)
+    (lying (start .args .yi) (start .args .coefficients .now) (start .args .pool .now)
     (start .args .yf) (start .args .y) .coeffs) (c9 .load-pair .ensures .1) (c9 .load-pair .ensures .0)
     (stands (c .before .before .before .before))
 
@@ -111,8 +106,8 @@ add-pad c =
       start .good,
       c .before .count-of .ensures,
       value-count (start .pre .0) (lying (start .args .xi) (start .args .coefficients .now)
-          (take (start .args .at) (start .args .pool .now)) (start .args .xf) (start .args .x) .coeffs)
-          (lying (start .args .yi) (start .args .coefficients .now) (take (start .args .at) (start .args .pool .now))
+          (start .args .pool .now) (start .args .xf) (start .args .x) .coeffs)
+          (lying (start .args .yi) (start .args .coefficients .now) (start .args .pool .now)
           (start .args .yf) (start .args .y) .coeffs) (c11 .load-pair .ensures .1) (c11 .load-pair .ensures .0)
           (stands (c .before .before .before .before .before .before)),
     )
@@ -127,8 +122,8 @@ pad-requires c κs =
         arith,
         c .before .count-of .ensures,
         value-count (start .pre .0) (lying (start .args .xi) (start .args .coefficients .now)
-            (take (start .args .at) (start .args .pool .now)) (start .args .xf) (start .args .x) .coeffs)
-            (lying (start .args .yi) (start .args .coefficients .now) (take (start .args .at) (start .args .pool .now))
+            (start .args .pool .now) (start .args .xf) (start .args .x) .coeffs)
+            (lying (start .args .yi) (start .args .coefficients .now) (start .args .pool .now)
             (start .args .yf) (start .args .y) .coeffs) (c11 .load-pair .ensures .1)
             (c11 .load-pair .ensures .0) (stands c6),
       ),
@@ -152,8 +147,8 @@ returns c =
           (stands c9),
       (
         value-kept (start .pre .0) (lying (start .args .xi) (start .args .coefficients .now)
-            (take (start .args .at) (start .args .pool .now)) (start .args .xf) (start .args .x) .coeffs)
-            (lying (start .args .yi) (start .args .coefficients .now) (take (start .args .at) (start .args .pool .now))
+            (start .args .pool .now) (start .args .xf) (start .args .x) .coeffs)
+            (lying (start .args .yi) (start .args .coefficients .now) (start .args .pool .now)
             (start .args .yf) (start .args .y) .coeffs) (c14 .load-pair .ensures .1) (c14 .load-pair .ensures .0)
             (stands c9) (c .before .before .before .before .before .count-of .ensures) refl
             (part-kept (start .args .at) (start .args .at + start .args .n) (start .args .pool .now)
@@ -168,7 +163,7 @@ pub pair-to-spec : {M : Type 1} → statement M
 pair-to-spec =
     tie.close
     (tie.spec
-    (λ c. search needs) (λ c. search needs) slice-aggregate-load-pair (λ c. search needs) slice-aggregate-load-pair-2
+    (λ c. search needs) (λ c. search needs) slice-aggregate-load-pair
     load-pair-requires add-end (λ c. search needs) slice-aggregate-pair-front mul-pair-front (λ c. search needs)
     (λ c. search needs) (λ c. search needs) pair-front-requires count-of-requires add-pad pad-requires
     (λ c κs. search needs) (λ c. search needs) same-length-2 returns)

@@ -2,33 +2,33 @@ use native.Mathlib.Omega.{arith}
 use mathlib.Core.Path.{_≡_, sym, _∙_}
 use mathlib.Core.List.{List, _++_}
 use Prim.Native.Nat.{_+_, _-_, _*_, _≤_}
-use lib.ListN.{length, take, drop, length-append, length-drop}
+use lib.ListN.{length, drop, length-append, length-drop}
 use lib.Seq.{length-take-le}
 use lib.Ieee.{Float}
 use Rattle.model.specs.Header.{stored}
-use Rattle.shape_operands.specs.Lent.{source, lying, lies-source, length-operand, front-kept}
+use Rattle.shape_operands.specs.Lent.{source, lying, aside-source, length-operand, front-kept}
 use Rattle.recipes_singles.specs.Exponential.{exponential-head, exponential-full}
 use borrow.Author.Needs.{needs}
 use Rattle.recipes_singles.proofs.exp_to.Statement.{statement}
 use Rattle.recipes_singles.proofs.exp_to.Tie as tie
 
-ends : (c : tie.Start) → (c .args .at ≤ length (c .args .pool .now)) × (8 * c .args .n ≤ length (c .args .scratch .now))
-ends c = let g = c .pre .1 .1 in (omega (arith, g .room), g .spare)
+ends : (c : tie.Start) → 8 * c .args .n ≤ length (c .args .scratch .now)
+ends c = c .pre .1 .1 .spare
 
 bounds : (c : tie.Start) → c .args .from + stored (c .args .x)
-    ≤ length (source (c .args .input) (c .args .coefficients .now) (take (c .args .at) (c .args .pool .now)))
-bounds c = lies-source (c .args .coefficients .now) (take (c .args .at) (c .args .pool .now)) (c .pre .1 .0) (length-take-le _ _ (ends c .0))
+    ≤ length (source (c .args .input) (c .args .coefficients .now) (c .args .pool .now))
+bounds c = aside-source (c .args .coefficients .now) (c .args .pool .now) (c .pre .1 .0)
 
 -- the operand's coefficients
 abbrev given : tie.Start → List Float
 given c =
-    lying (c .args .input) (c .args .coefficients .now) (take (c .args .at) (c .args .pool .now)) (c .args .from)
+    lying (c .args .input) (c .args .coefficients .now) (c .args .pool .now) (c .args .from)
     (c .args .x) .coeffs
 
 given-full : (c : tie.Start) → length (given c) ≡ stored (c .args .x)
 given-full c =
     length-operand (c .args .from) (stored (c .args .x))
-    (source (c .args .input) (c .args .coefficients .now) (take (c .args .at) (c .args .pool .now))) (bounds c)
+    (source (c .args .input) (c .args .coefficients .now) (c .args .pool .now)) (bounds c)
 
 holds : (c : tie.After-block) → c .before .before .before .before .args .n ≤ length (c .block .result)
 holds c = let g = c .before .before .before .before .pre .1 .1 in omega (arith, g .small, c .block .ensures)
@@ -56,19 +56,16 @@ filled c =
     )
 
 slice-aggregate-exp-from : tie.Need-slice-aggregate-exp-from
-slice-aggregate-exp-from c = sym (length-take-le _ _ (ends (c .before .before .before .before .before) .0))
+slice-aggregate-exp-from c = sym (length-take-le _ _ (holds (c .before .before)))
 
 slice-aggregate-exp-from-2 : tie.Need-slice-aggregate-exp-from-2
-slice-aggregate-exp-from-2 c = sym (length-take-le _ _ (holds (c .before .before)))
-
-slice-aggregate-exp-from-3 : tie.Need-slice-aggregate-exp-from-3
-slice-aggregate-exp-from-3 c = sym (length-take-le _ _ (ends (c .before .before .before .before .before .before .before) .1))
+slice-aggregate-exp-from-2 c = sym (length-take-le _ _ (ends (c .before .before .before .before .before .before .before)))
 
 exp-from-requires : tie.Need-exp-from-requires
 exp-from-requires c κs =
     let c3 = c .before .before .before in
     let start = c3 .before .before .before .before in
-    (start .pre .0, (bounds start, (length-take-le _ _ (holds c3), length-take-le _ _ (ends start .1))))
+    (start .pre .0, (bounds start, (length-take-le _ _ (holds c3), length-take-le _ _ (ends start))))
 
 slice-aggregate-keep : tie.Need-slice-aggregate-keep
 slice-aggregate-keep c = sym (filled (c .before .before .before .before))
@@ -102,5 +99,5 @@ exp-to-spec =
     tie.close
     (tie.spec
     (λ c. search needs) (λ c κs. search needs) (λ c. search needs) slice-aggregate-exp-from (λ c. search needs)
-    slice-aggregate-exp-from-2 (λ c. search needs) slice-aggregate-exp-from-3 exp-from-requires slice-aggregate-keep
+    slice-aggregate-exp-from-2 exp-from-requires slice-aggregate-keep
     keep-requires (λ c. search needs) same-length-2 returns)

@@ -2,7 +2,7 @@ use native.Mathlib.Omega.{arith}
 use mathlib.Core.Path.{_≡_, refl, sym, ap, _∙_}
 use mathlib.Core.List.{_++_}
 use Prim.Native.Nat.{ℕ, _*_, _≤_}
-use lib.ListN.{length, take, drop, length-append}
+use lib.ListN.{length, drop, length-append}
 use lib.Seq.{length-take-le}
 use Rattle.model.specs.Poly.{Poly, held}
 use Rattle.model.specs.Gates.{announcedPair}
@@ -27,17 +27,17 @@ value c = substitutePoly (c .args .v) (held (c .args .ah) (c .args .a .now)) (he
 value-is : (c : tie.After-substitute-to) →
     let c9 = c .before .before .before .before .before .before .before .before .before in let start = c9 .before .before .before .before .before in
     let o = c9 .open-pair .result in
-    substitutePoly (start .args .v) (taken (given (o .a) (o .na)) (start .args .a .now) (take 0 (start .args .out .now)))
-    (taken (given (o .b) (o .nb)) (start .args .b .now) (take 0 (start .args .out .now))) ≡ value start
+    substitutePoly (start .args .v) (taken (given (o .a) (o .na)) (start .args .a .now) (start .args .out .now))
+    (taken (given (o .b) (o .nb)) (start .args .b .now) (start .args .out .now)) ≡ value start
 value-is c =
     let c9 = c .before .before .before .before .before .before .before .before .before in let start = c9 .before .before .before .before .before in
     let o = c9 .open-pair .result in
     let e = c9 .open-pair .ensures in
     let z = c .before .before .before .before .before .before .if1 .left in
-    ap (λ (x : Poly). substitutePoly (start .args .v) x (taken (given (o .b) (o .nb)) (start .args .b .now) (take 0 (start .args .out .now))))
-    (opened-held e z (start .args .a .now) (take 0 (start .args .out .now)))
+    ap (λ (x : Poly). substitutePoly (start .args .v) x (taken (given (o .b) (o .nb)) (start .args .b .now) (start .args .out .now)))
+    (opened-held e z (start .args .a .now) (start .args .out .now))
     ∙ ap (substitutePoly (start .args .v) (held (start .args .ah) (start .args .a .now)))
-    (opened-held-right e z (start .args .b .now) (take 0 (start .args .out .now)))
+    (opened-held-right e z (start .args .b .now) (start .args .out .now))
 
 head : (c : tie.After-substitute-to) →
     let c9 = c .before .before .before .before .before .before .before .before .before in let start = c9 .before .before .before .before .before in

@@ -1,6 +1,5 @@
 use mathlib.Core.Path.{ap, _∙_}
 use Prim.Native.Nat.{_-_}
-use lib.ListN.{take}
 use Rattle.model.specs.Refusals.{padded}
 use Rattle.model.specs.Poly.{Poly}
 use Rattle.shape_operands.specs.Lent.{lying, kept-as}
@@ -21,15 +20,15 @@ returns c =
     let start = c7 .before .before .before .before in (
       c4 .power-to .ensures .0 ∙ ap (λ (p : Poly). p .head)
           (power-value (start .pre .0) (c7 .if1 .taken)
-          (lying (start .args .xi) (start .args .coefficients .now) (take (start .args .at) (start .args .pool .now))
+          (lying (start .args .xi) (start .args .coefficients .now) (start .args .pool .now)
           (start .args .xf) (start .args .x)) (lying (start .args .yi) (start .args .coefficients .now)
-          (take (start .args .at) (start .args .pool .now)) (start .args .yf) (start .args .y))),
+          (start .args .pool .now) (start .args .yf) (start .args .y))),
       (
         kept-as (ap (λ (p : Poly). padded (start .args .n) (p .coeffs))
             (power-value (start .pre .0) (c7 .if1 .taken)
-            (lying (start .args .xi) (start .args .coefficients .now) (take (start .args .at) (start .args .pool .now))
+            (lying (start .args .xi) (start .args .coefficients .now) (start .args .pool .now)
             (start .args .xf) (start .args .x)) (lying (start .args .yi) (start .args .coefficients .now)
-            (take (start .args .at) (start .args .pool .now)) (start .args .yf) (start .args .y))))
+            (start .args .pool .now) (start .args .yf) (start .args .y))))
             (c4 .power-to .ensures .1 .0),
         search needs,
       ),
@@ -46,15 +45,15 @@ returns-2 c =
     let start = c7 .before .before .before .before .before in (
       c4 .pair-to .ensures .0 ∙ ap (λ (p : Poly). p .head)
           (pair-value (start .pre .0) (c7 .if2 .taken)
-          (lying (start .args .xi) (start .args .coefficients .now) (take (start .args .at) (start .args .pool .now))
+          (lying (start .args .xi) (start .args .coefficients .now) (start .args .pool .now)
           (start .args .xf) (start .args .x)) (lying (start .args .yi) (start .args .coefficients .now)
-          (take (start .args .at) (start .args .pool .now)) (start .args .yf) (start .args .y))),
+          (start .args .pool .now) (start .args .yf) (start .args .y))),
       (
         kept-as (ap (λ (p : Poly). padded (start .args .n) (p .coeffs))
             (pair-value (start .pre .0) (c7 .if2 .taken)
-            (lying (start .args .xi) (start .args .coefficients .now) (take (start .args .at) (start .args .pool .now))
+            (lying (start .args .xi) (start .args .coefficients .now) (start .args .pool .now)
             (start .args .xf) (start .args .x)) (lying (start .args .yi) (start .args .coefficients .now)
-            (take (start .args .at) (start .args .pool .now)) (start .args .yf) (start .args .y))))
+            (start .args .pool .now) (start .args .yf) (start .args .y))))
             (c4 .pair-to .ensures .1 .0),
         search needs,
       ),
@@ -71,8 +70,8 @@ substitute-to-requires c κs =
     let c4 = c .before .before .before .before in let start = c4 .before .before .before .before .before .before in (
       to-substitute (start .pre .0) (c4 .if3 .taken),
       (
-        record { full = c .before .before .before .stored-of .ensures; lies = start .pre .1 .0 .left },
-        (record { full = c .before .before .stored-of2 .ensures; lies = start .pre .1 .0 .right }, start .pre .1 .1),
+        record { full = c .before .before .before .stored-of .ensures; aside = start .pre .1 .0 .left },
+        (record { full = c .before .before .stored-of2 .ensures; aside = start .pre .1 .0 .right }, start .pre .1 .1),
       ),
     )
 
@@ -82,15 +81,15 @@ returns-3 c =
     let start = c9 .before .before .before .before .before .before in (
       c4 .substitute-to .ensures .0 ∙ ap (λ (p : Poly). p .head)
           (substitute-value (start .pre .0) (c9 .if3 .taken)
-          (lying (start .args .xi) (start .args .coefficients .now) (take (start .args .at) (start .args .pool .now))
+          (lying (start .args .xi) (start .args .coefficients .now) (start .args .pool .now)
           (start .args .xf) (start .args .x)) (lying (start .args .yi) (start .args .coefficients .now)
-          (take (start .args .at) (start .args .pool .now)) (start .args .yf) (start .args .y))),
+          (start .args .pool .now) (start .args .yf) (start .args .y))),
       (
         kept-as (ap (λ (p : Poly). padded (start .args .n) (p .coeffs))
             (substitute-value (start .pre .0) (c9 .if3 .taken)
-            (lying (start .args .xi) (start .args .coefficients .now) (take (start .args .at) (start .args .pool .now))
+            (lying (start .args .xi) (start .args .coefficients .now) (start .args .pool .now)
             (start .args .xf) (start .args .x)) (lying (start .args .yi) (start .args .coefficients .now)
-            (take (start .args .at) (start .args .pool .now)) (start .args .yf) (start .args .y))))
+            (start .args .pool .now) (start .args .yf) (start .args .y))))
             (c4 .substitute-to .ensures .1 .0),
         search needs,
       ),
@@ -109,7 +108,7 @@ returns-4 c =
           (exponential-value (start .pre .0) (c7 .if4 .taken)
           (lying (start .args .xi) (start .args .coefficients .now) (take (start .args .at) (start .args .pool .now))
           (start .args .xf) (start .args .x)) (lying (start .args .yi) (start .args .coefficients .now)
-          (take (start .args .at) (start .args .pool .now)) (start .args .yf) (start .args .y))),
+          (start .args .pool .now) (start .args .yf) (start .args .y))),
       (
         kept-as (ap (λ (p : Poly). padded (start .args .n) (p .coeffs))
             (exponential-value (start .pre .0) (c7 .if4 .taken)
@@ -145,7 +144,7 @@ returns-5 c =
             (change-value (start .pre .0) (c10 .if1 .left) (c9 .if2 .left) (c8 .if3 .left) (c7 .if4 .left)
             (lying (start .args .xi) (start .args .coefficients .now) (take (start .args .at) (start .args .pool .now))
             (start .args .xf) (start .args .x)) (lying (start .args .yi) (start .args .coefficients .now)
-            (take (start .args .at) (start .args .pool .now)) (start .args .yf) (start .args .y))))
+            (start .args .pool .now) (start .args .yf) (start .args .y))))
             (c4 .change-to .ensures .1 .0),
         search needs,
       ),

@@ -1,30 +1,24 @@
 use native.Mathlib.Omega.{arith}
 use mathlib.Core.Path.{refl, sym}
-use lib.ListN.{take}
-use lib.Seq.{length-take-le}
-use Rattle.shape_operands.specs.Operand.{taken, lies-within}
+use Rattle.shape_operands.specs.Operand.{taken, aside-within}
 use Rattle.substitution.specs.Placed.{plain-is, plain-room, horner-puts, horner-some, horner-is, wrote-same}
 use borrow.Author.Needs.{needs}
 use Rattle.substitution.proofs.kernel.front_to.Statement.{statement}
 use Rattle.substitution.proofs.kernel.front_to.Tie as tie
 
-slice-aggregate-way-from : tie.Need-slice-aggregate-way-from
-slice-aggregate-way-from c = sym (length-take-le _ _ (omega (arith, c .before .before .before .before .before .before .before .pre .1 .1 .1)))
-
 way-from-requires : tie.Need-way-from-requires
 way-from-requires c κs =
     let start = c .before .before .before .before .before .before .before in (
       start .pre .0 .right .rules,
-      lies-within (start .args .b .now) (take (start .args .at) (start .args .out .now)) (start .pre .1 .1 .0)
-          (length-take-le _ _ (omega (arith, start .pre .1 .1 .1))),
+      aside-within (start .args .b .now) (start .args .out .now) (start .pre .1 .1 .0),
     )
 
 horner-to-requires : tie.Need-horner-to-requires
 horner-to-requires c κs =
     let c4 = c .before .before .before .before in
     let start = c4 .before .before .before .before .before .before .before .before in
-    let a = (taken (start .args .p) (start .args .a .now) (take (start .args .at) (start .args .out .now)) .coeffs) in
-    let b = (taken (start .args .q) (start .args .b .now) (take (start .args .at) (start .args .out .now)) .coeffs) in (
+    let a = (taken (start .args .p) (start .args .a .now) (start .args .out .now) .coeffs) in
+    let b = (taken (start .args .q) (start .args .b .now) (start .args .out .now) .coeffs) in (
       horner-puts (start .pre .0) a b (c4 .way-from .ensures) (c .before .before .if1 .taken),
       (
         horner-some (start .pre .0) a b (c4 .way-from .ensures) (c .before .before .if1 .taken),
@@ -36,8 +30,8 @@ returns : tie.Need-returns
 returns c = (
   let c9 = c .before .before .before .before .before .before .before .before .before in
       let start = c9 .before .before .before .before .before .before .before .before in
-      wrote-same (horner-is (start .pre .0) (taken (start .args .p) (start .args .a .now) (take (start .args .at) (start .args .out .now)) .coeffs)
-      (taken (start .args .q) (start .args .b .now) (take (start .args .at) (start .args .out .now)) .coeffs) (c9 .way-from .ensures)
+      wrote-same (horner-is (start .pre .0) (taken (start .args .p) (start .args .a .now) (start .args .out .now) .coeffs)
+      (taken (start .args .q) (start .args .b .now) (start .args .out .now) .coeffs) (c9 .way-from .ensures)
       (c .before .before .before .before .before .before .before .if1 .taken)) (c .before .before .before .before .horner-to .ensures .0),
   search needs,
 )
@@ -46,8 +40,8 @@ plain-given-requires : tie.Need-plain-given-requires
 plain-given-requires c κs =
     let c4 = c .before .before .before .before in
     let start = c4 .before .before .before .before .before .before .before .before in (
-      plain-room (start .pre .0) (taken (start .args .p) (start .args .a .now) (take (start .args .at) (start .args .out .now)) .coeffs)
-          (taken (start .args .q) (start .args .b .now) (take (start .args .at) (start .args .out .now)) .coeffs)
+      plain-room (start .pre .0) (taken (start .args .p) (start .args .a .now) (start .args .out .now) .coeffs)
+          (taken (start .args .q) (start .args .b .now) (start .args .out .now) .coeffs)
           (c4 .way-from .ensures) (c .before .before .if1 .left) refl,
       (start .pre .1 .0, (c .before .if2 .taken, start .pre .1 .1 .1)),
     )
@@ -56,8 +50,8 @@ returns-2 : tie.Need-returns-2
 returns-2 c = (
   let c7 = c .before .before .before .before .before .before .before in
       let start = c7 .before .before .before .before .before .before .before .before in
-      wrote-same (plain-is (start .pre .0) (taken (start .args .p) (start .args .a .now) (take (start .args .at) (start .args .out .now)) .coeffs)
-      (taken (start .args .q) (start .args .b .now) (take (start .args .at) (start .args .out .now)) .coeffs) (c7 .way-from .ensures)
+      wrote-same (plain-is (start .pre .0) (taken (start .args .p) (start .args .a .now) (start .args .out .now) .coeffs)
+      (taken (start .args .q) (start .args .b .now) (start .args .out .now) .coeffs) (c7 .way-from .ensures)
       (c .before .before .before .before .before .if1 .left)) (c .before .before .plain-given .ensures),
   search needs,
 )
@@ -66,8 +60,8 @@ plain-earlier-requires : tie.Need-plain-earlier-requires
 plain-earlier-requires c κs =
     let c5 = c .before .before .before .before .before in
     let start = c5 .before .before .before .before .before .before .before .before in (
-      plain-room (start .pre .0) (taken (start .args .p) (start .args .a .now) (take (start .args .at) (start .args .out .now)) .coeffs)
-          (taken (start .args .q) (start .args .b .now) (take (start .args .at) (start .args .out .now)) .coeffs)
+      plain-room (start .pre .0) (taken (start .args .p) (start .args .a .now) (start .args .out .now) .coeffs)
+          (taken (start .args .q) (start .args .b .now) (start .args .out .now) .coeffs)
           (c5 .way-from .ensures) (c .before .before .before .if1 .left) refl,
       (start .pre .1 .0, (start .pre .1 .1 .1, start .pre .0 .work)),
     )
@@ -76,8 +70,8 @@ returns-3 : tie.Need-returns-3
 returns-3 c = (
   let c10 = c .before .before .before .before .before .before .before .before .before .before in
       let start = c10 .before .before .before .before .before .before .before .before in
-      wrote-same (plain-is (start .pre .0) (taken (start .args .p) (start .args .a .now) (take (start .args .at) (start .args .out .now)) .coeffs)
-      (taken (start .args .q) (start .args .b .now) (take (start .args .at) (start .args .out .now)) .coeffs) (c10 .way-from .ensures)
+      wrote-same (plain-is (start .pre .0) (taken (start .args .p) (start .args .a .now) (start .args .out .now) .coeffs)
+      (taken (start .args .q) (start .args .b .now) (start .args .out .now) .coeffs) (c10 .way-from .ensures)
       (c .before .before .before .before .before .before .before .before .if1 .left)) (c .before .before .before .before .plain-earlier .ensures .0),
   search needs,
 )
@@ -86,6 +80,6 @@ pub front-to-spec : {M : Type 1} → statement M
 front-to-spec =
     tie.close
     (tie.spec
-    (λ c. search needs) slice-aggregate-way-from way-from-requires horner-to-requires (λ c. search needs)
+    way-from-requires horner-to-requires (λ c. search needs)
     (λ c. search needs) returns plain-given-requires (λ c. search needs) returns-2
     plain-earlier-requires (λ c. search needs) (λ c. search needs) returns-3)

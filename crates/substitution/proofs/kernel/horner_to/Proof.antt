@@ -3,7 +3,6 @@ use mathlib.Core.Path.{refl, sym, ap, _∙_}
 use mathlib.Core.List.{List}
 use Prim.Native.Nat.{_+_, _-_}
 use lib.ListN.{take}
-use lib.Seq.{length-take-le}
 use lib.Ieee.{Float}
 use Rattle.model.specs.Header.{count}
 use borrow.Rule.Slice.PartMut.{putMid}
@@ -15,7 +14,7 @@ use Rattle.blocks.specs.Two.{cutPlaces}
 use Rattle.substitution.specs.Sizes.{row-picks, row-fits, put-loads, put-small, puts-adding}
 use Rattle.substitution.specs.Horner.{valueIn, putIn, start-one, start-front, start-room, start-stands}
 use Rattle.shape_operands.specs.Lent.{part-kept, kept-as}
-use Rattle.shape_operands.specs.Operand.{taken, lies-within}
+use Rattle.shape_operands.specs.Operand.{taken, aside-within}
 use Rattle.substitution.specs.Placed.{wrote-of, same-operand, turns-wrote}
 use borrow.Author.Needs.{needs}
 use Rattle.substitution.proofs.kernel.horner_to.Statement.{statement}
@@ -40,25 +39,19 @@ loaded : (c : tie.After-put-from) →
     let c22 = c10 .before .before .before .before .before .before .before .before .before .before .before .before in
     let start = c22 .before .before .before .before .before in
     Kept 0 (count (c3 .cut-to .result)) (cutPlaces (start .args .q .head .lengths) (c3 .cut-to .result)
-    (taken (start .args .q) (start .args .b .now) (take (start .args .at) (start .args .out .now)) .coeffs))
+    (taken (start .args .q) (start .args .b .now) (start .args .out .now) .coeffs))
     (c10 .first-turn .last .0) (c .put-from .last .1 .1 .1 .1 .0)
 loaded c =
     let c10 = c .before .before .before .before .before .before .before .before .before .before in
     let c22 = c10 .before .before .before .before .before .before .before .before .before .before .before .before in
     let start = c22 .before .before .before .before .before in
     kept-as (ap (cutPlaces (start .args .q .head .lengths) (c .before .before .before .cut-to .result))
-    (same-operand (start .args .q) (start .args .b .now)
-    (wrote c10 .below .head))) (c .put-from .ensures)
+    (same-operand (start .args .q) (start .args .b .now) (start .pre .1 .1 .0 .1) (wrote c10))) (c .put-from .ensures)
 
 highest-requires : tie.Need-highest-requires
 highest-requires c κs =
     let start = c .before .before .before .before .before .before .before .before in
     (start .pre .0 .var, lengths-pos (start .pre .0 .left) _ (start .pre .0 .var))
-
-slice-aggregate-row-from : tie.Need-slice-aggregate-row-from
-slice-aggregate-row-from c =
-    let start = c .before .before .before .before .before .before .before .before .before .before in
-    sym (length-take-le _ _ (omega (arith, start .pre .1 .1 .1)))
 
 row-from-requires : tie.Need-row-from-requires
 row-from-requires c κs =
@@ -67,8 +60,7 @@ row-from-requires c κs =
       row-picks (start .pre .0) (c3 .row-lengths .ensures) (omega (arith, c .before .before .highest .ensures)) refl,
       (
         omega (arith, row-fits (start .pre .0) (c3 .row-lengths .ensures), start .pre .0 .work),
-        lies-within (start .args .a .now) (take (start .args .at) (start .args .out .now)) (start .pre .1 .1 .0 .0)
-            (length-take-le _ _ (omega (arith, start .pre .1 .1 .1))),
+        aside-within (start .args .a .now) (start .args .out .now) (start .pre .1 .1 .0 .0),
       ),
     )
 
@@ -91,24 +83,11 @@ returns c = (
       let c13 = c10 .before .before .before in let c14 = c13 .before in
       let start = c14 .before .before .before .before .before .before .before .before in
       wrote-of (wrote c5) (start-one (start .pre .0)
-      (taken (start .args .p) (start .args .a .now) (take (start .args .at) (start .args .out .now)) .coeffs)
-      (taken (start .args .q) (start .args .b .now) (take (start .args .at) (start .args .out .now)) .coeffs) (start .pre .1 .0) (c13 .highest .ensures)
+      (taken (start .args .p) (start .args .a .now) (start .args .out .now) .coeffs)
+      (taken (start .args .q) (start .args .b .now) (start .args .out .now) .coeffs) (start .pre .1 .0) (c13 .highest .ensures)
       (c14 .row-lengths .ensures) (c10 .row-from .ensures) (c5 .first-turn .ensures) (c .if1 .taken)),
   search needs,
 )
-
-slice-reshare-prefix-put-from : tie.Need-slice-reshare-prefix-put-from
-slice-reshare-prefix-put-from c =
-    let c12 = c .before .before .before .before .before .before .before .before .before .before .before .before in
-    let start = c12 .before .before .before .before .before .before .before .before .before .before .before .before in
-    omega (arith, wrote (c .before .before .before .before .before .before .before) .below .len, start .pre .1 .1 .1)
-
-slice-aggregate-put-from : tie.Need-slice-aggregate-put-from
-slice-aggregate-put-from c =
-    let c8 = c .before .before .before .before .before .before .before .before in
-    let c20 = c8 .before .before .before .before .before .before .before .before .before .before .before .before in
-    let start = c20 .before .before .before .before .before in
-    sym (length-take-le _ _ (omega (arith, wrote c8 .below .len, start .pre .1 .1 .1)))
 
 put-from-requires : tie.Need-put-from-requires
 put-from-requires c κs =
@@ -124,10 +103,9 @@ put-from-requires c κs =
           c9 .first-turn .ensures .below .len,
           c14 .row-from .ensures .below .len,
         ),
-        lies-within (start .args .b .now)
-            (take (start .args .at) (putMid (start .args .at) ((start .args .at + start .args .n) - start .args .at)
-            (start .args .out .now) (c9 .first-turn .last .1 .1 .1 .0))) (start .pre .1 .1 .0 .1)
-            (length-take-le _ _ (omega (arith, wrote c9 .below .len, start .pre .1 .1 .1))),
+        aside-within {at = start .args .at} {n = start .args .n} (start .args .b .now)
+            (putMid (start .args .at) ((start .args .at + start .args .n) - start .args .at) (start .args .out .now)
+            (c9 .first-turn .last .1 .1 .1 .0)) (rw (wrote c9 .below .len) (start .pre .1 .1 .0 .1)),
       ),
     )
 
@@ -137,18 +115,18 @@ rows-to-requires c κs =
     let c14 = c9 .before .before .before .before .before in let c19 = c14 .before .before .before .before .before in
     let c22 = c19 .before .before .before in let c23 = c22 .before in
     let start = c23 .before .before .before .before .before .before .before .before in (
-      start-room (start .pre .0) (taken (start .args .p) (start .args .a .now) (take (start .args .at) (start .args .out .now)) .coeffs)
-          (taken (start .args .q) (start .args .b .now) (take (start .args .at) (start .args .out .now)) .coeffs) (start .pre .1 .0) (c22 .highest .ensures)
+      start-room (start .pre .0) (taken (start .args .p) (start .args .a .now) (start .args .out .now) .coeffs)
+          (taken (start .args .q) (start .args .b .now) (start .args .out .now) .coeffs) (start .pre .1 .0) (c22 .highest .ensures)
           (c23 .row-lengths .ensures) (c19 .row-from .ensures) (c14 .first-turn .ensures) (omega (arith, c9 .if1 .left))
           (c7 .cut-to .ensures) (loaded c4) refl (loaded c4 .below .len
           ∙ (c14 .first-turn .ensures .below .len ∙ c19 .row-from .ensures .below .len)),
       (
         ap (take (count (c14 .first-turn .result))) (wrote c14 .holds)
-            ∙ start-front (start .pre .0) (taken (start .args .p) (start .args .a .now) (take (start .args .at) (start .args .out .now)) .coeffs)
-            (taken (start .args .q) (start .args .b .now) (take (start .args .at) (start .args .out .now)) .coeffs) (start .pre .1 .0) (c22 .highest .ensures)
+            ∙ start-front (start .pre .0) (taken (start .args .p) (start .args .a .now) (start .args .out .now) .coeffs)
+            (taken (start .args .q) (start .args .b .now) (start .args .out .now) .coeffs) (start .pre .1 .0) (c22 .highest .ensures)
             (c23 .row-lengths .ensures) (c19 .row-from .ensures) (c14 .first-turn .ensures) (omega (arith, c9 .if1 .left))
             (c7 .cut-to .ensures) (loaded c4),
-        (start .pre .1 .1 .0 .0, omega (arith, wrote c14 .below .len, start .pre .1 .1 .1)),
+        (rw (wrote c14 .below .len) (start .pre .1 .1 .0 .0), omega (arith, wrote c14 .below .len, start .pre .1 .1 .1)),
       ),
     )
 
@@ -163,10 +141,10 @@ returns-2 c = (
       (block (start .args .p .head .lengths) z) (c27 .highest .result)
       (putIn (c12 .cut-to .result) (c9 .put-from .last .1 .1 .1 .1 .0))
       (valueIn (start .args .n) (c19 .first-turn .result) (c9 .put-from .last .1 .1 .1 .1 .0)))
-      (same-operand (start .args .p) (start .args .a .now)
-      (wrote c19 .below .head))) (wrote c19) (c .before .before .before .before .rows-to .ensures .0)
-      (start-stands (start .pre .0) (taken (start .args .p) (start .args .a .now) (take (start .args .at) (start .args .out .now)) .coeffs)
-      (taken (start .args .q) (start .args .b .now) (take (start .args .at) (start .args .out .now)) .coeffs) (start .pre .1 .0) (c27 .highest .ensures)
+      (same-operand (start .args .p) (start .args .a .now) (start .pre .1 .1 .0 .0) (wrote c19))) (wrote c19)
+      (c .before .before .before .before .rows-to .ensures .0)
+      (start-stands (start .pre .0) (taken (start .args .p) (start .args .a .now) (start .args .out .now) .coeffs)
+      (taken (start .args .q) (start .args .b .now) (start .args .out .now) .coeffs) (start .pre .1 .0) (c27 .highest .ensures)
       (c28 .row-lengths .ensures) (c24 .row-from .ensures) (c19 .first-turn .ensures) (omega (arith, c14 .if1 .left))
       (c12 .cut-to .ensures) (loaded c9)),
   search needs,
@@ -176,8 +154,7 @@ pub horner-to-spec : {M : Type 1} → statement M
 horner-to-spec =
     tie.close
     (tie.spec
-    (λ c κs. search needs) highest-requires (λ c. search needs) (λ c. search needs) (λ c. search needs)
-    slice-aggregate-row-from row-from-requires mul-first-turn (λ c. search needs) (λ c. search needs)
+    (λ c κs. search needs) highest-requires (λ c. search needs) (λ c. search needs) row-from-requires mul-first-turn (λ c. search needs) (λ c. search needs)
     (λ c. search needs) first-turn-requires (λ c. search needs) (λ c. search needs) returns (λ c κs. search needs)
-    slice-reshare-prefix-put-from slice-aggregate-put-from put-from-requires rows-to-requires (λ c. search needs)
+    put-from-requires rows-to-requires (λ c. search needs)
     (λ c. search needs) returns-2)

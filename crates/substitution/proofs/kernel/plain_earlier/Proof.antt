@@ -1,19 +1,16 @@
 use native.Mathlib.Omega.{arith}
 use mathlib.Core.Path.{refl, sym, _∙_}
-use lib.ListN.{take, drop}
+use lib.ListN.{drop}
 use lib.Seq.{length-take-le}
 use Rattle.shape_operands.specs.Lent.{front-kept}
-use Rattle.shape_operands.specs.Operand.{lies-within}
+use Rattle.shape_operands.specs.Operand.{aside-within}
 use Rattle.substitution.specs.Placed.{wrote-of}
 use borrow.Author.Needs.{needs}
 use Rattle.substitution.proofs.kernel.plain_earlier.Statement.{statement}
 use Rattle.substitution.proofs.kernel.plain_earlier.Tie as tie
 
 slice-aggregate-plain-from : tie.Need-slice-aggregate-plain-from
-slice-aggregate-plain-from c = let start = c .before .before .before .before in sym (length-take-le _ _ (omega (arith, start .pre .1 .1 .0)))
-
-slice-aggregate-plain-from-2 : tie.Need-slice-aggregate-plain-from-2
-slice-aggregate-plain-from-2 c =
+slice-aggregate-plain-from c =
     let start = c .before .before .before .before .before in
     sym (length-take-le (start .args .n) (start .args .work .now) (omega (arith, start .pre .1 .1 .1)))
 
@@ -21,8 +18,7 @@ plain-from-requires : tie.Need-plain-from-requires
 plain-from-requires c κs =
     let start = c .before .before .before .before .before in (
       rw (length-take-le (start .args .n) (start .args .work .now) (omega (arith, start .pre .1 .1 .1))) (start .pre .0),
-      lies-within (start .args .a .now) (take (start .args .at) (start .args .out .now)) (start .pre .1 .0)
-          (length-take-le _ _ (omega (arith, start .pre .1 .1 .0))),
+      aside-within (start .args .a .now) (start .args .out .now) (start .pre .1 .0),
     )
 
 returns : tie.Need-returns
@@ -40,5 +36,5 @@ pub plain-earlier-spec : {M : Type 1} → statement M
 plain-earlier-spec =
     tie.close
     (tie.spec
-    (λ c. search needs) slice-aggregate-plain-from (λ c. search needs) slice-aggregate-plain-from-2 plain-from-requires
+    (λ c. search needs) slice-aggregate-plain-from plain-from-requires
     (λ c κs. search needs) (λ c. search needs) (λ c. search needs) returns)

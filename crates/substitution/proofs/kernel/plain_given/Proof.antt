@@ -2,7 +2,7 @@ use native.Mathlib.Omega.{arith}
 use mathlib.Core.Path.{_≡_, ap, _∙_}
 use mathlib.Core.List.{List}
 use Prim.Native.Nat.{_+_, _-_}
-use lib.ListN.{length, take}
+use lib.ListN.{length}
 use lib.Ieee.{Float}
 use Rattle.lists.specs.Part.{part, length-part}
 use Rattle.model.specs.Poly.{block}
@@ -36,7 +36,7 @@ returns c =
     (c .before .before .plain-from .kept .1 .1 .1 .1 .1 .1 .0
     ∙ length-part (a .at) (a .at + a .n) (a .out .now) (omega arith) (start .pre .1 .1 .1)) (omega arith) (start .pre .1 .1 .1))
     (stands-same (ap (λ (l : List Float). plainOf (a .w) (a .limits) (a .v) (block (a .p .head .lengths) l))
-    (given-operand (a .p) (a .a .now) (a .a .now) (take (a .at) (a .out .now)) (start .pre .1 .1 .0)))
+    (given-operand (a .p) (a .a .now) (a .a .now) (a .out .now) (start .pre .1 .1 .0)))
     (c .before .before .plain-from .ensures))
 
 pub plain-given-spec : {M : Type 1} → statement M

@@ -1,8 +1,6 @@
 use native.Mathlib.Omega.{arith}
 use mathlib.Core.Path.{refl, sym, _∙_}
 use Prim.Native.Nat.{_+_, _-_}
-use lib.ListN.{take}
-use lib.Seq.{length-take-le}
 use borrow.Author.Needs.{needs}
 use Rattle.lists.specs.Part.{length-part}
 use Rattle.model.specs.Header.{stored}
@@ -10,15 +8,15 @@ use Rattle.model.specs.Poly.{blockOf}
 use Rattle.substitution.specs.Room.{turns}
 use Rattle.substitution.specs.Horner.{valueIn, putIn, next-picks, next-turning, next-row}
 use Rattle.shape_operands.specs.Lent.{part-kept}
-use Rattle.shape_operands.specs.Operand.{taken, lies-within}
+use Rattle.shape_operands.specs.Operand.{taken, aside-within}
 use Rattle.substitution.specs.Placed.{RunsTo, runs-first, to-end, to-less, to-next, same-operand}
 use Rattle.substitution.proofs.kernel.rows_to.Statement.{statement}
 use Rattle.substitution.proofs.kernel.rows_to.Tie as tie
 
 abbrev Inv-loop : tie.InvT-loop
 Inv-loop p v k b c limits n a out₀ at work₀ row end left₀ value₀ out work left value =
-    RunsTo (p .head .lengths) v (taken p a (take at out₀) .coeffs) left value b c limits n (stored (p .head))
-    (turns limits v (blockOf (taken p a (take at out₀))) k (putIn b work₀) (valueIn n value₀ work₀)) at out₀ out work
+    RunsTo (p .head .lengths) v (taken p a out₀ .coeffs) left value b c limits n (stored (p .head))
+    (turns limits v (blockOf (taken p a out₀)) k (putIn b work₀) (valueIn n value₀ work₀)) at out₀ out work
 
 abbrev μ-loop : tie.MeasureT-loop
 μ-loop p v k b c limits n a out₀ at work₀ row end left₀ value₀ out work left value = left
@@ -32,20 +30,8 @@ add-end c = omega (arith, c .before .before .before .pre .1 .1 .1, c .before .be
 loop-holds : tie.Need-loop-holds Inv-loop μ-loop
 loop-holds c =
     let start = c .before .before .before in
-    runs-first (taken (start .args .p) (start .args .a .now) (take (start .args .at) (start .args .out .now)) .coeffs)
+    runs-first (taken (start .args .p) (start .args .a .now) (start .args .out .now) .coeffs)
     (start .args .out .now) (start .args .work .now) (start .pre .0) (start .pre .1 .0) (start .pre .1 .1 .1)
-
-slice-reshare-prefix-row-from : tie.Need-slice-reshare-prefix-row-from Inv-loop μ-loop
-slice-reshare-prefix-row-from c = omega (arith, c .before .loop .inv .stays .below .len, c .before .before .before .before .before .pre .1 .1 .1)
-
-slice-aggregate-row-from : tie.Need-slice-aggregate-row-from Inv-loop μ-loop
-slice-aggregate-row-from c =
-    sym (length-take-le _ _
-    (omega (
-      arith,
-      c .before .before .loop .inv .stays .below .len,
-      c .before .before .before .before .before .before .pre .1 .1 .1,
-    )))
 
 row-from-requires : tie.Need-row-from-requires Inv-loop μ-loop
 row-from-requires c κs =
@@ -54,8 +40,8 @@ row-from-requires c κs =
       next-picks (s .runs .room) refl,
       (
         omega (arith, next-row (s .runs .room), s .runs .room .work),
-        lies-within (start .args .a .now) (take (start .args .at) (c3 .loop .out)) (start .pre .1 .1 .0)
-            (length-take-le _ _ (omega (arith, c3 .loop .inv .stays .below .len, start .pre .1 .1 .1))),
+        aside-within {at = start .args .at} {n = start .args .n} (start .args .a .now) (c3 .loop .out)
+            (rw (c3 .loop .inv .stays .below .len) (start .pre .1 .1 .0)),
       ),
     )
 
@@ -82,8 +68,8 @@ loop-again c =
     let c4 = c .before .before .before .before in let c9 = c4 .before .before .before .before .before in
     let c12 = c9 .before .before .before in let c13 = c12 .before in let start = c13 .before .before .before .before in
     let s = to-less (c13 .loop .inv) (c13 .loop .left - 1) (omega (arith, c12 .loop-test .taken)) in
-    to-next s (same-operand (start .args .p) (start .args .a .now)
-    (c13 .loop .inv .stays .below .head)) (c9 .row-from .ensures) (c4 .turn .ensures)
+    to-next s (same-operand (start .args .p) (start .args .a .now) (start .pre .1 .1 .0)
+    (c13 .loop .inv .stays)) (c9 .row-from .ensures) (c4 .turn .ensures)
     (c4 .turn .kept .1 .1 .1 .1 .1 .1 .0) (part-kept (start .args .at) (start .args .at + start .args .n)
     (c13 .loop .out) (c4 .turn .last .1 .1 .1 .1 .1 .1 .0)
     (c4 .turn .kept .1 .1 .1 .1 .1 .1 .0 ∙ length-part (start .args .at) (start .args .at + start .args .n)
@@ -108,6 +94,5 @@ rows-to-spec =
     (tie.spec
     Inv-loop
     μ-loop
-    mul-row add-end loop-holds (λ c. omega arith) slice-reshare-prefix-row-from slice-aggregate-row-from
-    row-from-requires mul-turn (λ c. omega arith) (λ c. omega arith) part-turn-end turn-requires (λ c. omega arith)
-    loop-again same-length same-length-2 returns)
+    mul-row add-end loop-holds (λ c. omega arith) row-from-requires mul-turn (λ c. omega arith) (λ c. omega arith) part-turn-end
+    turn-requires (λ c. omega arith) loop-again same-length same-length-2 returns)

@@ -1,19 +1,18 @@
 use native.Mathlib.Omega.{arith}
 use mathlib.Core.Path.{_≡_, sym}
-use lib.ListN.{length, take}
+use lib.ListN.{length}
 use lib.Seq.{length-take-le}
 use Rattle.model.specs.Header.{stored}
-use Rattle.shape_operands.specs.Operand.{taken, lies-within, within-full}
+use Rattle.shape_operands.specs.Operand.{taken, aside-within, within-full}
 use Rattle.substitution.specs.Placed.{substituting-given, value-head, value-lengths, value-count, value-kept}
 use borrow.Author.Needs.{needs}
 use Rattle.substitution.proofs.kernel.substitute_to.Statement.{statement}
 use Rattle.substitution.proofs.kernel.substitute_to.Tie as tie
 
 full : (c : tie.Start)
-    → length (taken (c .args .p) (c .args .a .now) (take (c .args .at) (c .args .out .now)) .coeffs) ≡ stored (c .args .p .head)
+    → length (taken (c .args .p) (c .args .a .now) (c .args .out .now) .coeffs) ≡ stored (c .args .p .head)
 full c =
-    within-full (lies-within (c .args .a .now) (take (c .args .at) (c .args .out .now)) (c .pre .1 .0)
-    (length-take-le _ _ (omega (arith, c .pre .1 .1 .1 .room))))
+    within-full (aside-within (c .args .a .now) (c .args .out .now) (c .pre .1 .0))
 
 slice-aggregate-front-to : tie.Need-slice-aggregate-front-to
 slice-aggregate-front-to c = sym (length-take-le _ _ (c .before .before .before .before .before .before .pre .1 .1 .1 .spare))
@@ -38,8 +37,8 @@ add-pad c =
       arith,
       start .pre .1 .1 .1 .room,
       start .good,
-      value-count (start .pre .0) (taken (start .args .p) (start .args .a .now) (take (start .args .at) (start .args .out .now)) .coeffs)
-          (taken (start .args .q) (start .args .b .now) (take (start .args .at) (start .args .out .now)) .coeffs) (full start)
+      value-count (start .pre .0) (taken (start .args .p) (start .args .a .now) (start .args .out .now) .coeffs)
+          (taken (start .args .q) (start .args .b .now) (start .args .out .now) .coeffs) (full start)
           (c .before .before .before .before .before .before .front-to .ensures .0) (c .before .count-of .ensures),
     )
 
@@ -55,8 +54,8 @@ pad-requires c κs =
     let start = c6 .before .before .before .before .before .before .before in (
       omega (
         arith,
-        value-count (start .pre .0) (taken (start .args .p) (start .args .a .now) (take (start .args .at) (start .args .out .now)) .coeffs)
-            (taken (start .args .q) (start .args .b .now) (take (start .args .at) (start .args .out .now)) .coeffs) (full start) (c6 .front-to .ensures .0)
+        value-count (start .pre .0) (taken (start .args .p) (start .args .a .now) (start .args .out .now) .coeffs)
+            (taken (start .args .q) (start .args .b .now) (start .args .out .now) .coeffs) (full start) (c6 .front-to .ensures .0)
             (c .before .count-of .ensures),
       ),
       omega (arith, start .pre .1 .1 .1 .room, c6 .front-to .ensures .0 .stays .below .len),

@@ -1,0 +1,10 @@
+pub mod Example
+pub mod Least
+pub mod Placed
+pub mod Live
+pub mod Holding
+pub mod Pooled
+pub mod Climb
+pub mod Reading
+pub mod Going
+pub mod Counted
