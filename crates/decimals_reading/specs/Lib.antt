@@ -4,3 +4,4 @@ pub mod Significant
 pub mod Exactly
 pub mod Right
 pub mod Examples
+pub mod Promise

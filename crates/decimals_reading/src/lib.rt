@@ -7,11 +7,11 @@ use crate::scanning::Scan;
 use crate::scanning::push;
 use model_decimals::Read;
 ghost use mathlib.Core.Path.{_≡_};
-ghost use Rattle.model_decimals.specs.Typed.{readText};
+ghost use Rattle.decimals_reading.specs.Promise.{ReadPromise};
 
 // The float nearest to the number that a text is.
 pub fn read(text: &[u8]) -> Read
-    ensures { λ r. ⌜ r ≡ readText (now (text .entry)) ⌝ }
+    ensures { λ r. ⌜ ReadPromise (now (text .entry)) r ⌝ }
 {
     let mut s = Scan {
         stage: 0,

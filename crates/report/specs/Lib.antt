@@ -4,3 +4,4 @@ pub mod Front
 pub mod Traces
 pub mod Shifted
 pub mod Long
+pub mod Promise

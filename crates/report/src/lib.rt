@@ -17,10 +17,11 @@ ghost use lib.ListN.{length};
 ghost use mathlib.Core.Path.{_≡_};
 ghost use mathlib.Core.List.{map, _++_};
 ghost use Rattle.model.specs.Word.{headerOf};
-ghost use Rattle.model_forecast.specs.Told.{editionText, forecastText, toldText};
+ghost use Rattle.model_forecast.specs.Told.{editionText, forecastText};
 ghost use Rattle.model_texts.specs.Sheet.{sheetEdition};
 ghost use Rattle.report_lines.specs.Puts.{Puts, Printed};
 ghost use Rattle.report_totals.specs.Forecast.{Forecast};
+ghost use Rattle.report.specs.Promise.{AnswerPromise};
 ghost use Rattle.report.specs.Tells.{coefficientsOf};
 
 // Memory for a pool, or for the coefficients of all inputs.
@@ -119,7 +120,7 @@ fn put_read(
 // What is printed for a sheet, by what the program's arguments ask for, as far as `output` reaches; answers how long it
 // is.
 pub fn answer(text: &[u8], asked: Asked, output: &mut [u8]) -> usize
-    ensures { λ r. ⌜ Printed (toldText (now (text .entry)) asked) (now (output .entry)) (now (output .exit)) r ⌝ }
+    ensures { λ r. ⌜ AnswerPromise (now (text .entry)) asked (now (output .entry)) r (now (output .exit)) ⌝ }
 {
     let mut headers = [0u64; 16];
     let mut steps = [0u64; 64];
