@@ -13,7 +13,7 @@ use borrow.Author.Tests.{le-ltb, ltb-false, eqb-true}
 use Rattle.lists.specs.Test.{decide}
 use Rattle.model.specs.Limits.{minLimit}
 use Rattle.model_textbook.specs.Textbook.{Series, one, times}
-use Rattle.model_caps.specs.Cap.{minCap}
+use Rattle.model.specs.Cap.{minCap}
 use Rattle.model_caps.specs.Order.{Capped, product, Same}
 use Rattle.model_caps.specs.Departments.{Room, Grouped, department, rooms, Reordered}
 use Rattle.laws_whole.specs.Compare.{whole-eq}

@@ -9,7 +9,7 @@ use lib.Dec.{ltb, eqb}
 use borrow.Author.Tests.{ltb-true, ltb-false, lt-ltb, le-ltb, eqb-true, eqb-false}
 use Rattle.lists.specs.Test.{decide}
 use Rattle.model.specs.Limits.{minLimit}
-use Rattle.model_caps.specs.Cap.{minCap}
+use Rattle.model.specs.Cap.{minCap}
 
 -- ---- limits: v, w, x numbers of variables, l, m, n limits of the variable k
 

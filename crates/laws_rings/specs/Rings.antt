@@ -18,7 +18,8 @@ use Rattle.model.specs.Announced.{announced, paired}
 use Rattle.model.specs.Add.{combined}
 use Rattle.model.specs.Product.{productPoly}
 use Rattle.model_textbook.specs.Textbook.{Series, plus}
-use Rattle.model_caps.specs.Cap.{underCap, minCap}
+use Rattle.model.specs.Cap.{minCap}
+use Rattle.model_caps.specs.Cap.{underCap}
 use Rattle.laws_whole.specs.SeriesLaws.{times-comm, times-assoc}
 use Rattle.shape_words.specs.Rules.{Regular, ruled-at}
 use Rattle.laws_truncation.specs.Agree.{Agree, agree-same, agree-self, agree-back, agree-then, agree-plus, agree-times, agree-less}

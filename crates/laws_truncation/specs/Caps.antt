@@ -12,7 +12,8 @@ use Rattle.lists.specs.Four.{at}
 use Rattle.model_textbook.specs.Box.{degree}
 use Rattle.model.specs.Places.{inside}
 use Rattle.model_textbook.specs.Textbook.{Series, truncated}
-use Rattle.model_caps.specs.Cap.{underCap, minCap, cutAt}
+use Rattle.model.specs.Cap.{minCap}
+use Rattle.model_caps.specs.Cap.{underCap, cutAt}
 use Rattle.shape_words.specs.Lengths.{inside-is, is-inside, inside-four, inside-at}
 use Rattle.laws_whole.specs.Index.{Within}
 use Rattle.laws_whole.specs.IndexLaws.{degree-minus}

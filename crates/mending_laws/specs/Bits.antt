@@ -59,7 +59,11 @@ module _ (w : ℕ) where
 -- a word that is a header has no spare bits, and no cap as long as none may have one
 pub header-low : (w : ℕ) → goodWord w ≡ true → w % 2 ^ headerSpare ≡ 0
 unfolding headerOf
-header-low w e = let s = word-sound w e in omega (arith, eqb-true _ _ (s .spare), leb-true _ _ (s .low), shr-shr w 5 8)
+header-low w e =
+    let s = word-sound w e in
+    let a : w % 2 ^ 5 ≡ 0 = eqb-true (w % 2 ^ 5) 0 (s .spare) in
+    let c : w / 2 ^ 5 % 2 ^ 8 ≤ 0 = leb-true (w / 2 ^ 5 % 2 ^ 8) 0 (s .low) in
+    omega (arith, a, c, shr-shr w 5 8)
 
 -- ---- steps
 

@@ -1,6 +1,6 @@
 -- REFERENCE 13. Document 02, W10: a cap on total degree, 0 for none, else 1 to 253. A coefficient whose indices add up
--- to the cap or more is +0.0. Definitions only; no header has a cap yet, so each of them takes it as a number.
-use Prim.Native.Nat.{ℕ, _-_, min, max}
+-- to the cap or more is +0.0. Definitions only; no header may have a cap yet, so each takes it as a number.
+use Prim.Native.Nat.{ℕ}
 use mathlib.Core.List.{List}
 use mathlib.Core.Bool.{Bool, _||_, cond}
 use lib.Dec.{ltb, leb, eqb}
@@ -24,15 +24,6 @@ goodCap c = leb c 253
 -- an index that the cap leaves: its numbers add up to less, or there is no cap
 abbrev pub underCap : ℕ → List ℕ → Bool
 underCap c k = eqb c 0 || ltb (degree k) c
-
--- ---- 'Results take the smaller cap present, and the derivative and the coefficient expansion lower it by n'
-
-unfoldable pub minCap : ℕ → ℕ → ℕ
-minCap a b = cond (eqb a 0) b (cond (eqb b 0) a (min a b))
-
--- 1 at least: n that is not below the cap is refused by 4
-unfoldable pub lowerCap : ℕ → ℕ → ℕ
-lowerCap n c = cond (eqb c 0) 0 (max 1 (c - n))
 
 -- ---- 'every operation, and every product or sum inside one, sets places at or past the result's cap to +0.0'
 

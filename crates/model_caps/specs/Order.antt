@@ -11,7 +11,8 @@ use Rattle.model.specs.Places.{inside}
 use Rattle.model.specs.Poly.{Poly, poly, blockOf, coefficientAt}
 use Rattle.model.specs.Add.{combined}
 use Rattle.model.specs.Product.{productPoly}
-use Rattle.model_caps.specs.Cap.{cappedPlaces, minCap}
+use Rattle.model.specs.Cap.{minCap}
+use Rattle.model_caps.specs.Cap.{cappedPlaces}
 
 -- cap 0: none
 pub record Capped : Type 0 where

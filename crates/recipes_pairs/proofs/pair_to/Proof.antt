@@ -141,8 +141,8 @@ returns c =
     let g = start .pre .1 .1 .1 in (
       c .with-lengths .ensures
           ∙ value-head (start .pre .0) (lying (start .args .xi) (start .args .coefficients .now)
-          (take (start .args .at) (start .args .pool .now)) (start .args .xf) (start .args .x) .coeffs)
-          (lying (start .args .yi) (start .args .coefficients .now) (take (start .args .at) (start .args .pool .now))
+          (start .args .pool .now) (start .args .xf) (start .args .x) .coeffs)
+          (lying (start .args .yi) (start .args .coefficients .now) (start .args .pool .now)
           (start .args .yf) (start .args .y) .coeffs) (c14 .load-pair .ensures .1) (c14 .load-pair .ensures .0)
           (stands c9),
       (

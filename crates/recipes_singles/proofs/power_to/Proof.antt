@@ -70,7 +70,7 @@ returns c =
     let g = start .pre .1 .1 in (
       c .with-lengths .ensures
           ∙ power-head (start .pre .0) (lying (start .args .input) (start .args .coefficients .now)
-          (take (start .args .at) (start .args .pool .now)) (start .args .from) (start .args .x) .coeffs) (loaded c9)
+          (start .args .pool .now) (start .args .from) (start .args .x) .coeffs) (loaded c9)
           (length-operand (start .args .from) (stored (start .args .x))
           (source (start .args .input) (start .args .coefficients .now) (start .args .pool .now))
           (bounds start)) (c4 .power-loaded .ensures .0),

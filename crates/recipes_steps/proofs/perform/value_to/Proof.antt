@@ -106,15 +106,15 @@ returns-4 c =
     let start = c7 .before .before .before .before .before .before .before in (
       c4 .exp-to .ensures .0 ∙ ap (λ (p : Poly). p .head)
           (exponential-value (start .pre .0) (c7 .if4 .taken)
-          (lying (start .args .xi) (start .args .coefficients .now) (take (start .args .at) (start .args .pool .now))
+          (lying (start .args .xi) (start .args .coefficients .now) (start .args .pool .now)
           (start .args .xf) (start .args .x)) (lying (start .args .yi) (start .args .coefficients .now)
           (start .args .pool .now) (start .args .yf) (start .args .y))),
       (
         kept-as (ap (λ (p : Poly). padded (start .args .n) (p .coeffs))
             (exponential-value (start .pre .0) (c7 .if4 .taken)
-            (lying (start .args .xi) (start .args .coefficients .now) (take (start .args .at) (start .args .pool .now))
+            (lying (start .args .xi) (start .args .coefficients .now) (start .args .pool .now)
             (start .args .xf) (start .args .x)) (lying (start .args .yi) (start .args .coefficients .now)
-            (take (start .args .at) (start .args .pool .now)) (start .args .yf) (start .args .y))))
+            (start .args .pool .now) (start .args .yf) (start .args .y))))
             (c4 .exp-to .ensures .1 .0),
         search needs,
       ),
@@ -136,13 +136,13 @@ returns-5 c =
     let start = c10 .before .before .before .before in (
       c4 .change-to .ensures .0 ∙ ap (λ (p : Poly). p .head)
           (change-value (start .pre .0) (c10 .if1 .left) (c9 .if2 .left) (c8 .if3 .left) (c7 .if4 .left)
-          (lying (start .args .xi) (start .args .coefficients .now) (take (start .args .at) (start .args .pool .now))
+          (lying (start .args .xi) (start .args .coefficients .now) (start .args .pool .now)
           (start .args .xf) (start .args .x)) (lying (start .args .yi) (start .args .coefficients .now)
-          (take (start .args .at) (start .args .pool .now)) (start .args .yf) (start .args .y))),
+          (start .args .pool .now) (start .args .yf) (start .args .y))),
       (
         kept-as (ap (λ (p : Poly). padded (start .args .n) (p .coeffs))
             (change-value (start .pre .0) (c10 .if1 .left) (c9 .if2 .left) (c8 .if3 .left) (c7 .if4 .left)
-            (lying (start .args .xi) (start .args .coefficients .now) (take (start .args .at) (start .args .pool .now))
+            (lying (start .args .xi) (start .args .coefficients .now) (start .args .pool .now)
             (start .args .xf) (start .args .x)) (lying (start .args .yi) (start .args .coefficients .now)
             (start .args .pool .now) (start .args .yf) (start .args .y))))
             (c4 .change-to .ensures .1 .0),

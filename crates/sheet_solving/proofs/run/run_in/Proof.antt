@@ -66,6 +66,8 @@ slice-read-done c =
       arith,
       in-some (start .args .pool .now) (start .args .words .now) (start .args .scratch .now) (start .pre),
       in-words (start .args .pool .now) (start .args .words .now) (start .args .scratch .now) (start .pre),
+      ran .run-admitted .kept .1 .1 .1 .1 .1 .0,
+      ran .run-admitted .kept .1 .1 .1 .1 .1 .1 .0,
     )
 
 done-requires : tie.Need-done-requires
@@ -89,9 +91,13 @@ returns-2 c =
           (coefficients-read filled) (ap (λ (q : Refusal). q .number) (sym (ran .run-admitted .ensures .0)) ∙ none)
           (ran .run-admitted .ensures .1 .0 none) (ran .run-admitted .ensures .1 .1 .0 none)
           (ran .run-admitted .ensures .1 .1 .1 .1 .1 .1 .0) (ran .run-admitted .kept .1 .1 .1 .1 .1 .0) (c .done .ensures),
-      (search (needs, ran .run-admitted .kept .1 .1 .1 .1 .0), (filled .fill-floats .kept .1 .1 .0,
-          (search (needs, ran .run-admitted .kept .1 .1 .1 .1 .1 .1 .0),
-          search (needs, ran .run-admitted .kept .1 .1 .1 .1 .1 .1 .1 .0)))),
+      (
+        search (needs, ran .run-admitted .kept .1 .1 .1 .1 .0),
+        (
+          filled .fill-floats .kept .1 .1 .0,
+          (search (needs, ran .run-admitted .kept .1 .1 .1 .1 .1 .1 .0), search (needs, ran .run-admitted .kept .1 .1 .1 .1 .1 .1 .1 .0)),
+        ),
+      ),
     )
 
 same-length-7 : tie.Need-same-length-7

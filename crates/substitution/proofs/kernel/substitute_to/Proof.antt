@@ -1,5 +1,5 @@
 use native.Mathlib.Omega.{arith}
-use mathlib.Core.Path.{_≡_, sym}
+use mathlib.Core.Path.{_≡_, sym, _∙_}
 use lib.ListN.{length}
 use lib.Seq.{length-take-le}
 use Rattle.model.specs.Header.{stored}
@@ -25,8 +25,8 @@ front-to-requires c κs =
 count-of-requires : tie.Need-count-of-requires
 count-of-requires c κs =
     let start = c .before .before .before .before .before .before .before .before .before .before .before in
-    value-lengths (start .pre .0) (taken (start .args .p) (start .args .a .now) (take (start .args .at) (start .args .out .now)) .coeffs)
-    (taken (start .args .q) (start .args .b .now) (take (start .args .at) (start .args .out .now)) .coeffs)
+    value-lengths (start .pre .0) (taken (start .args .p) (start .args .a .now) (start .args .out .now) .coeffs)
+    (taken (start .args .q) (start .args .b .now) (start .args .out .now) .coeffs)
     (full start) (c .before .before .before .before .front-to .ensures .0)
 
 add-pad : tie.Need-add-pad
@@ -69,11 +69,11 @@ returns c =
     let c9 = c .before .before .before .before .before .before .before .before .before .before in
     let start = c9 .before .before .before .before .before .before .before in (
       c .with-lengths .ensures
-          ∙ value-head (start .pre .0) (taken (start .args .p) (start .args .a .now) (take (start .args .at) (start .args .out .now)) .coeffs)
-          (taken (start .args .q) (start .args .b .now) (take (start .args .at) (start .args .out .now)) .coeffs) (full start) (c9 .front-to .ensures .0),
+          ∙ value-head (start .pre .0) (taken (start .args .p) (start .args .a .now) (start .args .out .now) .coeffs)
+          (taken (start .args .q) (start .args .b .now) (start .args .out .now) .coeffs) (full start) (c9 .front-to .ensures .0),
       (
-        value-kept (start .pre .0) (taken (start .args .p) (start .args .a .now) (take (start .args .at) (start .args .out .now)) .coeffs)
-            (taken (start .args .q) (start .args .b .now) (take (start .args .at) (start .args .out .now)) .coeffs) (full start) (c9 .front-to .ensures .0)
+        value-kept (start .pre .0) (taken (start .args .p) (start .args .a .now) (start .args .out .now) .coeffs)
+            (taken (start .args .q) (start .args .b .now) (start .args .out .now) .coeffs) (full start) (c9 .front-to .ensures .0)
             (c .before .before .before .before .before .count-of .ensures) (c .before .before .before .pad .ensures),
         same-length-2 c,
       ),
