@@ -1,6 +1,6 @@
 -- REFERENCE 13.6. Document 02, W11: 'a planner drags rooms into another order and expects the same department'. A
 -- polynomial with its cap, the sum and the product of two of them under the smaller cap present (W10), and when two are
--- the same. A cap is no field of a header yet: it stands beside the polynomial.
+-- the same. No header may have a cap yet: it stands beside the polynomial.
 use mathlib.Core.Path.{_≡_}
 use mathlib.Core.Bool.{true, false}
 use mathlib.Core.List.{List}
