@@ -39,6 +39,17 @@ void *memcpy(void *to, const void *from, size_t count) {
     return to;
 }
 
+void *memmove(void *to, const void *from, size_t count) {
+    volatile unsigned char *t = to;
+    const unsigned char *f = from;
+    if ((uint64_t)to < (uint64_t)from) {
+        for (size_t i = 0; i < count; i++) t[i] = f[i];
+    } else {
+        for (size_t i = count; i > 0; i--) t[i - 1] = f[i - 1];
+    }
+    return to;
+}
+
 union both {
     uint64_t bits;
     double value;

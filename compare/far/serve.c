@@ -46,6 +46,17 @@ void *memcpy(void *to, const void *from, size_t count) {
     return to;
 }
 
+void *memmove(void *to, const void *from, size_t count) {
+    volatile unsigned char *t = to;
+    const unsigned char *f = from;
+    if ((uint64_t)to < (uint64_t)from) {
+        for (size_t i = 0; i < count; i++) t[i] = f[i];
+    } else {
+        for (size_t i = count; i > 0; i--) t[i - 1] = f[i - 1];
+    }
+    return to;
+}
+
 static double as_float(uint64_t bits) {
     union { uint64_t bits; double value; } same = {bits};
     return same.value;
