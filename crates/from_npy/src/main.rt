@@ -4,13 +4,16 @@
 // it as is read here decides (shown-front). A file that is taken has at most 98,315 bytes: twelve, a header of 65,535,
 // and 4,096 values; one byte more is read, so that a longer one is seen to be longer. A header of version 2.0 may be
 // longer still: a file with such a one that does not end here is refused by 5.
-use libc::{STDIN_FILENO, STDOUT_FILENO};
+#![tactic(auto)]
 
-fn main() {
+use replay_input::read_full;
+use std::io;
+
+fn main(rt: HostRuntime) -> io::Result<()> {
     let mut file = [0u8; 98316];
     let mut values = [0.0f64; 4096];
     let mut output = [0u8; 69649];
-    let got = io::read_full(STDIN_FILENO, &mut file);
+    let got = read_full(&mut rt.reader(), &mut file)?;
     let n = npy_sheets::show(&file[..got], &mut values, &mut output);
-    io::write_all(STDOUT_FILENO, &output[..n]);
+    rt.write_all(&output[..n])
 }

@@ -1,11 +1,13 @@
 // The arguments: which words they are no contract can say.
-use libc::STDOUT_FILENO;
 use model_decimals::Read;
 use model_forecast::Given;
 use npy_bytes::starts_with;
+use replay_input::{argument, argument_count};
+use std::env::Env;
+use std::io;
 
 // Whether the arguments are right, and the numbers that they give.
-#[derive(Drop)]
+#[derive(Clone, Copy)]
 pub struct Heard {
     pub good: bool,
     pub chance: Given,
@@ -13,9 +15,9 @@ pub struct Heard {
 }
 
 // Which name argument i is: 1 for `chance`, 2 for `total`, 0 for any other.
-fn name(i: usize) -> u8 {
+fn name(rt: &impl Env, i: usize) -> u8 {
     let mut text = [0u8; 64];
-    let n = os::arg(i, &mut text);
+    let n = argument(rt, i, &mut text);
     if (n == 6) & starts_with(&text[..n], b"chance") {
         return 1;
     }
@@ -26,9 +28,9 @@ fn name(i: usize) -> u8 {
 }
 
 // The number that argument i says.
-fn number(i: usize) -> Given {
+fn number(rt: &impl Env, i: usize) -> Given {
     let mut text = [0u8; 64];
-    let n = os::arg(i, &mut text);
+    let n = argument(rt, i, &mut text);
     let read = decimals_reading::read(&text[..n]);
     match read {
         Read::Number(x) => Given::Number(x),
@@ -44,9 +46,9 @@ fn is_number(g: Given) -> bool {
 }
 
 // Two arguments: a name and a number.
-fn one() -> Heard {
-    let first = name(1);
-    let x = number(2);
+fn one(rt: &impl Env) -> Heard {
+    let first = name(rt, 1);
+    let x = number(rt, 2);
     let good = is_number(x);
     if first == 1 {
         return Heard {
@@ -63,11 +65,11 @@ fn one() -> Heard {
 }
 
 // Four arguments: both names, in either order, each with a number.
-fn both() -> Heard {
-    let first = name(1);
-    let x = number(2);
-    let second = name(3);
-    let y = number(4);
+fn both(rt: &impl Env) -> Heard {
+    let first = name(rt, 1);
+    let x = number(rt, 2);
+    let second = name(rt, 3);
+    let y = number(rt, 4);
     let good = is_number(x) & is_number(y);
     if (first == 1) & (second == 2) {
         return Heard {
@@ -84,13 +86,13 @@ fn both() -> Heard {
 }
 
 // What the arguments ask for: nothing, one number or two.
-pub fn hear() -> Heard {
-    let count = os::arg_count();
+pub fn hear(rt: &impl Env) -> Heard {
+    let count = argument_count(rt);
     if count == 3 {
-        return one();
+        return one(rt);
     }
     if count == 5 {
-        return both();
+        return both(rt);
     }
     Heard {
         good: count < 2,
@@ -99,17 +101,35 @@ pub fn hear() -> Heard {
     }
 }
 
-fn say(text: &[u8]) {
-    io::write_all(STDOUT_FILENO, text);
+fn say(rt: &impl Print, text: &[u8]) -> io::Result<()> {
+    rt.write_all(text)
 }
 
 // What the program reads, its arguments and an example.
-pub fn say_help() {
-    say(b"usage: limits [chance Q] [total T] < SHEET\n");
-    say(b"  SHEET      a recipe, one word of 16 hex digits a line\n");
-    say(b"  chance Q   how many tubes cover this chance, as 0.95\n");
-    say(b"  total T    take parts of this total, as 1, and not of the inputs' own\n");
-    say(b"Q and T are digits, or digits, a point and digits: at most 15 from the first\n");
-    say(b"that is not 0, at most 22 behind the point. Nothing was read.\n");
-    say(b"example: limits chance 0.95 < examples/chances.sheet\n");
+pub fn say_help(rt: &impl Print) -> io::Result<()> {
+    say(rt, b"usage: limits [chance Q] [total T] < SHEET\n")?;
+    say(
+        rt,
+        b"  SHEET      a recipe, one word of 16 hex digits a line\n",
+    )?;
+    say(
+        rt,
+        b"  chance Q   how many tubes cover this chance, as 0.95\n",
+    )?;
+    say(
+        rt,
+        b"  total T    take parts of this total, as 1, and not of the inputs' own\n",
+    )?;
+    say(
+        rt,
+        b"Q and T are digits, or digits, a point and digits: at most 15 from the first\n",
+    )?;
+    say(
+        rt,
+        b"that is not 0, at most 22 behind the point. Nothing was read.\n",
+    )?;
+    say(
+        rt,
+        b"example: limits chance 0.95 < examples/chances.sheet\n",
+    )
 }

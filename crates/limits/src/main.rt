@@ -2,14 +2,17 @@
 // arguments may ask how many tubes cover a chance, and give a total.
 // No contract can say what is read or printed. `report::answer` says what is printed for a text and what is asked, as
 // much of it as is read here decides (told-front), and it is printed whole (told-whole).
+#![tactic(auto)]
+
 mod heard;
 
 ghost use Rattle.std.specs.Prelude.{◌≡◌, replicate};
 
 use heard::{hear, say_help};
-use libc::{STDIN_FILENO, STDOUT_FILENO};
 use model_forecast::Asked;
+use replay_input::read_full;
 use sheet_text::line::sheet_memory;
+use std::io;
 
 // Memory for the answer, longer than any.
 fn answer_memory() -> [u8; 262144]
@@ -18,22 +21,22 @@ fn answer_memory() -> [u8; 262144]
     [0u8; 262144]
 }
 
-fn tell(asked: Asked) {
+fn tell(rt: &(impl Input + Print), asked: Asked) -> io::Result<()> {
     let mut text = sheet_memory();
     let mut output = answer_memory();
-    let got = io::read_full(STDIN_FILENO, &mut text);
+    let got = read_full(&mut rt.reader(), &mut text)?;
     let n = report::answer(&text[..got], asked, &mut output);
-    io::write_all(STDOUT_FILENO, &output[..n]);
+    rt.write_all(&output[..n])
 }
 
-fn main() {
-    let h = hear();
+fn main(rt: HostRuntime) -> io::Result<()> {
+    let h = hear(&rt);
     let chance = h.chance;
     let total = h.total;
     let asked = Asked { chance, total };
     if h.good {
-        tell(asked);
+        tell(&rt, asked)
     } else {
-        say_help();
+        say_help(&rt)
     }
 }

@@ -2,9 +2,12 @@
 // each line whose digits change, and the mended sheet.
 // No contract can say what is read or printed. `mending::mend` says what is printed for a text, and that as much of it
 // as is read here decides (mended-front): 65,601 lines of 18 bytes.
+#![tactic(auto)]
+
 ghost use Rattle.std.specs.Prelude.{◌≡◌, replicate};
 
-use libc::{STDIN_FILENO, STDOUT_FILENO};
+use replay_input::read_full;
+use std::io;
 
 // Memory for the lines of the longest sheet that is not refused by 8.
 fn text_memory() -> [u8; 1180818]
@@ -20,10 +23,10 @@ fn answer_memory() -> [u8; 117221]
     [0u8; 117221]
 }
 
-fn main() {
+fn main(rt: HostRuntime) -> io::Result<()> {
     let mut text = text_memory();
     let mut output = answer_memory();
-    let got = io::read_full(STDIN_FILENO, &mut text);
+    let got = read_full(&mut rt.reader(), &mut text)?;
     let n = mending::mend(&text[..got], &mut output);
-    io::write_all(STDOUT_FILENO, &output[..n]);
+    rt.write_all(&output[..n])
 }

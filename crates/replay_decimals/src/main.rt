@@ -4,16 +4,18 @@
 // A case begins with 16 hex digits. A line's end behind them: the word of a float to print. A space: how many bytes of
 // text follow, at most 65,536; printed is the word of the float that they are read as, or `refused`.
 // No contract can say what is read or printed; the functions called here say what they answer.
+#![tactic(auto)]
+
 ghost use Rattle.io.specs.Counts.{IsPrefixLen};
 
 use decimals::put_float_of;
-use libc::{STDIN_FILENO, STDOUT_FILENO};
-use model_decimals::Read;
-use replay_input::read_next;
+use replay_input::{read_full, read_next};
 use report_lines::put::put;
 use sheet_bits::word_of;
 use sheet_text::line::word_at;
 use sheet_text::print::put_line;
+use std::io;
+use std::io::Read;
 
 // More cases than any input has.
 const CASES: u64 = 1000000000000;
@@ -26,57 +28,57 @@ fn float_line(word: u64, to: &mut [u8]) -> usize
     put(b"\n", end, to)
 }
 
-fn show_float(word: u64) {
+fn show_float(rt: &impl Print, word: u64) -> io::Result<()> {
     let mut output = [0u8; 32];
     let n = float_line(word, &mut output);
-    io::write_all(STDOUT_FILENO, &output[..n]);
+    rt.write_all(&output[..n])
 }
 
-fn show_word(word: u64) {
+fn show_word(rt: &impl Print, word: u64) -> io::Result<()> {
     let mut output = [0u8; 17];
     put_line(word, 0, &mut output);
-    io::write_all(STDOUT_FILENO, &output);
+    rt.write_all(&output)
 }
 
 // What a text is read as.
-fn show(text: &[u8]) {
+fn show(rt: &impl Print, text: &[u8]) -> io::Result<()> {
     match decimals_reading::read(text) {
-        Read::Number(x) => show_word(word_of(x)),
-        Read::Refused => {
-            io::write_all(STDOUT_FILENO, b"refused\n");
-        }
+        model_decimals::Read::Number(x) => show_word(rt, word_of(x)),
+        model_decimals::Read::Refused => rt.write_all(b"refused\n"),
     }
 }
 
 // The text behind a beginning that says its length.
-fn run(bytes: u64) {
-    let mut text = io::large_buffer();
-    let n = read_next(bytes as usize, &mut text);
-    show(&text[..n]);
+fn run(rt: &impl Print, input: &mut impl Read, bytes: u64) -> io::Result<()> {
+    let mut text = [0u8; 65536];
+    let n = read_next(input, bytes as usize, &mut text)?;
+    show(rt, &text[..n])
 }
 
 // The next case; whether there was one.
-fn next() -> bool {
+fn next(rt: &impl Print, input: &mut impl Read) -> io::Result<bool> {
     let mut begin = [0u8; 17];
-    let got = io::read_full(STDIN_FILENO, &mut begin);
+    let got = read_full(input, &mut begin)?;
     if got < 17 {
-        return false;
+        return Ok(false);
     }
     let word = word_at(&begin, 0);
     if begin[16] == 32 {
-        run(word);
+        run(rt, input, word)?;
     } else {
-        show_float(word);
+        show_float(rt, word)?;
     }
-    true
+    Ok(true)
 }
 
-fn main() {
+fn main(rt: HostRuntime) -> io::Result<()> {
+    let mut input = rt.reader();
     let mut left = CASES;
     while 0 < left {
-        if !next() {
-            return;
+        if !next(&rt, &mut input)? {
+            return Ok(());
         }
         left -= 1;
     }
+    Ok(())
 }

@@ -22,7 +22,7 @@ fn byte_at(text: &[u8], at: usize) -> u8
     if at < text.len() { text[at] } else { 0 }
 }
 
-fn digit_at_lem(text: &[u8], at: usize) -> u64
+fn digit_at(text: &[u8], at: usize) -> u64
     ensures is { result ≡ digit_at text.now at }
     ensures small { result < 16 }
 {
@@ -35,10 +35,10 @@ fn quarter_at(text: &[u8], at: usize) -> u64
     ensures is { result ≡ quarter_at text.now at }
     ensures small { result < 65536 }
 {
-    4096 * digit_at_lem(text, at)
-        + 256 * digit_at_lem(text, at + 1)
-        + 16 * digit_at_lem(text, at + 2)
-        + digit_at_lem(text, at + 3)
+    4096 * digit_at(text, at)
+        + 256 * digit_at(text, at + 1)
+        + 16 * digit_at(text, at + 2)
+        + digit_at(text, at + 3)
 }
 
 // Sixteen digits, the most significant first.

@@ -4,60 +4,65 @@
 // Before each stands a line of 16 hex digits: 0 for an array file, 1 for an answer and 2 for one whose file is to be
 // of version 2.0 in the first eight, and in the others how many bytes follow, at most 65,536.
 // No contract can say what is read or printed; `show` and `convert` say what is printed for bytes.
-use libc::{STDIN_FILENO, STDOUT_FILENO};
-use replay_input::read_next;
+#![tactic(auto)]
+
+use replay_input::{read_full, read_next};
 use sheet_text::line::word_at;
+use std::io;
+use std::io::Read;
 
 // More cases than any input has.
 const CASES: u64 = 1000000000000;
 
-fn show(file: &[u8]) {
+fn show(rt: &impl Print, file: &[u8]) -> io::Result<()> {
     let mut values = [0.0f64; 4096];
     let mut output = [0u8; 69649];
     let n = npy_sheets::show(file, &mut values, &mut output);
-    io::write_all(STDOUT_FILENO, &output[..n]);
+    rt.write_all(&output[..n])
 }
 
-fn convert(newer: bool, text: &[u8]) {
+fn convert(rt: &impl Print, newer: bool, text: &[u8]) -> io::Result<()> {
     let mut values = [0.0f64; 4096];
     let mut output = [0u8; 32896];
     let n = npy_sheets::convert(newer, text, &mut values, &mut output);
-    io::write_all(STDOUT_FILENO, &output[..n]);
+    rt.write_all(&output[..n])
 }
 
-fn either(kind: u64, bytes: &[u8]) {
+fn either(rt: &impl Print, kind: u64, bytes: &[u8]) -> io::Result<()> {
     if kind == 0 {
-        show(bytes);
+        show(rt, bytes)
     } else {
-        convert(kind == 2, bytes);
+        convert(rt, kind == 2, bytes)
     }
 }
 
 // The case behind the line `begin`.
-fn run(begin: &[u8]) {
-    let mut text = io::large_buffer();
+fn run(rt: &impl Print, input: &mut impl Read, begin: &[u8]) -> io::Result<()> {
+    let mut text = [0u8; 65536];
     let word = word_at(begin, 0);
-    let n = read_next((word % 4294967296) as usize, &mut text);
-    either(word / 4294967296, &text[..n]);
+    let n = read_next(input, (word % 4294967296) as usize, &mut text)?;
+    either(rt, word / 4294967296, &text[..n])
 }
 
 // The next case; whether there was one.
-fn next() -> bool {
+fn next(rt: &impl Print, input: &mut impl Read) -> io::Result<bool> {
     let mut begin = [0u8; 17];
-    let got = io::read_full(STDIN_FILENO, &mut begin);
+    let got = read_full(input, &mut begin)?;
     if got == 0 {
-        return false;
+        return Ok(false);
     }
-    run(&begin[..got]);
-    true
+    run(rt, input, &begin[..got])?;
+    Ok(true)
 }
 
-fn main() {
+fn main(rt: HostRuntime) -> io::Result<()> {
+    let mut input = rt.reader();
     let mut left = CASES;
     while 0 < left {
-        if !next() {
-            return;
+        if !next(&rt, &mut input)? {
+            return Ok(());
         }
         left -= 1;
     }
+    Ok(())
 }

@@ -4,15 +4,19 @@
 // A case is words of 16 hex digits, each with one byte behind it. The first says, from its low end: how many headers (8
 // bits) and steps (8) there are, and the edition. Then come the headers, the steps.
 // No contract can say what is read or printed.
+#![tactic(auto)]
+
 ghost use Rattle.std.specs.Prelude.{◌≡◌, length};
 
-use libc::{STDIN_FILENO, STDOUT_FILENO};
 use model::Refusal;
 use model_placing::ReuseAnswer;
 use recipes_reuse::check_reuse;
+use replay_input::read_full;
 use shape::limits::least;
 use sheet_reading::fill_words;
 use sheet_text::line::word_at;
+use std::io;
+use std::io::Read;
 
 // How many headers and steps a case has at most.
 const HEADERS: usize = 32;
@@ -22,20 +26,19 @@ const STEPS: usize = 128;
 // More cases than any input has.
 const CASES: u64 = 1000000000000;
 
-fn show_number(n: u64) {
-    io::write_all(STDOUT_FILENO, b" ");
-    io::print_decimal(STDOUT_FILENO, n);
+fn show_number(rt: &impl Print, n: u64) -> io::Result<()> {
+    print!(rt; " {n}")
 }
 
-fn show_refusal(r: Refusal) {
-    io::write_all(STDOUT_FILENO, b"refused");
-    show_number(r.number as u64);
-    show_number(r.place as u64);
-    show_number(r.variable as u64);
-    show_number(r.cause as u64);
+fn show_refusal(rt: &impl Print, r: Refusal) -> io::Result<()> {
+    rt.write_all(b"refused")?;
+    show_number(rt, r.number as u64)?;
+    show_number(rt, r.place as u64)?;
+    show_number(rt, r.variable as u64)?;
+    show_number(rt, r.cause as u64)
 }
 
-fn show(r: ReuseAnswer) {
+fn show(rt: &impl Print, r: ReuseAnswer) -> io::Result<()> {
     match r {
         ReuseAnswer::Accepted {
             pool,
@@ -43,55 +46,71 @@ fn show(r: ReuseAnswer) {
             inputs,
             last,
         } => {
-            io::write_all(STDOUT_FILENO, b"accepted");
-            show_number(pool as u64);
-            show_number(largest as u64);
-            show_number(inputs as u64);
-            show_number(last as u64);
+            rt.write_all(b"accepted")?;
+            show_number(rt, pool as u64)?;
+            show_number(rt, largest as u64)?;
+            show_number(rt, inputs as u64)?;
+            show_number(rt, last as u64)?;
         }
-        ReuseAnswer::Refused(e) => show_refusal(e),
+        ReuseAnswer::Refused(e) => show_refusal(rt, e)?,
     }
-    io::write_all(STDOUT_FILENO, b"\n");
+    rt.write_all(b"\n")
 }
 
 // The rest of a case whose first word is w, in lent memory.
-fn go_on(w: u64, rest: &mut [u8], headers: &mut [u64], steps: &mut [u64])
+fn go_on(
+    rt: &impl Print,
+    input: &mut impl Read,
+    w: u64,
+    rest: &mut [u8],
+    headers: &mut [u64],
+    steps: &mut [u64],
+) -> io::Result<()>
     requires { (65536 ≡ length rest.old) × ((32 ≡ length headers.old) × (128 ≡ length steps.old)) }
 {
     let h = least((w % 256) as usize, HEADERS);
     let s = least((w / 256 % 256) as usize, STEPS);
     let end = 17 * (h + s);
-    io::read_full(STDIN_FILENO, &mut rest[..end]);
+    read_full(input, &mut rest[..end])?;
     fill_words(rest, 0, &mut headers[..h]);
     fill_words(rest, h, &mut steps[..s]);
-    show(check_reuse(&headers[..h], &steps[..s], w / 65536));
+    show(rt, check_reuse(&headers[..h], &steps[..s], w / 65536))
 }
 
 // One case, from the text of its first word.
-fn run(begin: &[u8]) {
-    let mut rest = io::large_buffer();
+fn run(rt: &impl Print, input: &mut impl Read, begin: &[u8]) -> io::Result<()> {
+    let mut rest = [0u8; 65536];
     let mut headers = [0u64; 32];
     let mut steps = [0u64; 128];
-    go_on(word_at(begin, 0), &mut rest, &mut headers, &mut steps);
+    go_on(
+        rt,
+        input,
+        word_at(begin, 0),
+        &mut rest,
+        &mut headers,
+        &mut steps,
+    )
 }
 
 // The next case; whether there was one.
-fn next() -> bool {
+fn next(rt: &impl Print, input: &mut impl Read) -> io::Result<bool> {
     let mut begin = [0u8; 17];
-    let got = io::read_full(STDIN_FILENO, &mut begin);
+    let got = read_full(input, &mut begin)?;
     if got == 0 {
-        return false;
+        return Ok(false);
     }
-    run(&begin[..got]);
-    true
+    run(rt, input, &begin[..got])?;
+    Ok(true)
 }
 
-fn main() {
+fn main(rt: HostRuntime) -> io::Result<()> {
+    let mut input = rt.reader();
     let mut left = CASES;
     while 0 < left {
-        if !next() {
-            return;
+        if !next(&rt, &mut input)? {
+            return Ok(());
         }
         left -= 1;
     }
+    Ok(())
 }

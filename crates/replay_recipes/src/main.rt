@@ -9,16 +9,20 @@
 // sentinel.
 // No contract can say what is read or printed; the functions that do neither (alike.rt, and `sheet`'s that read words)
 // say what they answer.
+#![tactic(auto)]
+
 mod alike;
 mod show;
 
 ghost use Rattle.std.specs.Prelude.{◌≡◌, length};
 
-use libc::{STDIN_FILENO, STDOUT_FILENO};
+use replay_input::read_full;
 use shape::limits::least;
 use sheet_reading::{fill_floats, fill_words};
 use sheet_text::line::word_at;
 use show::{show_check, show_floats, show_run, show_words};
+use std::io;
+use std::io::Read;
 
 // How many headers, coefficients and steps a case has at most.
 const HEADERS: usize = 32;
@@ -39,6 +43,7 @@ const CASES: u64 = 1000000000000;
 
 // A case in its buffers.
 fn act(
+    rt: &impl Print,
     headers: &[u64],
     coefficients: &[f64],
     steps: &[u64],
@@ -46,20 +51,30 @@ fn act(
     pool: &mut [f64],
     words: &mut [u64],
     scratch: &mut [f64],
-) {
-    show_check(recipes::check(headers, steps, edition));
-    show_run(recipes::run(headers, coefficients, steps, edition, pool, words, scratch));
-    io::write_all(STDOUT_FILENO, b" pool");
-    show_floats(pool);
-    io::write_all(STDOUT_FILENO, b" words");
-    show_words(words);
-    io::write_all(STDOUT_FILENO, b" scratch");
-    show_floats(scratch);
-    io::write_all(STDOUT_FILENO, b"\n");
+) -> io::Result<()> {
+    show_check(rt, recipes::check(headers, steps, edition))?;
+    show_run(
+        rt,
+        recipes::run(headers, coefficients, steps, edition, pool, words, scratch),
+    )?;
+    rt.write_all(b" pool")?;
+    show_floats(rt, pool)?;
+    rt.write_all(b" words")?;
+    show_words(rt, words)?;
+    rt.write_all(b" scratch")?;
+    show_floats(rt, scratch)?;
+    rt.write_all(b"\n")
 }
 
 // A case that is read; w and v are its first two words.
-fn lend(w: u64, v: u64, headers: &[u64], coefficients: &[f64], steps: &[u64]) {
+fn lend(
+    rt: &impl Print,
+    w: u64,
+    v: u64,
+    headers: &[u64],
+    coefficients: &[f64],
+    steps: &[u64],
+) -> io::Result<()> {
     let p = least((v % 65536) as usize, POOL);
     let n = least((w / 4294967296 % 256) as usize, WORDS);
     let s = least((v / 65536 % 65536) as usize, SCRATCH);
@@ -67,6 +82,7 @@ fn lend(w: u64, v: u64, headers: &[u64], coefficients: &[f64], steps: &[u64]) {
     let mut words = [4607182418800017409u64; 128];
     let mut scratch = [1.0000000000000002f64; 40000];
     act(
+        rt,
         headers,
         coefficients,
         steps,
@@ -74,64 +90,70 @@ fn lend(w: u64, v: u64, headers: &[u64], coefficients: &[f64], steps: &[u64]) {
         &mut pool[..p],
         &mut words[..n],
         &mut scratch[..s],
-    );
+    )
 }
 
 // The rest of a case whose first two words are w and v, in lent memory.
 fn go_on(
+    rt: &impl Print,
+    input: &mut impl Read,
     w: u64,
     v: u64,
     rest: &mut [u8],
     headers: &mut [u64],
     coefficients: &mut [f64],
     steps: &mut [u64],
-)
+) -> io::Result<()>
     requires { (65536 ≡ length rest.old) × ((32 ≡ length headers.old) × ((1024 ≡ length coefficients.old) × (128 ≡ length steps.old))) }
 {
     let h = least((w % 256) as usize, HEADERS);
     let c = least((w / 256 % 65536) as usize, COEFFICIENTS);
     let s = least((w / 16777216 % 256) as usize, STEPS);
     let end = 17 * (h + c + s);
-    io::read_full(STDIN_FILENO, &mut rest[..end]);
+    read_full(input, &mut rest[..end])?;
     fill_words(rest, 0, &mut headers[..h]);
     fill_floats(rest, h, &mut coefficients[..c]);
     fill_words(rest, h + c, &mut steps[..s]);
-    lend(w, v, &headers[..h], &coefficients[..c], &steps[..s]);
+    lend(rt, w, v, &headers[..h], &coefficients[..c], &steps[..s])
 }
 
 // One case, from the text of its first two words.
-fn run(begin: &[u8]) {
-    let mut rest = io::large_buffer();
+fn run(rt: &impl Print, input: &mut impl Read, begin: &[u8]) -> io::Result<()> {
+    let mut rest = [0u8; 65536];
     let mut headers = [0u64; 32];
     let mut coefficients = [0.0f64; 1024];
     let mut steps = [0u64; 128];
     go_on(
+        rt,
+        input,
         word_at(begin, 0),
         word_at(begin, 17),
         &mut rest,
         &mut headers,
         &mut coefficients,
         &mut steps,
-    );
+    )
 }
 
 // The next case; whether there was one.
-fn next() -> bool {
+fn next(rt: &impl Print, input: &mut impl Read) -> io::Result<bool> {
     let mut begin = [0u8; 34];
-    let got = io::read_full(STDIN_FILENO, &mut begin);
+    let got = read_full(input, &mut begin)?;
     if got == 0 {
-        return false;
+        return Ok(false);
     }
-    run(&begin[..got]);
-    true
+    run(rt, input, &begin[..got])?;
+    Ok(true)
 }
 
-fn main() {
+fn main(rt: HostRuntime) -> io::Result<()> {
+    let mut input = rt.reader();
     let mut left = CASES;
     while 0 < left {
-        if !next() {
-            return;
+        if !next(&rt, &mut input)? {
+            return Ok(());
         }
         left -= 1;
     }
+    Ok(())
 }

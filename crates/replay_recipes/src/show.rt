@@ -1,73 +1,75 @@
 // Printing of answers and buffers. A buffer is printed whole, equal neighbours once with their count.
 use crate::alike::{alike_floats, alike_words};
-use libc::STDOUT_FILENO;
 use model::Refusal;
 use model_recipes::{CheckAnswer, RunAnswer};
+use std::io;
 
-fn show_number(n: u64) {
-    io::write_all(STDOUT_FILENO, b" ");
-    io::print_decimal(STDOUT_FILENO, n);
+fn show_number(rt: &impl Print, n: u64) -> io::Result<()> {
+    print!(rt; " {n}")
 }
 
 // So many places that hold the same word.
-fn show_places(w: u64, count: usize) {
-    io::write_all(STDOUT_FILENO, b" ");
-    io::print_hex(STDOUT_FILENO, w, 16);
+fn show_places(rt: &impl Print, w: u64, count: usize) -> io::Result<()> {
+    print!(rt; " {w:016x}")?;
     if 1 < count {
-        io::write_all(STDOUT_FILENO, b"*");
-        io::print_decimal(STDOUT_FILENO, count as u64);
+        print!(rt; "*{count}")?;
     }
+    Ok(())
 }
 
-pub fn show_words(xs: &[u64]) {
+pub fn show_words(rt: &impl Print, xs: &[u64]) -> io::Result<()> {
     let mut k = 0;
     while k < xs.len() {
         let end = alike_words(xs, k);
-        show_places(xs[k], end - k);
+        show_places(rt, xs[k], end - k)?;
         k = end;
     }
+    Ok(())
 }
 
-pub fn show_floats(xs: &[f64]) {
+pub fn show_floats(rt: &impl Print, xs: &[f64]) -> io::Result<()> {
     let mut k = 0;
     while k < xs.len() {
         let end = alike_floats(xs, k);
-        show_places(sheet_bits::word_of(xs[k]), end - k);
+        show_places(rt, sheet_bits::word_of(xs[k]), end - k)?;
         k = end;
     }
+    Ok(())
 }
 
-fn show_refusal(r: Refusal) {
-    io::write_all(STDOUT_FILENO, b"refused");
-    show_number(r.number as u64);
-    show_number(r.place as u64);
-    show_number(r.variable as u64);
-    show_number(r.cause as u64);
+fn show_refusal(rt: &impl Print, r: Refusal) -> io::Result<()> {
+    rt.write_all(b"refused")?;
+    show_number(rt, r.number as u64)?;
+    show_number(rt, r.place as u64)?;
+    show_number(rt, r.variable as u64)?;
+    show_number(rt, r.cause as u64)
 }
 
-pub fn show_check(r: CheckAnswer) {
-    io::write_all(STDOUT_FILENO, b"check ");
+pub fn show_check(rt: &impl Print, r: CheckAnswer) -> io::Result<()> {
+    rt.write_all(b"check ")?;
     match r {
         CheckAnswer::Accepted {
             pool,
             largest,
             inputs,
         } => {
-            io::write_all(STDOUT_FILENO, b"accepted");
-            show_number(pool as u64);
-            show_number(largest as u64);
-            show_number(inputs as u64);
+            rt.write_all(b"accepted")?;
+            show_number(rt, pool as u64)?;
+            show_number(rt, largest as u64)?;
+            show_number(rt, inputs as u64)?;
         }
-        CheckAnswer::Refused(e) => show_refusal(e),
+        CheckAnswer::Refused(e) => show_refusal(rt, e)?,
     }
+    Ok(())
 }
 
-pub fn show_run(r: RunAnswer) {
-    io::write_all(STDOUT_FILENO, b" run ");
+pub fn show_run(rt: &impl Print, r: RunAnswer) -> io::Result<()> {
+    rt.write_all(b" run ")?;
     match r {
         RunAnswer::Done => {
-            io::write_all(STDOUT_FILENO, b"done");
+            rt.write_all(b"done")?;
         }
-        RunAnswer::Refused(e) => show_refusal(e),
+        RunAnswer::Refused(e) => show_refusal(rt, e)?,
     }
+    Ok(())
 }

@@ -1,16 +1,18 @@
 // Prints which header words are good and what each family of operations announces, on every edge of document 01's
 // rules.
 // The stored output was worked out by tests/shapes.py from document 01 alone, and not by this code.
+#![tactic(auto)]
+
 ghost use Rattle.std.specs.Prelude.{◌≡◌};
 ghost use Rattle.model.specs.Announced.{announced};
 ghost use Rattle.shape_words.specs.Rules.{Regular};
 ghost use Rattle.replay_shapes.specs.Told.{header_or_none};
 
 use gates::stored_of;
-use libc::STDOUT_FILENO;
 use model::{Family, Header};
 use shape::announce::announced_of;
 use shape_words::word::{header_of, is_good, pack};
+use std::io;
 
 // Twelve shapes, from no variables to four.
 const SHAPES: [u64; 12] = [
@@ -127,139 +129,144 @@ fn told(f: Family, a: u64, b: u64) -> Header
 
 // What follows promises nothing: no contract can speak of what is written.
 
-fn space() {
-    io::write_all(STDOUT_FILENO, b" ");
+fn space(rt: &impl Print) -> io::Result<()> {
+    rt.write_all(b" ")
 }
 
-fn number(n: usize) {
-    space();
-    io::print_decimal(STDOUT_FILENO, n as u64);
+fn number(rt: &impl Print, n: usize) -> io::Result<()> {
+    space(rt)?;
+    print!(rt; "{n}")
 }
 
-fn word(w: u64) {
-    space();
-    io::print_hex(STDOUT_FILENO, w, 16);
+fn word(rt: &impl Print, w: u64) -> io::Result<()> {
+    space(rt)?;
+    print!(rt; "{w:016x}")
 }
 
-fn four(n: [usize; 4]) {
-    number(n[0]);
-    number(n[1]);
-    number(n[2]);
-    number(n[3]);
+fn four(rt: &impl Print, n: [usize; 4]) -> io::Result<()> {
+    number(rt, n[0])?;
+    number(rt, n[1])?;
+    number(rt, n[2])?;
+    number(rt, n[3])
 }
 
 // A word, whether it is good, and what it says.
-fn show_word(w: u64) {
-    io::print_hex(STDOUT_FILENO, w, 16);
+fn show_word(rt: &impl Print, w: u64) -> io::Result<()> {
+    print!(rt; "{w:016x}")?;
     if is_good(w) {
         let h = header_or_none(w);
         let l = h.limits;
         let n = h.lengths;
-        io::write_all(STDOUT_FILENO, b" good");
-        number(h.vars);
-        four(l);
-        four(n);
-        number(stored_of(h));
+        rt.write_all(b" good")?;
+        number(rt, h.vars)?;
+        four(rt, l)?;
+        four(rt, n)?;
+        number(rt, stored_of(h))?;
     } else {
-        io::write_all(STDOUT_FILENO, b" bad");
+        rt.write_all(b" bad")?;
     }
-    io::write_all(STDOUT_FILENO, b"\n");
+    rt.write_all(b"\n")
 }
 
-fn show_result(h: Header)
+fn show_result(rt: &impl Print, h: Header) -> io::Result<()>
     requires { Regular h }
 {
-    word(pack(h));
-    number(stored_of(h));
-    io::write_all(STDOUT_FILENO, b"\n");
+    word(rt, pack(h))?;
+    number(rt, stored_of(h))?;
+    rt.write_all(b"\n")
 }
 
 // A family on one operand: its name, the operand, exponent or variable, n or order, what is announced and its count.
-fn show_one(name: &[u8], a: u64, x: usize, n: usize, f: Family) {
-    io::write_all(STDOUT_FILENO, name);
-    word(a);
-    number(x);
-    number(n);
-    show_result(told(f, a, 0));
+fn show_one(rt: &impl Print, name: &[u8], a: u64, x: usize, n: usize, f: Family) -> io::Result<()> {
+    rt.write_all(name)?;
+    word(rt, a)?;
+    number(rt, x)?;
+    number(rt, n)?;
+    show_result(rt, told(f, a, 0))
 }
 
-fn show_shifts(a: u64, v: usize) {
-    show_one(b"shift", a, v, 0, Family::Shift(v, 0));
-    show_one(b"shift", a, v, 1, Family::Shift(v, 1));
-    show_one(b"shift", a, v, 63, Family::Shift(v, 63));
+fn show_shifts(rt: &impl Print, a: u64, v: usize) -> io::Result<()> {
+    show_one(rt, b"shift", a, v, 0, Family::Shift(v, 0))?;
+    show_one(rt, b"shift", a, v, 1, Family::Shift(v, 1))?;
+    show_one(rt, b"shift", a, v, 63, Family::Shift(v, 63))
 }
 
-fn show_ones(a: u64) {
-    show_one(b"same", a, 0, 0, Family::Same);
-    show_one(b"series", a, 0, 0, Family::Series);
-    show_one(b"power", a, 0, 0, Family::Power(0));
-    show_one(b"power", a, 1, 0, Family::Power(1));
-    show_one(b"power", a, 2, 0, Family::Power(2));
-    show_one(b"power", a, 5, 0, Family::Power(5));
-    show_one(b"power", a, 4294967295, 0, Family::Power(4294967295));
-    show_shifts(a, 0);
-    show_shifts(a, 1);
-    show_shifts(a, 3);
-    show_one(b"term", a, 0, 0, Family::Term(0));
-    show_one(b"term", a, 2, 0, Family::Term(2));
-    show_one(b"order", a, 0, 0, Family::Order(0, 0));
-    show_one(b"order", a, 1, 1, Family::Order(1, 1));
+fn show_ones(rt: &impl Print, a: u64) -> io::Result<()> {
+    show_one(rt, b"same", a, 0, 0, Family::Same)?;
+    show_one(rt, b"series", a, 0, 0, Family::Series)?;
+    show_one(rt, b"power", a, 0, 0, Family::Power(0))?;
+    show_one(rt, b"power", a, 1, 0, Family::Power(1))?;
+    show_one(rt, b"power", a, 2, 0, Family::Power(2))?;
+    show_one(rt, b"power", a, 5, 0, Family::Power(5))?;
+    show_one(rt, b"power", a, 4294967295, 0, Family::Power(4294967295))?;
+    show_shifts(rt, a, 0)?;
+    show_shifts(rt, a, 1)?;
+    show_shifts(rt, a, 3)?;
+    show_one(rt, b"term", a, 0, 0, Family::Term(0))?;
+    show_one(rt, b"term", a, 2, 0, Family::Term(2))?;
+    show_one(rt, b"order", a, 0, 0, Family::Order(0, 0))?;
+    show_one(rt, b"order", a, 1, 1, Family::Order(1, 1))?;
     show_one(
+        rt,
         b"order",
         a,
         3,
         18446744073709551615,
         Family::Order(3, 18446744073709551615),
-    );
+    )
 }
 
 // A family on two operands: its name, the operands, the variable, what is announced and its count.
-fn show_pair(name: &[u8], a: u64, b: u64, v: usize, f: Family) {
-    io::write_all(STDOUT_FILENO, name);
-    word(a);
-    word(b);
-    number(v);
-    show_result(told(f, a, b));
+fn show_pair(rt: &impl Print, name: &[u8], a: u64, b: u64, v: usize, f: Family) -> io::Result<()> {
+    rt.write_all(name)?;
+    word(rt, a)?;
+    word(rt, b)?;
+    number(rt, v)?;
+    show_result(rt, told(f, a, b))
 }
 
-fn show_pairs(a: u64, b: u64) {
-    show_pair(b"sum", a, b, 0, Family::Sum);
-    show_pair(b"product", a, b, 0, Family::Product);
-    show_pair(b"quotient", a, b, 0, Family::Quotient);
-    show_pair(b"substitution", a, b, 0, Family::Substitution(0));
-    show_pair(b"substitution", a, b, 2, Family::Substitution(2));
+fn show_pairs(rt: &impl Print, a: u64, b: u64) -> io::Result<()> {
+    show_pair(rt, b"sum", a, b, 0, Family::Sum)?;
+    show_pair(rt, b"product", a, b, 0, Family::Product)?;
+    show_pair(rt, b"quotient", a, b, 0, Family::Quotient)?;
+    show_pair(rt, b"substitution", a, b, 0, Family::Substitution(0))?;
+    show_pair(rt, b"substitution", a, b, 2, Family::Substitution(2))
 }
 
-fn show_row(a: u64) {
+fn show_row(rt: &impl Print, a: u64) -> io::Result<()> {
     let mut k = 0;
     while k < SHAPES.len() {
-        show_pairs(a, SHAPES[k]);
+        show_pairs(rt, a, SHAPES[k])?;
         k += 1;
     }
+    Ok(())
 }
 
-fn show_words() {
+fn show_words(rt: &impl Print) -> io::Result<()> {
     let mut k = 0;
     while k < WORDS.len() {
-        show_word(WORDS[k]);
+        show_word(rt, WORDS[k])?;
         k += 1;
     }
+    Ok(())
 }
 
-fn show_all_ones() {
+fn show_all_ones(rt: &impl Print) -> io::Result<()> {
     let mut k = 0;
     while k < SHAPES.len() {
-        show_ones(SHAPES[k]);
+        show_ones(rt, SHAPES[k])?;
         k += 1;
     }
+    Ok(())
 }
 
-fn main() {
-    show_words();
-    show_all_ones();
+fn main(rt: HostRuntime) -> io::Result<()> {
+    show_words(&rt)?;
+    show_all_ones(&rt)?;
     let mut k = 0;
     while k < SHAPES.len() {
-        show_row(SHAPES[k]);
+        show_row(&rt, SHAPES[k])?;
         k += 1;
     }
+    Ok(())
 }

@@ -3,43 +3,48 @@
 //
 // Before each sheet stands a line of 16 hex digits: how many bytes it has, at most 65,536.
 // No contract can say what is read or printed; `sheet::answer` says what is printed for a text.
-use libc::{STDIN_FILENO, STDOUT_FILENO};
-use replay_input::read_next;
+#![tactic(auto)]
+
+use replay_input::{read_full, read_next};
 use sheet_text::line::word_at;
+use std::io;
+use std::io::Read;
 
 // More sheets than any input has.
 const SHEETS: u64 = 1000000000000;
 
-fn show(text: &[u8]) {
+fn show(rt: &impl Print, text: &[u8]) -> io::Result<()> {
     let mut output = [0u8; 4378];
     let n = sheet::answer(text, &mut output);
-    io::write_all(STDOUT_FILENO, &output[..n]);
+    rt.write_all(&output[..n])
 }
 
 // The sheet behind the line `begin`.
-fn run(begin: &[u8]) {
-    let mut text = io::large_buffer();
-    let n = read_next(word_at(begin, 0) as usize, &mut text);
-    show(&text[..n]);
+fn run(rt: &impl Print, input: &mut impl Read, begin: &[u8]) -> io::Result<()> {
+    let mut text = [0u8; 65536];
+    let n = read_next(input, word_at(begin, 0) as usize, &mut text)?;
+    show(rt, &text[..n])
 }
 
 // The next sheet; whether there was one.
-fn next() -> bool {
+fn next(rt: &impl Print, input: &mut impl Read) -> io::Result<bool> {
     let mut begin = [0u8; 17];
-    let got = io::read_full(STDIN_FILENO, &mut begin);
+    let got = read_full(input, &mut begin)?;
     if got == 0 {
-        return false;
+        return Ok(false);
     }
-    run(&begin[..got]);
-    true
+    run(rt, input, &begin[..got])?;
+    Ok(true)
 }
 
-fn main() {
+fn main(rt: HostRuntime) -> io::Result<()> {
+    let mut input = rt.reader();
     let mut left = SHEETS;
     while 0 < left {
-        if !next() {
-            return;
+        if !next(&rt, &mut input)? {
+            return Ok(());
         }
         left -= 1;
     }
+    Ok(())
 }

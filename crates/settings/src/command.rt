@@ -3,59 +3,61 @@
 ghost use Rattle.settings_command.specs.Argument.{whole_of, chance_of};
 ghost use Rattle.settings.specs.Given.{Given, CallGiven, HeardGiven};
 
-use libc::STDOUT_FILENO;
 use model_settings::Content;
+use replay_input::{argument, argument_count};
 use settings_command::argument::{Taken, call_of, chance_of, whole_of};
 use settings_command::asked::Asked;
+use std::env::Env;
 
 // What the arguments ask for, and whether each one that the call has says a number.
-#[derive(Drop)]
+#[derive(Clone, Copy)]
 pub struct Heard {
     pub good: bool,
     pub asked: Asked,
 }
 
-pub fn say(text: &[u8]) {
-    io::write_all(STDOUT_FILENO, text);
+// Where nothing can be printed the steps go on: what is made of FILE does not hang on who listens.
+pub fn say(rt: &impl Print, text: &[u8]) {
+    let _ = rt.write_all(text);
 }
 
 // Argument i as a whole number.
-fn given(i: usize) -> Taken
+fn given(rt: &impl Env, i: usize) -> Taken
     ensures { Given whole_of result }
 {
     let mut text = [0u8; 64];
-    let n = os::arg(i, &mut text);
+    let n = argument(rt, i, &mut text);
     whole_of(&text[..n])
 }
 
 // Argument i as the word of a chance.
-fn given_chance(i: usize) -> Taken
+fn given_chance(rt: &impl Env, i: usize) -> Taken
     ensures { Given chance_of result }
 {
     let mut text = [0u8; 64];
-    let n = os::arg(i, &mut text);
+    let n = argument(rt, i, &mut text);
     chance_of(&text[..n])
 }
 
 // Which call argument 2 names, with as many arguments as it takes; 0 for none.
-pub fn call_given() -> u8
+pub fn call_given(rt: &impl Env) -> u8
     ensures { CallGiven result }
 {
     let mut name = [0u8; 64];
-    let n = os::arg(2, &mut name);
-    call_of(&name[..n], os::arg_count())
+    let n = argument(rt, 2, &mut name);
+    call_of(&name[..n], argument_count(rt))
 }
 
 // What the arguments ask of a call.
-pub fn asked_of(call: u8) -> Heard
+pub fn asked_of(rt: &impl Env, call: u8) -> Heard
     ensures { HeardGiven call result }
 {
-    let department = given(3);
-    let from = given(4);
-    let kept = given(5);
-    let chance = given_chance(5);
-    let horizon = given(6);
-    let recipe = given(7);
+    let department = given(rt, 3);
+    let from = given(rt, 4);
+    let kept = given(rt, 5);
+    let chance = given_chance(rt, 5);
+    let horizon = given(rt, 6);
+    let recipe = given(rt, 7);
     let saved = from.good & (chance.good & (horizon.good & recipe.good));
     let brought = from.good & kept.good;
     let content = Content {

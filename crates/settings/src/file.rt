@@ -1,71 +1,113 @@
-// The store's file. What the system does is its own: these functions ask it, and answer what it said.
+// The store's file. What the system does is its own: these functions ask it, and answer what it said. A name is text: a
+// name that is not UTF-8 is no file's that can be opened or made.
 ghost use Rattle.settings.specs.Given.{Loaded};
 
+use replay_input::read_full;
 use settings_command::argument::folder_length;
 use settings_text::file::take_store;
-use settings_text::whole::{beside, store};
+use settings_text::whole::store;
+use std::fs::{File, OpenFile};
+use std::io::{ErrorKind, Read, Write};
+use std::rt::Files;
+use std::{fs, io, str};
+
+fn not_text() -> io::Error {
+    io::Error::from(ErrorKind::InvalidInput)
+}
+
+fn opened<R: Files>(rt: &R, path: &[u8]) -> io::Result<R::File> {
+    match str::from_utf8(path) {
+        Ok(name) => File::open(rt, name),
+        Err(_) => Err(not_text()),
+    }
+}
+
+// Makes a new file, where nothing has the name.
+pub fn created<R: Files>(rt: &R, path: &[u8]) -> io::Result<R::File> {
+    match str::from_utf8(path) {
+        Ok(name) => File::create_new(rt, name),
+        Err(_) => Err(not_text()),
+    }
+}
+
+pub fn renamed(rt: &impl Files, from: &[u8], to: &[u8]) -> io::Result<()> {
+    match (str::from_utf8(from), str::from_utf8(to)) {
+        (Ok(old), Ok(new)) => fs::rename(rt, old, new),
+        _ => Err(not_text()),
+    }
+}
+
+pub fn removed(rt: &impl Files, path: &[u8]) -> io::Result<()> {
+    match str::from_utf8(path) {
+        Ok(name) => fs::remove_file(rt, name),
+        Err(_) => Err(not_text()),
+    }
+}
 
 // Whether the name is no file's yet: 0, or 4 where it is one's or that cannot be seen.
-pub fn is_free(path: &[u8]) -> u8 {
-    let fd = os::open_read(path);
-    if 0 <= fd {
-        libc::close(fd);
-        return 4;
+pub fn is_free(rt: &impl Files, path: &[u8]) -> u8 {
+    match opened(rt, path) {
+        Ok(_) => 4,
+        Err(e) => {
+            if e.kind() == ErrorKind::NotFound {
+                0
+            } else {
+                4
+            }
+        }
     }
-    if os::errno() == libc::ENOENT { 0 } else { 4 }
 }
 
 // Whether the name is a link's. A change renames over the name, and would leave the file that the link leads to behind.
-pub fn is_link(path: &[u8]) -> bool {
-    let mut name = io::buffer();
-    beside(path, b"", &mut name);
-    name[4095] = 0;
-    let mut target = [0u8; 1];
-    0 <= libc::readlink(&name, &mut target)
+pub fn is_link(rt: &impl Files, path: &[u8]) -> bool {
+    match str::from_utf8(path) {
+        Ok(name) => match fs::symlink_metadata(rt, name) {
+            Ok(found) => found.is_symlink(),
+            Err(_) => false,
+        },
+        Err(_) => false,
+    }
 }
 
 // The store's words: 0 where they were read; else they are as they were. 1: the file could not be opened, 2: not read
 // to its end, 3: it is no store's file.
-pub fn load(path: &[u8], words: &mut [u64; 544]) -> u8
+pub fn load(rt: &impl Files, path: &[u8], words: &mut [u64; 544]) -> u8
     ensures { Loaded result words.old words.new }
 {
-    let fd = os::open_read(path);
-    if fd < 0 {
+    let Ok(mut file) = opened(rt, path) else {
         return 1;
-    }
+    };
     let mut text = [0u8; 9249];
-    let n = io::read_full(fd, &mut text);
+    let Ok(n) = read_full(&mut file, &mut text) else {
+        return 2;
+    };
     let mut more = [0u8; 1];
-    let failed = libc::read(fd, &mut more) < 0;
-    libc::close(fd);
-    if failed {
+    if file.read(&mut more).is_err() {
         return 2;
     }
     if take_store(&text[..n], words) { 0 } else { 3 }
 }
 
 // Writes the words to a new file, asks that they reach the disk, and closes it; whether all of it went well.
-pub fn written(fd: i32, words: &[u64; 544]) -> bool {
+pub fn written<F: Write + OpenFile + Drop>(file: F, words: &[u64; 544]) -> bool {
+    let mut file = file;
     let mut text = [0u8; 9248];
     let n = store(words, &mut text);
-    let all = io::write_all(fd, &text[..n]);
-    let synced = libc::fsync(fd) == 0;
-    let closed = libc::close(fd) == 0;
-    all & (synced & closed)
+    let all = file.write_all(&text[..n]).is_ok();
+    let synced = file.sync_all().is_ok();
+    all & synced
 }
 
 // Asks that what was renamed in the folder reach the disk; whether it did.
-pub fn folder_synced(path: &[u8]) -> bool {
+pub fn folder_synced(rt: &impl Files, path: &[u8]) -> bool {
     let n = folder_length(path);
-    let fd = if n == 0 {
-        os::open_read(b".")
+    let folder = if n == 0 {
+        opened(rt, b".")
     } else {
-        os::open_read(&path[..n])
+        opened(rt, &path[..n])
     };
-    if fd < 0 {
-        return false;
+    match folder {
+        Ok(file) => file.sync_all().is_ok(),
+        Err(_) => false,
     }
-    let synced = libc::fsync(fd) == 0;
-    libc::close(fd);
-    synced
 }

@@ -10,7 +10,7 @@ use sheet_bits::word_of;
 use sheet_text::line::word_at;
 
 // What an argument says: whether it is a number, and which.
-#[derive(Drop)]
+#[derive(Clone, Copy)]
 pub struct Taken {
     pub good: bool,
     pub value: u64,

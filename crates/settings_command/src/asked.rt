@@ -11,7 +11,7 @@ use report_lines::put::put;
 use settings_text::line::{put_department, put_departments, put_versions};
 
 // What the arguments ask for: 1 fresh, 2 list, 3 versions, 4 save, 5 back; of the others those that the call has.
-#[derive(Drop)]
+#[derive(Clone, Copy)]
 pub struct Asked {
     pub call: u8,
     pub department: u64,
@@ -96,7 +96,7 @@ fn reply(asked: Asked, answer: Settled, words: &[u64], to: &mut [u8]) -> usize
 }
 
 // Whether a call changed the words, and how many bytes are printed of it.
-#[derive(Drop)]
+#[derive(Clone, Copy)]
 pub struct Performed {
     pub keep: bool,
     pub length: usize,

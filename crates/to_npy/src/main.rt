@@ -3,48 +3,46 @@
 // No contract can say what is read or printed. `npy_sheets::convert` says what is printed for a text, and that as much
 // of it as is read here decides (array-front). An answer has at most 69,657 bytes: a first line of eight, a header and
 // 4,096 coefficients of 17; one byte more is read, so that a longer one is seen to be longer.
-use libc::{STDIN_FILENO, STDOUT_FILENO};
+#![tactic(auto)]
+
 use npy_bytes::starts_with;
+use replay_input::{argument, argument_count, read_full};
+use std::env::Env;
+use std::io;
 
 // Which version is asked for: 1 where there is no argument, 2 where there is one, `2.0`, and 0 for any others.
-fn asked() -> u8 {
-    let count = os::arg_count();
+fn asked(rt: &impl Env) -> u8 {
+    let count = argument_count(rt);
     if count < 2 {
         return 1;
     }
     let mut text = [0u8; 8];
-    let n = os::arg(1, &mut text);
+    let n = argument(rt, 1, &mut text);
     if (count == 2) & (n == 3) & starts_with(&text[..n], b"2.0") {
         return 2;
     }
     0
 }
 
-fn say_usage() {
-    io::write_all(
-        STDOUT_FILENO,
-        b"to_npy < ANSWER > FILE      an array file of version 1.0\n",
-    );
-    io::write_all(
-        STDOUT_FILENO,
-        b"to_npy 2.0 < ANSWER > FILE  of version 2.0. Nothing was read.\n",
-    );
+fn say_usage(rt: &impl Print) -> io::Result<()> {
+    rt.write_all(b"to_npy < ANSWER > FILE      an array file of version 1.0\n")?;
+    rt.write_all(b"to_npy 2.0 < ANSWER > FILE  of version 2.0. Nothing was read.\n")
 }
 
-fn convert(newer: bool) {
+fn convert(rt: &(impl Input + Print), newer: bool) -> io::Result<()> {
     let mut text = [0u8; 69658];
     let mut values = [0.0f64; 4096];
     let mut output = [0u8; 32896];
-    let got = io::read_full(STDIN_FILENO, &mut text);
+    let got = read_full(&mut rt.reader(), &mut text)?;
     let n = npy_sheets::convert(newer, &text[..got], &mut values, &mut output);
-    io::write_all(STDOUT_FILENO, &output[..n]);
+    rt.write_all(&output[..n])
 }
 
-fn main() {
-    let version = asked();
+fn main(rt: HostRuntime) -> io::Result<()> {
+    let version = asked(&rt);
     if version == 0 {
-        say_usage();
+        say_usage(&rt)
     } else {
-        convert(version == 2);
+        convert(&rt, version == 2)
     }
 }
