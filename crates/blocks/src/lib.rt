@@ -1,4 +1,6 @@
 // What every kernel does with lent memory: copy, clear, cut, join. Each writes all of the part that it is lent.
+#![tactic(auto)]
+
 ghost use Rattle.std.specs.Prelude.{◌≡◌, ℕ, ◌≤◌, ◌<◌, length, get_or, take};
 ghost use Rattle.std.specs.Float.{nan};
 ghost use Rattle.lists.specs.Table.{table};
@@ -18,7 +20,7 @@ ghost use Rattle.blocks.specs.Same.{same_lengths};
 ghost use Rattle.blocks.specs.Merge.{merge, Merged};
 
 // The lengths of two blocks, one inside the other.
-#[derive(Drop)]
+#[derive(Clone, Copy)]
 struct Nested {
     of: [usize; 4],
     to: [usize; 4],
@@ -82,7 +84,7 @@ fn join_line(minus: bool, with: &[f64], to: &mut [f64])
 }
 
 // Whether the lengths are the same.
-pub fn is_same_lem(n: [usize; 4], m: [usize; 4]) -> bool
+pub fn is_same(n: [usize; 4], m: [usize; 4]) -> bool
     ensures { result ≡ same_lengths n m }
 {
     (n[0] == m[0]) & (n[1] == m[1]) & (n[2] == m[2]) & (n[3] == m[3])
@@ -127,7 +129,7 @@ fn load_rows(a: &[f64], n: [usize; 4], c: [usize; 4], to: &mut [f64])
         let from = shape_words::places::place_of(n, i);
         copy(&a[from..from + width], &mut to[at..at + width]);
         at += width;
-        let next = shape_words::places::next_row_lem(c, i);
+        let next = shape_words::places::next_row(c, i);
         i = next;
     }
 }
@@ -137,7 +139,7 @@ pub fn load(a: &[f64], n: [usize; 4], c: [usize; 4], to: &mut [f64])
     requires { Cutting n c (length a.now) (length to.old) }
     ensures { to.new ≡ table (count c) (λ k. read_at (block n a.now) (index c k)) }
 {
-    if is_same_lem(n, c) {
+    if is_same(n, c) {
         copy(a, to);
         return;
     }
@@ -174,7 +176,7 @@ fn join_rows(minus: bool, a: &[f64], n: [usize; 4], r: [usize; 4], to: &mut [f64
     while at < to.len() {
         join_row(minus, a, n, i, &mut to[at..at + width]);
         at += width;
-        let next = shape_words::places::next_row_lem(r, i);
+        let next = shape_words::places::next_row(r, i);
         i = next;
     }
 }
@@ -239,7 +241,7 @@ fn join_both(
     requires { Combining n m r (length a.now) (length b.now) (length to.old) }
     ensures { to.new ≡ table (count r) (place_joined minus (block n a.now) (block m b.now) r) }
 {
-    if is_same_lem(n, m) {
+    if is_same(n, m) {
         join_lines(minus, a, b, to);
         return;
     }

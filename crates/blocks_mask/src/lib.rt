@@ -1,5 +1,7 @@
 // A block under a cap on total degree (document 02, W10): places whose indices add up to the cap or more are set to
 // +0.0, and the test that they are (17).
+#![tactic(auto)]
+
 ghost use Rattle.std.specs.Prelude.{◌≡◌, ℕ, ◌-◌, ◌≤◌, ◌<◌, min, length};
 ghost use Rattle.lists.specs.Every.{every};
 ghost use Rattle.lists.specs.Table.{table};
@@ -42,7 +44,7 @@ fn mask_rows(n: [usize; 4], cap: usize, to: &mut [f64])
     while at < to.len() {
         mask_row(i[0] + i[1] + i[2], cap, &mut to[at..at + width]);
         at += width;
-        let next = shape_words::places::next_row_lem(n, i);
+        let next = shape_words::places::next_row(n, i);
         i = next;
     }
 }
@@ -88,7 +90,7 @@ fn rows_are_clean(n: [usize; 4], cap: usize, of: &[f64]) -> bool
             return false;
         }
         at += width;
-        let next = shape_words::places::next_row_lem(n, i);
+        let next = shape_words::places::next_row(n, i);
         i = next;
     }
     true

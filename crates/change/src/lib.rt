@@ -1,4 +1,6 @@
 // What changes one variable (document 01, port order 7). Each entry takes any words, numbers and buffers.
+#![tactic(auto)]
+
 pub mod kernel;
 
 ghost use Rattle.model.specs.Promises.{DerivativePromise, TaylorExpansionOfCoeffPromise, ShiftDownPromise};

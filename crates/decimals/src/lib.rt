@@ -1,5 +1,7 @@
 // Floats as people read them: in decimal, at most nine digits behind the point, to the nearest, and ~ in front where
 // that is not the float itself (docs/REFERENCE.md, section 10).
+#![tactic(auto)]
+
 pub mod part;
 pub mod print;
 pub mod value;

@@ -3,22 +3,22 @@ ghost use Rattle.std.specs.Prelude.{◌≡◌, ◌+◌, ◌-◌, ◌*◌, ◌^�
 ghost use Rattle.decimals.specs.Rounded.{Rounded, rounded_halves};
 ghost use Rattle.decimals.specs.Billionths.{IsBillionths, Carried};
 
-#[derive(Drop)]
+#[derive(Clone, Copy)]
 pub struct Part {
     pub size: u64,
     pub exact: bool,
 }
 
 // Billionths as a whole number and less than 10 ^ 9 of them.
-#[derive(Drop)]
+#[derive(Clone, Copy)]
 pub struct Billionths {
     pub whole: u64,
     pub part: u64,
     pub exact: bool,
 }
 
-// Halves, and whether something stands behind them, rounded_lem to the nearest; a tie to the even one.
-fn rounded_lem(halves: u64, rest: bool) -> u64
+// Halves, and whether something stands behind them, rounded to the nearest; a tie to the even one.
+fn rounded(halves: u64, rest: bool) -> u64
     ensures { result ≡ rounded_halves halves rest }
 {
     let whole = halves / 2;
@@ -29,7 +29,7 @@ fn rounded_lem(halves: u64, rest: bool) -> u64
 }
 
 // The fraction f / 2 ^ (32 + j). The product with 10 ^ 9 does not fit a word: its lower 31 binary digits stand apart.
-fn part_of_lem(f: u64, j: u64) -> Part
+fn part_of(f: u64, j: u64) -> Part
     requires { (f < 9007199254740992) × (j < 64) }
     ensures { Rounded result.size result.exact (f * 1000000000) (2 ^ (j + 32)) }
 {
@@ -39,13 +39,13 @@ fn part_of_lem(f: u64, j: u64) -> Part
     let halves = high / unit;
     let rest = (high % unit != 0) | (low % 2147483648 != 0);
     Part {
-        size: rounded_lem(halves, rest),
+        size: rounded(halves, rest),
         exact: (halves % 2 == 0) & !rest,
     }
 }
 
-// A part that was rounded_lem up to a whole is one.
-fn carried_lem(whole: u64, p: Part) -> Billionths
+// A part that was rounded up to a whole is one.
+fn carried(whole: u64, p: Part) -> Billionths
     requires { (whole < 9007199254740992) × (p.size ≤ 1000000000) }
     ensures { Carried whole p.size p.exact result.whole result.part result.exact }
 {
@@ -78,11 +78,11 @@ pub fn billionths_of(b: u64, behind: u64) -> Billionths
         };
     }
     if 52 < behind {
-        return carried_lem(0, part_of_lem(b, behind - 32));
+        return carried(0, part_of(b, behind - 32));
     }
     let unit = 1 << behind;
     if 31 < behind {
-        return carried_lem(b / unit, part_of_lem(b % unit, behind - 32));
+        return carried(b / unit, part_of(b % unit, behind - 32));
     }
-    carried_lem(b / unit, part_of_lem((b % unit) << (32 - behind), 0))
+    carried(b / unit, part_of((b % unit) << (32 - behind), 0))
 }

@@ -1,4 +1,6 @@
 // Reading a number as people type it: digits, and perhaps a point and digits behind it (docs/REFERENCE.md, section 10).
+#![tactic(auto)]
+
 pub mod quotient;
 pub mod scanning;
 

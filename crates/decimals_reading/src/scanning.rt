@@ -4,7 +4,7 @@ ghost use Rattle.decimals_reading.specs.Scanned.{none, pushed_digit, pushed};
 
 // What was seen of a text so far. Stage 0: nothing; 1: digits; 2: a point behind them; 3: digits behind the point; 4:
 // no number. `size` is what all the digits make, `places` how many stand behind the point.
-#[derive(Drop)]
+#[derive(Clone, Copy)]
 pub struct Scan {
     pub stage: u64,
     pub size: u64,

@@ -1,4 +1,6 @@
 // The exponential of a constant as an entry (document 02, W13). It takes any float.
+#![tactic(auto)]
+
 ghost use Rattle.model_exponential.specs.Promises.{ExpConstantPromise};
 
 use exponential_head::{exp_head, in_range};

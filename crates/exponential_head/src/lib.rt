@@ -1,5 +1,7 @@
 // The exponential of a constant (document 02, W13), in floats: which constants have one, and its steps. What the result
 // is worth is a law on the definitions, `head_near` of laws_exponential.
+#![tactic(auto)]
+
 ghost use Rattle.std.specs.Prelude.{◌≡◌};
 ghost use Rattle.model_exponential.specs.Head.{exp_head};
 ghost use Rattle.model_exponential.specs.Constant.{in_range};

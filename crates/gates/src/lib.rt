@@ -1,5 +1,7 @@
 // Gates: whether a call is refused, by which number, from header words, lengths of buffers, variables and limits alone;
 // and how an entry opens: the gate, and the headers and counts that it works out on its way.
+#![tactic(auto)]
+
 ghost use Rattle.std.specs.Prelude.{◌≡◌, ◌*◌, ◌||◌, leb, ltb};
 ghost use Rattle.model.specs.Header.{limit, stored};
 ghost use Rattle.model.specs.Word.{header_of};
@@ -93,7 +95,7 @@ fn below_gate(a: Header, v: usize, d: usize, told: Header, lent: usize) -> Refus
 }
 
 // One operand to read: why it is refused, and its header.
-#[derive(Drop)]
+#[derive(Clone, Copy)]
 pub struct Read {
     pub refusal: Refusal,
     pub head: Header,
@@ -210,7 +212,7 @@ pub fn tail_gate(word: u64, given: usize, k: usize, total: f64) -> Refusal
 
 // An entry as it opens: why the call is refused; where it is not, the operands' headers, the announced header and the
 // stored counts. Where there is one operand, b has no variables.
-#[derive(Drop)]
+#[derive(Clone, Copy)]
 pub struct Opened {
     pub refusal: Refusal,
     pub a: Header,

@@ -1,4 +1,6 @@
 // Where the sums and products of `model` are exact on whole numbers. A crate needs a function: this one.
+#![tactic(auto)]
+
 ghost use Rattle.std.specs.Prelude.{◌≡◌};
 
 pub fn same(x: f64) -> f64

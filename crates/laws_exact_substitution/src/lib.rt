@@ -1,4 +1,6 @@
 // Where the substitution of `model` is exact on whole numbers. A crate needs a function: this one.
+#![tactic(auto)]
+
 ghost use Rattle.std.specs.Prelude.{◌≡◌};
 
 pub fn same(x: f64) -> f64

@@ -1,5 +1,7 @@
 // Sheets from the old exporter (document 02's W14), mended: lower case, plain newlines, zero in spare bits and in step
 // fields that a kind does not use, and nothing behind the last step.
+#![tactic(auto)]
+
 pub mod lines;
 pub mod print;
 pub mod reading;

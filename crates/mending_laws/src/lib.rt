@@ -1,4 +1,6 @@
 // What is proved of mending: specs/. A crate needs a function: this one.
+#![tactic(auto)]
+
 ghost use Rattle.std.specs.Prelude.{◌≡◌};
 
 pub fn same(x: u64) -> u64

@@ -1,4 +1,6 @@
 // The plain data that every crate shares. What it means is in specs/: the definitions of document 01, and no laws.
+#![tactic(auto)]
+
 ghost use Rattle.std.specs.Prelude.{◌≡◌, ◌<◌};
 ghost use Rattle.model.specs.Header.{with_lengths, no_header, zero_with, var_with, limit_or_one, two_at_most};
 ghost use Rattle.model.specs.Gates.{var_header};
@@ -8,7 +10,7 @@ ghost use Rattle.model.specs.Linear.{no_linear};
 
 // A polynomial's number of variables, its limits (the Rust's `degrees_p1`), its stored lengths, 1 and 1 for a missing
 // variable, and its cap on the total degree, 0 for none (document 02, W10).
-#[derive(Drop)]
+#[derive(Clone, Copy)]
 pub struct Header {
     pub vars: usize,
     pub limits: [usize; 4],
@@ -18,7 +20,7 @@ pub struct Header {
 
 // What is wrong with a header word, or with limits that a constructor is given (document 02, W5): the variable, 4 for
 // none, and the cause, 1 to 6; 0 and 0 where nothing is.
-#[derive(Drop)]
+#[derive(Clone, Copy)]
 pub struct Fault {
     pub variable: u8,
     pub cause: u8,
@@ -26,7 +28,7 @@ pub struct Fault {
 
 // Why a call was refused: document 01's number, 0 for no refusal, and the place it is about, 64 for none in particular;
 // variable and cause of the fault where the number is 1, else 0 and 0.
-#[derive(Drop)]
+#[derive(Clone, Copy)]
 pub struct Refusal {
     pub number: u8,
     pub place: u8,
@@ -35,28 +37,28 @@ pub struct Refusal {
 }
 
 // A polynomial was written, and this is its header word; or nothing was.
-#[derive(Drop)]
+#[derive(Clone, Copy)]
 pub enum Answer {
     Done(u64),
     Refused(Refusal),
 }
 
 // A number that was read off a polynomial.
-#[derive(Drop)]
+#[derive(Clone, Copy)]
 pub enum Reading {
     Done(f64),
     Refused(Refusal),
 }
 
 // A number of places that was read off a polynomial.
-#[derive(Drop)]
+#[derive(Clone, Copy)]
 pub enum CountReading {
     Done(usize),
     Refused(Refusal),
 }
 
 // c + m * v, where `yes`; else all 0.
-#[derive(Drop)]
+#[derive(Clone, Copy)]
 pub struct Linear {
     pub yes: bool,
     pub c: f64,
@@ -65,14 +67,14 @@ pub struct Linear {
 }
 
 // How a product is made: which of its ways (specs/Product.antt numbers them), with the constant or the linear factor.
-#[derive(Drop)]
+#[derive(Clone, Copy)]
 pub struct Way {
     pub kind: usize,
     pub line: Linear,
 }
 
 // Whether a polynomial is linear.
-#[derive(Drop)]
+#[derive(Clone, Copy)]
 pub enum LinearReading {
     Done(Linear),
     Refused(Refusal),
@@ -80,7 +82,7 @@ pub enum LinearReading {
 
 // The families of operations that announce their limits and lengths alike, with the numbers that decide them: an
 // exponent, a variable, n or an order.
-#[derive(Drop)]
+#[derive(Clone, Copy)]
 pub enum Family {
     // A constant that carries no limits.
     Constant,

@@ -1,8 +1,9 @@
 // Numbers as people read and type them (docs/REFERENCE.md, section 10): the plain data. What it means is in specs/, and
 // no laws.
+#![tactic(auto)]
 
 // What a text is read as.
-#[derive(Drop)]
+#[derive(Clone, Copy)]
 pub enum Read {
     Number(f64),
     Refused,

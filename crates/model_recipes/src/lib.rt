@@ -1,8 +1,10 @@
 // The plain data of recipes. What it means is in specs/: document 01's 'Recipes', and no laws.
+#![tactic(auto)]
+
 use model::Refusal;
 
 // The fields of a recipe's step word.
-#[derive(Drop)]
+#[derive(Clone, Copy)]
 pub struct Step {
     pub kind: usize,
     pub a: usize,
@@ -39,7 +41,7 @@ impl Step {
 }
 
 // Which fields a kind of step uses, where there is such a kind.
-#[derive(Drop)]
+#[derive(Clone, Copy)]
 pub struct Uses {
     pub kind: bool,
     pub a: bool,
@@ -50,7 +52,7 @@ pub struct Uses {
 
 // A recipe may be run, and this is what it takes: the pool total, the largest announced step count, the input
 // coefficient total.
-#[derive(Drop)]
+#[derive(Clone, Copy)]
 pub enum CheckAnswer {
     Accepted {
         pool: usize,
@@ -62,7 +64,7 @@ pub enum CheckAnswer {
 
 // Every step's value was written, with its header word; or the run was refused: before its first step, and nothing was
 // written, or at a step that stops it (12), and +0.0 and 0 stand where values and words would.
-#[derive(Drop)]
+#[derive(Clone, Copy)]
 pub enum RunAnswer {
     Done,
     Refused(Refusal),

@@ -1,4 +1,6 @@
 // Array files of NumPy (document 02, W2 and W12): a file to a polynomial, and a polynomial to a file.
+#![tactic(auto)]
+
 ghost use Rattle.std.specs.Prelude.{true, false};
 ghost use Rattle.npy_files.specs.Reads.{Reading};
 ghost use Rattle.npy.specs.Promise.{WritePromise};
@@ -8,7 +10,7 @@ use npy_bytes::put_data;
 use npy_columns::fill_as;
 use npy_files::Written;
 use npy_reading::{head_of, open_file};
-use npy_writing::put_front_lem;
+use npy_writing::put_front;
 use shape_words::places::count_of;
 use shape_words::word::{bad_word, good_header, header_of, is_good, pack};
 
@@ -58,7 +60,7 @@ pub fn write_as(newer: bool, head: u64, a: &[f64], file: &mut [u8]) -> Written
     if file.len() < 128 + 8 * count {
         return Written::refused(5);
     }
-    let start = put_front_lem(newer, h.vars, n, file);
+    let start = put_front(newer, h.vars, n, file);
     let end = put_data(&a[..count], start, file);
     Written::Done(end)
 }

@@ -1,4 +1,6 @@
 // Bytes of array files as numbers and floats, and back.
+#![tactic(auto)]
+
 ghost use Rattle.std.specs.Prelude.{true, ◌≡◌, ◌+◌, ◌*◌, ◌^◌, ◌≤◌, ◌<◌, length};
 ghost use Rattle.lists.specs.Table.{table};
 ghost use Rattle.std.specs.Float.Ieee.{of_bits};
@@ -30,7 +32,7 @@ pub fn starts_with(file: &[u8], word: &[u8]) -> bool
     true
 }
 
-fn wide_lem(b: u8) -> u64
+fn wide(b: u8) -> u64
     ensures { (result ≡ b) × (result ≤ 255) }
 {
     b as u64
@@ -41,7 +43,7 @@ pub fn little_2(file: &[u8], at: usize) -> u64
     requires { at + 2 ≤ length file.now }
     ensures { (result ≡ little 2 file.now at) × (result ≤ 65535) }
 {
-    wide_lem(file[at]) + 256 * wide_lem(file[at + 1])
+    wide(file[at]) + 256 * wide(file[at + 1])
 }
 
 // A byte above the k bits of a number.
@@ -49,7 +51,7 @@ fn joined(low: u64, b: u8, k: u64) -> u64
     requires { (low < 2 ^ k) × (k ≤ 56) }
     ensures { (result ≡ b * 2 ^ k + low) × (result < 2 ^ (k + 8)) }
 {
-    low | (wide_lem(b) << k)
+    low | (wide(b) << k)
 }
 
 // The number in four bytes.
@@ -57,7 +59,7 @@ pub fn little_4(file: &[u8], at: usize) -> u64
     requires { at + 4 ≤ length file.now }
     ensures { (result ≡ little 4 file.now at) × (result < 4294967296) }
 {
-    let b = joined(wide_lem(file[at]), file[at + 1], 8);
+    let b = joined(wide(file[at]), file[at + 1], 8);
     let c = joined(b, file[at + 2], 16);
     joined(c, file[at + 3], 24)
 }
@@ -68,7 +70,7 @@ pub fn little_8(file: &[u8], at: usize) -> u64
     requires { at + 8 ≤ length file.now }
     ensures { result ≡ little 8 file.now at }
 {
-    let b = joined(wide_lem(file[at]), file[at + 1], 8);
+    let b = joined(wide(file[at]), file[at + 1], 8);
     let c = joined(b, file[at + 2], 16);
     let d = joined(c, file[at + 3], 24);
     let e = joined(d, file[at + 4], 32);

@@ -1,4 +1,6 @@
 // Values of an array file in either order (document 02, W2 and W12), at the places of a polynomial: last index fastest.
+#![tactic(auto)]
+
 ghost use Rattle.std.specs.Prelude.{◌≡◌, length};
 ghost use Rattle.lists.specs.Table.{table};
 ghost use Rattle.model.specs.Header.{count};
@@ -9,7 +11,7 @@ ghost use Rattle.npy_columns.specs.Places.{SamePlaces};
 ghost use Rattle.npy_columns.specs.Lines.{width_of, order_of, line_of, Along, ColumnsFit, columns_of, values_of};
 
 use npy_bytes::{fill, fill_4, float_of_4, little_4, little_8};
-use shape_words::places::{next_row_lem, place_of};
+use shape_words::places::{next_row, place_of};
 use sheet_bits::float_of;
 
 // f64s `step` values apart, from value number `from` on.
@@ -77,7 +79,7 @@ fn rows(width: usize, file: &[u8], at: usize, n: [usize; 4], out: &mut [f64])
         let from = column_of(n, i);
         line(width, file, at, from, step, &mut out[p..p + long]);
         p += long;
-        let next = next_row_lem(n, i);
+        let next = next_row(n, i);
         i = next;
     }
 }

@@ -1,5 +1,7 @@
 // Reading the header text of an array file (document 02, W2 and W12) by a place that moves on; the end of the text
 // where a piece does not stand.
+#![tactic(auto)]
+
 ghost use Rattle.std.specs.Prelude.{◌≡◌, List, [], ◌∷◌, ◌++◌, ℕ, ◌≤◌, length, drop};
 ghost use Rattle.npy_grammar.specs.Reading.{Seen, past_comma, more_numbers, read_tuple, past_key, past_width, width_at};
 ghost use Rattle.npy_grammar.specs.Reading.{past_order, order_at, read_descr, read_order, read_shape, read_item, items};
@@ -13,14 +15,14 @@ use npy_grammar::is_quote;
 use npy_pieces::{byte_at, eat_byte, eat_word, number_at, past_number, skip};
 
 // How many numbers a shape has, 5 for more than four, and the first four, each 65 for all above; 1 for a missing one.
-#[derive(Drop)]
+#[derive(Clone, Copy)]
 pub struct Shape {
     pub vars: usize,
     pub n: [usize; 4],
 }
 
 // The place behind a tuple, and its numbers.
-#[derive(Drop)]
+#[derive(Clone, Copy)]
 pub struct Listed {
     pub at: usize,
     pub shape: Shape,
@@ -114,7 +116,7 @@ fn tuple(text: &[u8], at: usize) -> Listed
 
 // What was seen of a header, up to the place `at`: the bytes of a value, 1 for rows and 2 for columns, 1 where the
 // shape was given; 0 for what was not.
-#[derive(Drop)]
+#[derive(Clone, Copy)]
 pub struct Cursor {
     pub at: usize,
     pub width: usize,
@@ -124,7 +126,7 @@ pub struct Cursor {
 }
 
 // Whether a header is right, and what it says.
-#[derive(Drop)]
+#[derive(Clone, Copy)]
 pub struct Found {
     pub right: bool,
     pub width: usize,

@@ -1,4 +1,6 @@
 // Bytes, runs, words and numbers of a text, from the place `at` on.
+#![tactic(auto)]
+
 ghost use Rattle.std.specs.Prelude.{◌≡◌, ◌≤◌, ◌-◌, length, drop};
 ghost use Rattle.npy_grammar.specs.Reading.{strip, eat, eats, peek, past_number, cap, digits_at, number_at};
 ghost use Rattle.npy_pieces.specs.Places.{passes, At};

@@ -1,4 +1,6 @@
 // The front of an array file (document 02, W2 and W12): what it says, and where its data begin.
+#![tactic(auto)]
+
 ghost use Rattle.std.specs.Prelude.{cond, false, ◌≡◌, leb};
 ghost use Rattle.npy_reading.specs.Opening.{begin_of, end_of, Begun, Opens};
 ghost use Rattle.npy_reading.specs.Heads.{HeadKept};
@@ -40,7 +42,7 @@ fn data_start(file: &[u8], begin: usize) -> usize
 
 // Whether a file is taken; if so, where its data begin, the bytes of a value, 1 for rows and 2 for columns, and the
 // shape that it says.
-#[derive(Drop)]
+#[derive(Clone, Copy)]
 pub struct Opened {
     pub right: bool,
     pub start: usize,

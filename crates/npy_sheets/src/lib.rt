@@ -1,5 +1,7 @@
 // What the programs `from_npy` and `to_npy` print (document 02, W2 and W12): the lines of a sheet for an array
 // file, the array file of an answer, or the line of a refusal.
+#![tactic(auto)]
+
 ghost use Rattle.std.specs.Prelude.{true, ◌≡◌, ◌+◌, ◌*◌, ◌≤◌, length};
 ghost use Rattle.npy_answers.specs.Answer.{is_answer};
 ghost use Rattle.npy_sheets.specs.Arrays.{Arrayed};

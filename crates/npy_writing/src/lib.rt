@@ -1,5 +1,7 @@
 // The 128 bytes before the data of an array file that is written (document 02, W2 and W12). Each function
 // answers the place behind its text.
+#![tactic(auto)]
+
 ghost use Rattle.std.specs.Prelude.{◌≡◌, List, ℕ, ◌+◌, ◌≤◌, length, take, drop};
 ghost use Rattle.npy_files.specs.Writes.{followed, listed, closing, tuple_out, dict_out, start_out};
 ghost use Rattle.npy_writing.specs.Front.{Shaped, PutShort, PutFront};
@@ -85,7 +87,7 @@ fn put_start(newer: bool, to: &mut [u8]) -> usize
 }
 
 // All that stands before the data.
-pub fn put_front_lem(newer: bool, vars: usize, n: [usize; 4], to: &mut [u8]) -> usize
+pub fn put_front(newer: bool, vars: usize, n: [usize; 4], to: &mut [u8]) -> usize
     requires fact_1 { Shaped vars n }
     requires fact_2 { 128 ≤ length to.old }
     ensures { PutFront newer (take vars n) to.old to.new result }

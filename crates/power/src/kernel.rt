@@ -77,7 +77,7 @@ fn take_bit(
 
 // The power e of the base, to the front of `out`: each bit of the exponent below the highest is taken and the base is
 // squared; the highest is taken into `out`.
-fn squarings_lem(
+fn squarings(
     work: &mut [f64],
     la: [usize; 4],
     e: u32,
@@ -126,7 +126,7 @@ fn power_front(
         product::kernel::keep(work, z, out, 0);
         return la;
     }
-    squarings_lem(work, la, e, limits, n, out)
+    squarings(work, la, e, limits, n, out)
 }
 
 // The power e of the base, which is loaded already, then +0.0 to the end of `out`, which has the announced count n.

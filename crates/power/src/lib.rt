@@ -1,4 +1,6 @@
 // The power of a polynomial (document 01, port order 7). The entry takes any word, exponent and buffers.
+#![tactic(auto)]
+
 pub mod kernel;
 
 ghost use Rattle.model.specs.Promises.{PowPromise};

@@ -425,7 +425,7 @@ fn multiply_front(
     if is_zero(a, la) | is_zero(b, lb) {
         return zero_to(out);
     }
-    if blocks::is_same_lem(la, ca) & blocks::is_same_lem(lb, cb) {
+    if blocks::is_same(la, ca) & blocks::is_same(lb, cb) {
         return product_whole(a, ca, b, cb, limits, out, work);
     }
     blocks::load_two(a, la, ca, b, lb, cb, n, work);

@@ -1,4 +1,6 @@
 // The product of two polynomials (document 01, port order 4). The entry takes any words and buffers.
+#![tactic(auto)]
+
 pub mod kernel;
 mod own;
 

@@ -1,4 +1,6 @@
 // The general product of two blocks, row by row (document 01, port order 4).
+#![tactic(auto)]
+
 pub mod plane;
 
 ghost use Rattle.std.specs.Prelude.{◌≡◌, length};
@@ -40,7 +42,7 @@ fn each_pair(
 
 // Each row of the variable v of the result.
 #[cycle(each_pair_each_row_rows)]
-fn each_row_lem(
+fn each_row(
     xs: &[f64],
     lx: [usize; 4],
     sx: [usize; 4],
@@ -100,7 +102,7 @@ pub fn rows(
             return;
         }
     }
-    each_row_lem(xs, lx, sx, ys, ly, sy, r, sr, v, res);
+    each_row(xs, lx, sx, ys, ly, sy, r, sr, v, res);
 }
 
 // The general product of two blocks with the lengths lx and ly: all of `out`, which has the lengths r.

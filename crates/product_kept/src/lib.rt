@@ -1,5 +1,7 @@
 // A right factor that leaves the left operand's header as it is: the same variables, limits and cap, and in each
 // variable one row, or all rows of the left operand stored.
+#![tactic(auto)]
+
 ghost use Rattle.std.specs.Prelude.{◌≡◌};
 ghost use Rattle.product_kept.specs.Kept.{keeps_length, keeps_header};
 

@@ -1,4 +1,6 @@
 // Rows of places times a constant or a linear factor: each place once, in order.
+#![tactic(auto)]
+
 ghost use Rattle.std.specs.Prelude.{◌≡◌, ◌+◌, ◌≤◌, length};
 ghost use Rattle.lists.specs.Table.{table};
 ghost use Rattle.model.specs.Product.{scaled_at};
@@ -46,7 +48,7 @@ pub fn raise_rows(a: &[f64], m: f64, s: usize, width: usize, step: usize, to: &m
 }
 
 // The front of a row under a linear factor, where nothing is shifted to: c times it, added to +0.0 twice.
-fn line_first_lem(c: f64, a: &[f64], to: &mut [f64])
+fn line_first(c: f64, a: &[f64], to: &mut [f64])
     requires { length to.old ≤ length a.now }
     ensures { to.new ≡ table (length to.old) (lined_first c a.now) }
 {
@@ -92,7 +94,7 @@ fn line_row(a: &[f64], c: f64, m: f64, s: usize, to: &mut [f64])
     let w = a.len();
     let n = to.len();
     let z = 0;
-    line_first_lem(c, a, &mut to[z..s]);
+    line_first(c, a, &mut to[z..s]);
     line_middle(m, a, c, &a[s..w], &mut to[s..w]);
     line_last(m, &a[w - s..w], &mut to[w..n]);
 }

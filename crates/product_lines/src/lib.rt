@@ -1,5 +1,7 @@
 // One long variable: the places of a line, four at once where they share terms. The order of each place's sum is its
 // own.
+#![tactic(auto)]
+
 ghost use Rattle.std.specs.Prelude.{◌≡◌, ℕ, ◌+◌, ◌-◌, ◌≤◌, ◌<◌, min, length};
 ghost use Rattle.lists.specs.Table.{table};
 ghost use Rattle.lists.specs.Walk.{walk};

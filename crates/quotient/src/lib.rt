@@ -1,4 +1,6 @@
 // The quotient of two polynomials (document 01, port order 5). The entry takes any words and buffers.
+#![tactic(auto)]
+
 pub mod kernel;
 
 ghost use Rattle.model.specs.Promises.{DividePromise};

@@ -2,6 +2,8 @@
 // recurses over the variables.
 // In the work lie the divisor, the finished places, and behind these, used as a stack, what each level still has to
 // divide.
+#![tactic(auto)]
+
 ghost use Rattle.std.specs.Prelude.{◌≡◌, ◌+◌, ◌-◌, ◌*◌, ◌<◌, length};
 ghost use Rattle.lists.specs.Four.{at};
 ghost use Rattle.lists.specs.Table.{table};
@@ -140,7 +142,7 @@ fn line(
 
 // Each row of the sub-block of the variables from v on.
 #[cycle(each_row_level)]
-fn each_row_lem(
+fn each_row(
     work: &mut [f64],
     p: usize,
     e: usize,
@@ -196,5 +198,5 @@ pub fn level(
         line(work, p, e, q, b, f, ly, r, v);
         return;
     }
-    each_row_lem(work, p, e, q, b, f, ly, sy, r, sr, v, row);
+    each_row(work, p, e, q, b, f, ly, sy, r, sr, v, row);
 }

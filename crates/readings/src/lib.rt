@@ -1,5 +1,7 @@
 // Constructors and readings (document 01, port order 2, and 'Tail'; document 02, W1, W6). Each takes any words, numbers
 // and buffers.
+#![tactic(auto)]
+
 pub mod line;
 
 ghost use Rattle.model.specs.Promises.{ZeroPromise, OnePromise, FromU32Promise, ZeroWithPromise, FromU32WithPromise, VarWithDegreesP1Promise};

@@ -1,4 +1,6 @@
 // One row of a variable taken out of a block.
+#![tactic(auto)]
+
 ghost use Rattle.std.specs.Prelude.{◌≡◌, ◌<◌, length, set};
 ghost use Rattle.lists.specs.Table.{table};
 ghost use Rattle.model.specs.Header.{count, stored};
@@ -70,20 +72,20 @@ fn pick_rows(a: &[f64], n: [usize; 4], c: [usize; 4], v: usize, order: usize, to
         let from = shape_words::places::place_of(n, j);
         copy(&a[from..from + width], &mut to[at..at + width]);
         at += width;
-        let next = shape_words::places::next_row_lem(c, i);
+        let next = shape_words::places::next_row(c, i);
         i = next;
     }
 }
 
 // The row `order` of the variable v of a block with the lengths n, which stores it; c are the lengths of what is
 // written, 1 in v.
-pub fn pick_lem(a: &[f64], n: [usize; 4], c: [usize; 4], v: usize, order: usize, to: &mut [f64])
+pub fn pick(a: &[f64], n: [usize; 4], c: [usize; 4], v: usize, order: usize, to: &mut [f64])
     requires { Picking n c v order (length a.now) (length to.old) }
     ensures { to.new ≡ table (count c) (λ k. read_at (block n a.now) (set (index c k) v order)) }
 {
     let mut row = n;
     row[v] = 1;
-    if blocks::is_same_lem(row, c) {
+    if blocks::is_same(row, c) {
         pick_whole(a, n, v, order, to);
     } else {
         pick_rows(a, n, c, v, order, to);
@@ -103,6 +105,6 @@ pub fn take_term(a: &[f64], h: Header, r: Header, v: usize, order: usize, to: &m
         return Header::with_lengths(r, [1, 1, 1, 1]);
     }
     let c = r.lengths;
-    pick_lem(a, n, c, v, order, to);
+    pick(a, n, c, v, order, to);
     r
 }

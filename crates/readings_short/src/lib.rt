@@ -1,4 +1,6 @@
 // What a constructor writes: one coefficient, or two.
+#![tactic(auto)]
+
 ghost use Rattle.std.specs.Prelude.{◌≡◌, ◌≤◌, ◌<◌, length};
 ghost use Rattle.model.specs.declared.Answer.TheVariants.{Done};
 ghost use Rattle.model.specs.Header.{stored, zero_with};

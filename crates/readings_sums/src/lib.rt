@@ -1,4 +1,6 @@
 // Sums of stored coefficients from +0.0 upwards, and what is read off them, on buffers that are long enough.
+#![tactic(auto)]
+
 ghost use Rattle.std.specs.Prelude.{◌≡◌, ◌+◌, ◌≤◌, min, length};
 ghost use Rattle.model.specs.Readings.{sum_to};
 ghost use Rattle.model.specs.Tail.{tail_of};

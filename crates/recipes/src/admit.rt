@@ -48,7 +48,7 @@ pub fn admit(
 }
 
 // How a run of a recipe that was judged ends: what stopped it, if anything did, and where the last value begins.
-#[derive(Drop)]
+#[derive(Clone, Copy)]
 pub struct Ended {
     pub stop: Refusal,
     pub last: usize,

@@ -1,4 +1,6 @@
 // Recipes (document 01): the check and the run. They take any words, any number of them, and any buffers.
+#![tactic(auto)]
+
 pub mod admit;
 mod running;
 mod stop;

@@ -56,7 +56,7 @@ pub fn place(headers: &[u64], announced: &[u64], starts: &mut [usize])
 }
 
 // The value of a step in edition 0 to the pool from `at` on, with +0.0 up to `room` places; answers its header word.
-fn plain_word_lem(
+fn plain_word(
     s: Step,
     inputs: usize,
     known: &[u64],
@@ -139,7 +139,7 @@ fn step_word(
         constant_to(1, pool, at, room);
         return one_word(known[a]);
     }
-    plain_word_lem(
+    plain_word(
         s,
         inputs,
         known,

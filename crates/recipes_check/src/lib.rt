@@ -1,4 +1,6 @@
 // Why a recipe is refused, and the words that its places announce.
+#![tactic(auto)]
+
 ghost use Rattle.std.specs.Prelude.{◌≡◌, map, ◌≤◌, length, take};
 ghost use Rattle.lists.specs.Grow.{over};
 ghost use Rattle.model.specs.Word.{header_of};

@@ -13,7 +13,7 @@ use shape::announce::announced_of;
 use shape_words::word::header_of;
 
 // The header that the place p announces; past the places known no variables.
-pub fn head_at_lem(known: &[u64], p: usize) -> Header
+pub fn head_at(known: &[u64], p: usize) -> Header
     ensures { result ≡ head_at (map header_of known.now) p }
 {
     if p < known.len() {
@@ -31,8 +31,8 @@ pub fn announce(edition: u64, word: u64, known: &[u64]) -> Header
     let s = crate::step::step_of(word);
     announced_of(
         crate::step::family_of(edition, s),
-        head_at_lem(known, s.a),
-        head_at_lem(known, s.b),
+        head_at(known, s.a),
+        head_at(known, s.b),
     )
 }
 
@@ -80,7 +80,7 @@ pub fn gate(edition: u64, word: u64, known: &[u64]) -> Refusal
         return Refusal::at(7, place);
     }
     let s = crate::step::step_of(word);
-    let a = head_at_lem(known, s.a);
+    let a = head_at(known, s.a);
     if !has_variable(s, a) {
         return Refusal::at(3, place);
     }

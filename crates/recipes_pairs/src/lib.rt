@@ -1,4 +1,6 @@
 // Steps of two operands: sum, difference, product, quotient.
+#![tactic(auto)]
+
 ghost use Rattle.std.specs.Prelude.{◌≡◌, ◌||◌, ◌+◌, ◌*◌, ◌≤◌, length};
 ghost use Rattle.lists.specs.Part.{Kept};
 ghost use Rattle.model.specs.Header.{stored};

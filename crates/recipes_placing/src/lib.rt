@@ -1,5 +1,7 @@
 // The second placing of step values (document 02, W4): a part is used again after its last reader. From step words and
 // announced counts alone.
+#![tactic(auto)]
+
 ghost use Rattle.std.specs.Prelude.{◌≡◌, map, ◌+◌, ◌≤◌, ◌<◌, suc, length, get_or, drop};
 ghost use Rattle.lists.specs.Grow.{over};
 ghost use Rattle.lists.specs.Table.{front};

@@ -1,5 +1,7 @@
 // Recipes over a pool in which parts are used again (document 02, W4): the check. It takes any words, and any number of
 // them.
+#![tactic(auto)]
+
 ghost use Rattle.model_recipes.specs.Recipe.{recipe_of};
 ghost use Rattle.model_placing.specs.Reuse.{CheckReusePromise};
 

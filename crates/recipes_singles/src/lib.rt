@@ -1,5 +1,7 @@
 // Steps of one operand. Where it is negated or shifted, the value is made in scratch and copied to the pool; a power is
 // made in the pool; an exponential, which needs the scratch to work in, is made in memory of its own and copied.
+#![tactic(auto)]
+
 ghost use Rattle.std.specs.Prelude.{◌≡◌, ◌+◌, ◌*◌, ◌≤◌, ◌<◌, length};
 ghost use Rattle.lists.specs.Part.{Kept};
 ghost use Rattle.model.specs.Header.{stored};

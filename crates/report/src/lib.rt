@@ -1,4 +1,6 @@
 // The answer of a sheet in plain text, for people: every limit before any figure, or why the sheet is refused.
+#![tactic(auto)]
+
 mod limits;
 
 ghost use Rattle.std.specs.Prelude.{length, ◌≡◌, map, ◌++◌};

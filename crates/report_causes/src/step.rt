@@ -10,7 +10,7 @@ ghost use Rattle.recipes_kinds.specs.Known.{Known};
 ghost use Rattle.report_lines.specs.Puts.{Puts};
 
 use gates::stored_of;
-use recipes_kinds::gate::{announce, head_at_lem};
+use recipes_kinds::gate::{announce, head_at};
 use recipes_kinds::step::{step_of, uses_of};
 use report_lines::put::{put, tell};
 use report_say::{say, say_two};
@@ -112,7 +112,7 @@ fn put_variable_cause(word: u64, known: &[u64], at: usize, to: &mut [u8]) -> usi
     ensures { Puts (variable_cause word (map header_of known.now)) at to.old to.new result }
 {
     let s = step_of(word);
-    let h = head_at_lem(known, s.a);
+    let h = head_at(known, s.a);
     let a = tell(b"it names variable ", s.variable, at, to);
     let b = tell(b"; place ", s.a, a, to);
     put_has(h.vars, b, to)
@@ -123,7 +123,7 @@ fn put_limit_cause(word: u64, known: &[u64], at: usize, to: &mut [u8]) -> usize
     ensures { Puts (limit_cause word (map header_of known.now)) at to.old to.new result }
 {
     let s = step_of(word);
-    let h = head_at_lem(known, s.a);
+    let h = head_at(known, s.a);
     let v = s.variable;
     let limits = h.limits;
     let next = tell(b"n is ", s.n as usize, at, to);

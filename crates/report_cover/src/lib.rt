@@ -1,4 +1,6 @@
 // How many tubes cover a wanted chance, or why no place shown reaches it.
+#![tactic(auto)]
+
 ghost use Rattle.std.specs.Prelude.{◌≡◌, map, ◌<◌, length};
 ghost use Rattle.model.specs.Header.{stored};
 ghost use Rattle.model.specs.Gates.{good_total};

@@ -1,4 +1,4 @@
-// Columns: a number and spaces up to the next one, or a new line where it is too wide_lem.
+// Columns: a number and spaces up to the next one, or a new line where it is too wide.
 ghost use Rattle.std.specs.Prelude.{◌≤◌};
 ghost use Rattle.report_lines.specs.Puts.{Puts};
 ghost use Rattle.model_decimals.specs.Text.{float_text};
@@ -38,7 +38,7 @@ pub fn put_gap(c: usize, n: usize, from: usize, next: usize, to: &mut [u8]) -> u
     put_blanks(c + n, below, to)
 }
 
-// A number in the column c, which is n wide_lem.
+// A number in the column c, which is n wide.
 pub fn put_cell(c: usize, n: usize, x: f64, at: usize, to: &mut [u8]) -> usize
     requires { (c ≤ 80) × (n ≤ 80) }
     ensures { Puts (cell c n (float_text x)) at to.old to.new result }

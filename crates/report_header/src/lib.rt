@@ -1,4 +1,6 @@
 // What a person reads of an input whose header word is refused (document 02, W5): which variable is wrong, and why.
+#![tactic(auto)]
+
 ghost use Rattle.std.specs.Prelude.{◌%◌, get_or};
 ghost use Rattle.lists.specs.Bytes.{bytes};
 ghost use Rattle.model_texts.specs.Printed.{decimal};
@@ -9,7 +11,7 @@ ghost use Rattle.report_lines.specs.Puts.{Puts};
 use report_lines::put::{put, put_number};
 
 // What stands before the variable, or all that there is to say.
-fn put_front_lem(cause: u8, at: usize, to: &mut [u8]) -> usize
+fn put_front(cause: u8, at: usize, to: &mut [u8]) -> usize
     ensures { Puts (bytes (get_or cause_fronts cause "")) at to.old to.new result }
 {
     match cause {
@@ -63,7 +65,7 @@ fn put_back(cause: u8, at: usize, to: &mut [u8]) -> usize
 pub fn put_cause(variable: u8, cause: u8, at: usize, to: &mut [u8]) -> usize
     ensures { Puts (cause_text variable cause) at to.old to.new result }
 {
-    let a = put_front_lem(cause, at, to);
+    let a = put_front(cause, at, to);
     let b = put_named(variable, cause, a, to);
     put_back(cause, b, to)
 }

@@ -1,4 +1,6 @@
 // What was put in, shown back: of each input its place, its sum, whether it fills a limit, and its first coefficients.
+#![tactic(auto)]
+
 ghost use Rattle.std.specs.Prelude.{◌≡◌, ◌<◌, ◌≤◌, length};
 ghost use Rattle.model.specs.Header.{stored};
 ghost use Rattle.model_texts.specs.Report.{joined};

@@ -7,8 +7,8 @@ ghost use Rattle.report_lines.specs.Puts.{Puts};
 
 use crate::put::{put, tell};
 use crate::why::{put_break, put_limit_has, put_variable, source_of};
-use recipes_kinds::gate::head_at_lem;
-use report_trace::cut::{cut_operand, has, is_cut_lem, limit_at};
+use recipes_kinds::gate::head_at;
+use report_trace::cut::{cut_operand, has, is_cut, limit_at};
 use report_trace::decide::{follow, step_word};
 use report_trace::full::{MANY, full_at};
 use report_trace::whole::passes;
@@ -73,7 +73,7 @@ fn put_fills(known: &[u64], p: usize, v: usize, at: usize, to: &mut [u8]) -> usi
     ensures { Puts (fills_line (map header_of known.now) p v) at to.old to.new result }
 {
     let limit = limit_at(known, v, p);
-    if has(known, v, p) & (head_at_lem(known, p).lengths[v] == limit) {
+    if has(known, v, p) & (head_at(known, p).lengths[v] == limit) {
         let next = put_variable(p, v, at, to);
         return put_filled(limit, next, to);
     }
@@ -94,7 +94,7 @@ fn put_fall(
     ensures { Puts (falls_line (map header_of known.now) steps.now inputs p v) at to.old to.new result }
 {
     let word = step_word(steps, inputs, p);
-    if is_cut_lem(known, v, word, p) {
+    if is_cut(known, v, word, p) {
         let operand = cut_operand(known, v, word, p);
         let limit = limit_at(known, v, operand);
         let lower = limit_at(known, v, p);

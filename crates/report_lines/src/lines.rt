@@ -7,7 +7,7 @@ ghost use Rattle.report_lines.specs.Puts.{Puts};
 use crate::put::{put, put_if, tell, tell_if};
 use model::Header;
 use model_recipes::Step;
-use recipes_kinds::gate::head_at_lem;
+use recipes_kinds::gate::head_at;
 use recipes_kinds::step::step_of;
 use report_trace::cut::uses_in;
 use report_trace::decide::step_word;
@@ -109,7 +109,7 @@ fn put_place(
     let a = tell(b"place ", p, at, to);
     let b = put(b": ", a, to);
     let c = put_what(steps, inputs, p, b, to);
-    put_shape(head_at_lem(known, p), c, to)
+    put_shape(head_at(known, p), c, to)
 }
 
 // A line for each of n places.

@@ -1,5 +1,7 @@
 // What a person reads where a sheet is refused: the line that `recipe` prints, then which line of the sheet is wrong,
 // and why.
+#![tactic(auto)]
+
 mod read;
 mod step;
 

@@ -1,4 +1,6 @@
 // How sentences are put together: phrases with numbers between them. And the laws of the first that fails a test.
+#![tactic(auto)]
+
 ghost use Rattle.std.specs.Prelude.{◌++◌};
 ghost use Rattle.model_texts.specs.Printed.{decimal};
 ghost use Rattle.report_lines.specs.Puts.{Puts};

@@ -4,7 +4,7 @@ ghost use Rattle.model_forecast.specs.Totals.{bar_of, bar_step, bars, answer_bar
 
 use model_recipes::Step;
 use recipes_kinds::step::step_of;
-use report_trace::cut::pick_lem;
+use report_trace::cut::pick;
 use report_trace::far::found_at;
 use shape::limits::least;
 
@@ -20,7 +20,7 @@ fn bar_of(s: Step, p: usize, x: usize, y: usize) -> usize
         Step::ADD => least(x, y),
         Step::SUBTRACT => least(x, y),
         Step::MULTIPLY => least(x, y),
-        Step::POWER => pick_lem(n == 0, 64, x),
+        Step::POWER => pick(n == 0, 64, x),
         Step::SHIFT_DOWN => x,
         _ => p,
     }

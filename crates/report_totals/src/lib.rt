@@ -1,4 +1,6 @@
 // What a report says behind its verdict: whether the figures may be wrong, the total, and the figures with parts of it.
+#![tactic(auto)]
+
 mod amount;
 mod bar;
 mod mixed;

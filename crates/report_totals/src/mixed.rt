@@ -7,7 +7,7 @@ ghost use Rattle.report_lines.specs.Puts.{Puts};
 use model_recipes::Step;
 use recipes_kinds::step::{family_of, step_of};
 use report_lines::put::{put, tell};
-use report_trace::cut::pick_lem;
+use report_trace::cut::pick;
 use report_trace::decide::step_word;
 use report_trace::far::found_at;
 use report_trace::full::full_at;
@@ -33,9 +33,9 @@ fn mixed_next(known: &[u64], steps: &[u64], inputs: usize, full: &[usize], found
     }
     let s = step_of(step_word(steps, inputs, p));
     let rows = full_at(full, s.a, s.variable);
-    let own = pick_lem(mixes(known, steps, inputs, full, s), p, 64);
-    let first = pick_lem(needs_first(family_of(0, s)), found_at(found, s.a, 64), 64);
-    let second = pick_lem(
+    let own = pick(mixes(known, steps, inputs, full, s), p, 64);
+    let first = pick(needs_first(family_of(0, s)), found_at(found, s.a, 64), 64);
+    let second = pick(
         needs_second(family_of(0, s), rows),
         found_at(found, s.b, 64),
         64,

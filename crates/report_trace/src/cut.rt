@@ -4,11 +4,11 @@ ghost use Rattle.model.specs.Word.{header_of};
 ghost use Rattle.model_texts.specs.Trace.{uses_in, has, limit_at, cut_from, shifts_in, is_cut, cut_operand};
 
 use model_recipes::Uses;
-use recipes_kinds::gate::{head_at_lem, is_shift};
+use recipes_kinds::gate::{head_at, is_shift};
 use recipes_kinds::step::{step_of, uses_of};
 
 // x where the test passed, else y.
-pub fn pick_lem(test: bool, x: usize, y: usize) -> usize
+pub fn pick(test: bool, x: usize, y: usize) -> usize
     ensures { result ≡ cond test x y }
 {
     if test { x } else { y }
@@ -25,14 +25,14 @@ pub fn uses_in(word: u64) -> Uses
 pub fn has(known: &[u64], v: usize, p: usize) -> bool
     ensures { result ≡ has (map header_of known.now) v p }
 {
-    v < head_at_lem(known, p).vars
+    v < head_at(known, p).vars
 }
 
 pub fn limit_at(known: &[u64], v: usize, p: usize) -> usize
     requires { v < 4 }
     ensures { result ≡ limit_at (map header_of known.now) v p }
 {
-    head_at_lem(known, p).limits[v]
+    head_at(known, p).limits[v]
 }
 
 // Whether an operand x counts, and the place p ends before it.
@@ -52,7 +52,7 @@ pub fn is_shift_in(word: u64, v: usize) -> bool
 }
 
 // Whether the limit of the place p, whose step word is given, is below that of an operand, and not by a shift.
-pub fn is_cut_lem(known: &[u64], v: usize, word: u64, p: usize) -> bool
+pub fn is_cut(known: &[u64], v: usize, word: u64, p: usize) -> bool
     requires { v < 4 }
     ensures { result ≡ is_cut (map header_of known.now) v word p }
 {
@@ -68,5 +68,5 @@ pub fn cut_operand(known: &[u64], v: usize, word: u64, p: usize) -> usize
     ensures { result ≡ cut_operand (map header_of known.now) v word p }
 {
     let s = step_of(word);
-    pick_lem(is_cut_from(known, v, p, uses_in(word).a, s.a), s.a, s.b)
+    pick(is_cut_from(known, v, p, uses_in(word).a, s.a), s.a, s.b)
 }

@@ -3,7 +3,7 @@ ghost use Rattle.std.specs.Prelude.{◌≡◌, map, ◌-◌, ◌<◌};
 ghost use Rattle.model.specs.Word.{header_of};
 ghost use Rattle.model_texts.specs.Trace.{equals, step_word, follow, decider, lowering, seek, lowerer};
 
-use crate::cut::{has, is_shift_in, limit_at, pick_lem, uses_in};
+use crate::cut::{has, is_shift_in, limit_at, pick, uses_in};
 use recipes_kinds::step::step_of;
 
 // How far behind the inputs a place stands, 0 for an input.
@@ -37,10 +37,10 @@ pub fn follow(known: &[u64], v: usize, steps: &[u64], inputs: usize, p: usize) -
     let word = step_word(steps, inputs, p);
     let s = step_of(word);
     let u = uses_in(word);
-    let last = pick_lem(is_equal(known, v, p, u.b, s.b), s.b, p);
+    let last = pick(is_equal(known, v, p, u.b, s.b), s.b, p);
     let to_first = is_shift_in(word, v) | is_equal(known, v, p, u.a, s.a);
-    let first = pick_lem(to_first, s.a, last);
-    pick_lem(p < inputs, p, first)
+    let first = pick(to_first, s.a, last);
+    pick(p < inputs, p, first)
 }
 
 // The place that decides the limit of the place p in the variable v.
@@ -70,7 +70,7 @@ fn seek(known: &[u64], v: usize, steps: &[u64], inputs: usize, p: usize) -> usiz
     requires { v < 4 }
     ensures { result ≡ seek (map header_of known.now) v steps.now inputs p }
 {
-    pick_lem(
+    pick(
         is_lowering(v, steps, inputs, p),
         p,
         follow(known, v, steps, inputs, p),

@@ -3,7 +3,7 @@ ghost use Rattle.std.specs.Prelude.{◌≡◌, map, ◌<◌, get_or};
 ghost use Rattle.model.specs.Word.{header_of};
 ghost use Rattle.model_texts.specs.Trace.{farther, furthest_next, furthest};
 
-use crate::cut::{has, limit_at, pick_lem, uses_in};
+use crate::cut::{has, limit_at, pick, uses_in};
 use crate::decide::step_word;
 use recipes_kinds::step::step_of;
 
@@ -12,7 +12,7 @@ fn farther(known: &[u64], v: usize, counts: bool, x: usize, y: usize) -> usize
     requires { v < 4 }
     ensures { result ≡ farther (map header_of known.now) v counts x y }
 {
-    pick_lem(
+    pick(
         counts & (limit_at(known, v, y) <= limit_at(known, v, x)),
         x,
         y,
@@ -50,7 +50,7 @@ fn furthest_next(known: &[u64], v: usize, steps: &[u64], inputs: usize, found: &
         found_at(found, s.a, 0),
         last,
     );
-    pick_lem(p < inputs, p, first)
+    pick(p < inputs, p, first)
 }
 
 // The place that goes furthest of all that the place p is made from.

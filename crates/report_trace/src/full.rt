@@ -4,10 +4,10 @@ ghost use Rattle.model.specs.Word.{header_of};
 ghost use Rattle.model_texts.specs.Full.{many, counted, sum_full, product_full, quotient_full, series_full, power_full};
 ghost use Rattle.model_texts.specs.Full.{shift_full, substitution_full, full_after, full_at, step_full, full_next, fulls};
 
-use crate::cut::pick_lem;
+use crate::cut::pick;
 use crate::decide::step_word;
 use model::Family;
-use recipes_kinds::gate::head_at_lem;
+use recipes_kinds::gate::head_at;
 use recipes_kinds::step::{family_of, step_of};
 use shape::limits::{least, most};
 
@@ -101,8 +101,8 @@ fn full_after(f: Family, k: usize, p: usize, a: usize, b: usize) -> usize
         Family::Quotient => quotient_full(a, b),
         Family::Series => series_full(a),
         Family::Power(e) => power_full(e, a),
-        Family::Shift(v, n) => pick_lem(k == v, shift_full(n, a), a),
-        Family::Substitution(v) => substitution_full(p, pick_lem(k == v, 1, a), b),
+        Family::Shift(v, n) => pick(k == v, shift_full(n, a), a),
+        Family::Substitution(v) => substitution_full(p, pick(k == v, 1, a), b),
         Family::Term(_) => a,
         Family::Order(_, _) => a,
         Family::One => 1,
@@ -137,7 +137,7 @@ fn full_next(known: &[u64], steps: &[u64], inputs: usize, full: &[usize]) -> usi
     let p = full.len() / 4;
     let v = full.len() % 4;
     if p < inputs {
-        return head_at_lem(known, p).lengths[v];
+        return head_at(known, p).lengths[v];
     }
     step_full(full, step_word(steps, inputs, p), v)
 }

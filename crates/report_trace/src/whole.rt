@@ -3,7 +3,7 @@ ghost use Rattle.std.specs.Prelude.{◌≡◌, map, ◌<◌, length};
 ghost use Rattle.model.specs.Word.{header_of};
 ghost use Rattle.model_texts.specs.Whole.{needs_first, needs_second, passes, leaves_out, first_next, first_out};
 
-use crate::cut::{has, limit_at, pick_lem};
+use crate::cut::{has, limit_at, pick};
 use crate::decide::step_word;
 use crate::far::found_at;
 use crate::full::full_at;
@@ -71,13 +71,7 @@ fn leaves_out(known: &[u64], full: &[usize], p: usize) -> bool
 
 // The first place that leaves terms out, of the next place and all that it is made of; `found`: those of the places
 // before it.
-fn first_next_lem(
-    known: &[u64],
-    steps: &[u64],
-    inputs: usize,
-    full: &[usize],
-    found: &[usize],
-) -> usize
+fn first_next(known: &[u64], steps: &[u64], inputs: usize, full: &[usize], found: &[usize]) -> usize
     requires { length found.now < 64 }
     ensures { result ≡ first_next (map header_of known.now) steps.now inputs full.now found.now }
 {
@@ -87,9 +81,9 @@ fn first_next_lem(
     }
     let s = step_of(step_word(steps, inputs, p));
     let rows = full_at(full, s.a, s.variable);
-    let own = pick_lem(leaves_out(known, full, p), p, 64);
-    let first = pick_lem(needs_first(family_of(0, s)), found_at(found, s.a, 64), 64);
-    let second = pick_lem(
+    let own = pick(leaves_out(known, full, p), p, 64);
+    let first = pick(needs_first(family_of(0, s)), found_at(found, s.a, 64), 64);
+    let second = pick(
         needs_second(family_of(0, s), rows),
         found_at(found, s.b, 64),
         64,
@@ -105,8 +99,8 @@ pub fn first_out(known: &[u64], steps: &[u64], inputs: usize, full: &[usize], p:
     let mut found = [0usize; 64];
     let mut k = 0;
     while k < p {
-        found[k] = first_next_lem(known, steps, inputs, full, &found[..k]);
+        found[k] = first_next(known, steps, inputs, full, &found[..k]);
         k += 1;
     }
-    first_next_lem(known, steps, inputs, full, &found[..p])
+    first_next(known, steps, inputs, full, &found[..p])
 }

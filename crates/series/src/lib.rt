@@ -1,4 +1,6 @@
 // exp and log of a polynomial (document 01, port order 6). The entries take any words, heads and buffers.
+#![tactic(auto)]
+
 pub mod kernel;
 
 ghost use Rattle.model.specs.Promises.{ExpPromise, LogPromise};

@@ -1,6 +1,8 @@
 // exp, row by row; it recurses over the variables.
 // At the front of the work lie the finished rows, and from n on the operand's rows, each times its number. A row is
 // gathered in the buffer of the result.
+#![tactic(auto)]
+
 ghost use Rattle.std.specs.Prelude.{◌≡◌, false, ◌+◌, ◌-◌, ◌*◌, ◌<◌, min, length, take};
 ghost use Rattle.lists.specs.Four.{at};
 ghost use Rattle.lists.specs.Stack.{stack};

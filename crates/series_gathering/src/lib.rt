@@ -1,4 +1,6 @@
 // One row of a series, gathered from the rows before it: sums of products of rows.
+#![tactic(auto)]
+
 ghost use Rattle.std.specs.Prelude.{◌≡◌, false, ◌+◌, ◌-◌, ◌*◌, ◌≤◌, ◌<◌, min, length};
 ghost use Rattle.lists.specs.Four.{at};
 ghost use Rattle.product_general.specs.Rows.{Strided};

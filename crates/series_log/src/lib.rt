@@ -2,6 +2,8 @@
 // At the front of the work lie the finished rows, and from n on the same rows, each times its number; the rest is for
 // the inner quotient.
 // A row is gathered in the buffer of the result.
+#![tactic(auto)]
+
 ghost use Rattle.std.specs.Prelude.{◌≡◌, true, false, cond, ◌+◌, ◌-◌, ◌*◌, ◌<◌, ltb, length, get_or, take};
 ghost use Rattle.std.specs.Float.{nan};
 ghost use Rattle.lists.specs.Table.{table};

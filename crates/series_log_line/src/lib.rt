@@ -1,4 +1,6 @@
 // log in one long variable, place by place: it has an order of operations of its own.
+#![tactic(auto)]
+
 ghost use Rattle.std.specs.Prelude.{◌≡◌, cond, ◌+◌, ◌-◌, ◌*◌, ◌≤◌, ◌<◌, length, get_or, [], ◌∷◌, ltb};
 ghost use Rattle.std.specs.Float.{nan};
 ghost use Rattle.lists.specs.Grow.{grow};

@@ -1,4 +1,6 @@
 // Each place times a whole number, or over one.
+#![tactic(auto)]
+
 ghost use Rattle.std.specs.Prelude.{◌≡◌, ◌+◌, ◌*◌, ◌≤◌, ◌<◌, length, get_or};
 ghost use Rattle.lists.specs.Table.{table};
 ghost use Rattle.model.specs.Series.{over_whole, times_whole};

@@ -1,5 +1,7 @@
 // Answers of the settings store for C, Rust and Python: a word, and what is written through pointers. The names
 // themselves are in crate `taylor`: the archive has the functions of one crate only.
+#![tactic(auto)]
+
 ghost use Rattle.std.specs.Prelude.{◌≡◌};
 ghost use Rattle.settings_face.specs.Face.{handed_over, word_of, version_after, horizon_after, recipe_after, chance_after};
 

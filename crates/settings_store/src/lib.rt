@@ -1,6 +1,8 @@
 // The settings store (document 02, W8) on lent words: 544 of them, 17 a department. It takes any words, any number of
 // them, and any numbers.
 // A refused call changes no word; words behind the store are never read or changed.
+#![tactic(auto)]
+
 pub mod answer;
 pub mod change;
 pub mod test;

@@ -1,6 +1,8 @@
 // Where the operands of an operation lie: each among coefficients that are given, or in the buffer that the result goes
 // to, where it overlaps no place that is written. A call's operands are given; a step's are inputs, or values of
 // earlier steps.
+#![tactic(auto)]
+
 ghost use Rattle.std.specs.Prelude.{◌≡◌, ◌+◌, ◌-◌, ◌≤◌, length, take, drop};
 ghost use Rattle.lists.specs.Part.{Kept};
 ghost use Rattle.model.specs.Refusals.{zeros};
@@ -10,7 +12,7 @@ use model::Header;
 
 // A polynomial where it lies: its header, how many coefficients it has, whether they are given ones, and the place of
 // the first.
-#[derive(Drop)]
+#[derive(Clone, Copy)]
 pub struct Operand {
     pub head: Header,
     pub count: usize,

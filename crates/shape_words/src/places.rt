@@ -49,7 +49,7 @@ pub fn is_inside(n: [usize; 4], i: [usize; 4]) -> bool
 }
 
 // The index of the first place of the next row: a row is the places that differ in the last variable alone.
-pub fn next_row_lem(n: [usize; 4], i: [usize; 4]) -> [usize; 4]
+pub fn next_row(n: [usize; 4], i: [usize; 4]) -> [usize; 4]
     requires fact_1 { Sizes n }
     requires fact_2 { RowAt n i }
     ensures { result ≡ index n (place n i + at n 3) }

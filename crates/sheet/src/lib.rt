@@ -1,4 +1,6 @@
 // Sheets (document 01's program `recipe`): the text of a recipe, read, judged and run, and the text of its answer.
+#![tactic(auto)]
+
 pub mod print;
 
 ghost use Rattle.sheet.specs.Promise.{AnswerPromise};

@@ -1,5 +1,7 @@
 // Words to floats and back. A NaN's pattern becomes a NaN, and a NaN becomes 7ff8000000000000: which bits a NaN has is
 // not promised anywhere.
+#![tactic(auto)]
+
 ghost use Rattle.std.specs.Prelude.{◌≡◌};
 ghost use Rattle.std.specs.Float.{binary64};
 ghost use Rattle.std.specs.Float.Ieee.{of_bits, to_bits};

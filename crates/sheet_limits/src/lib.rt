@@ -1,4 +1,6 @@
 // The check of a sheet's recipe, and after it the program's own limits.
+#![tactic(auto)]
+
 ghost use Rattle.std.specs.Prelude.{◌≡◌, map, ◌≤◌, length};
 ghost use Rattle.model.specs.Word.{header_of};
 ghost use Rattle.model_recipes.specs.Recipe.{recipe_of};

@@ -1,4 +1,6 @@
 // A sheet read, judged and run: how it ends, and where its last value lies.
+#![tactic(auto)]
+
 mod run;
 
 ghost use Rattle.std.specs.Prelude.{◌≡◌, length};
@@ -28,7 +30,7 @@ pub fn places() -> [u64; 64]
 
 // Why a sheet is refused; then all numbers are 0. Where it is not: how many inputs and steps it has, the header word of
 // the last value, where in the pool its coefficients lie, and how many they are.
-#[derive(Drop)]
+#[derive(Clone, Copy)]
 pub struct Solved {
     pub refusal: Refusal,
     pub inputs: usize,

@@ -28,7 +28,7 @@ ghost use Rattle.substitution.specs.Room.{row_of, Given, Puts, Cuts, turns, Horn
 ghost use Rattle.substitution.specs.Placed.{plain_of, Plain, Wrote};
 
 use model::{Header, Way};
-use readings_row::pick_lem;
+use readings_row::pick;
 use shape::limits::cut_to;
 use shape_operands::Operand;
 use shape_words::places::count_of;
@@ -67,7 +67,7 @@ fn load_row(
         work.old work.new }
 {
     let e = at + count_of(c);
-    pick_lem(a, la, c, v, k, &mut work[at..e]);
+    pick(a, la, c, v, k, &mut work[at..e]);
 }
 
 // b is zero: the row 0 of v.
@@ -77,7 +77,7 @@ fn zero_put(a: &[f64], la: [usize; 4], v: usize, limits: [usize; 4], out: &mut [
 {
     let c = row_lengths(limits, v, la);
     let z = count_of(c);
-    pick_lem(a, la, c, v, 0, &mut out[..z]);
+    pick(a, la, c, v, 0, &mut out[..z]);
     c
 }
 

@@ -1,5 +1,7 @@
 // A polynomial put for a variable of another (document 01, port order 7). The entry takes any words, numbers and
 // buffers.
+#![tactic(auto)]
+
 pub mod kernel;
 
 ghost use Rattle.model.specs.Promises.{SubstVarPromise};

@@ -1,5 +1,7 @@
 // One turn of Horner's rule inside a lent buffer, which is used in blocks of n places: what is put, cut to the limits,
 // then the running value, then one row of the polynomial, then what the product needs.
+#![tactic(auto)]
+
 ghost use Rattle.std.specs.Prelude.{false, ◌+◌, ◌*◌, length, take};
 ghost use Rattle.lists.specs.Part.{part};
 ghost use Rattle.model.specs.Header.{count, ones};

@@ -1,4 +1,6 @@
 // Which way a substitution goes.
+#![tactic(auto)]
+
 ghost use Rattle.std.specs.Prelude.{◌≡◌, ◌<◌, length};
 ghost use Rattle.model.specs.Header.{count};
 ghost use Rattle.model.specs.Poly.{block};

@@ -1,4 +1,6 @@
 // Add, negate, subtract (document 01, port order 3). Each entry takes any words, numbers and buffers.
+#![tactic(auto)]
+
 pub mod kernel;
 
 ghost use Rattle.model.specs.Promises.{NegatePromise, AddPromise, SubtractPromise};

@@ -1,4 +1,6 @@
 // The sum or the difference of two operands, both cut to the limits first.
+#![tactic(auto)]
+
 ghost use Rattle.std.specs.Prelude.{◌≡◌, length};
 ghost use Rattle.model.specs.Poly.{block, cut};
 ghost use Rattle.model.specs.Add.{joined_block};

@@ -1,4 +1,6 @@
 // Places negated.
+#![tactic(auto)]
+
 ghost use Rattle.std.specs.Prelude.{◌≡◌, ◌≤◌, length};
 ghost use Rattle.lists.specs.Table.{front};
 ghost use Rattle.model.specs.Negate.{negated_at};

@@ -1,6 +1,8 @@
 // The face for C, Rust and Python: every entry under its name with `taylor_` before it, its answer as one word.
 // A header word's low five bits are zero, a refusal's are not (specs/Face.antt, specs/Apart.antt). Four limits or four
 // indices are four words.
+#![tactic(auto)]
+
 mod answers;
 mod settings;
 
