@@ -1,0 +1,12 @@
+use Rattle.lists.specs.Table.{Filled}
+use mathlib.Core.Path.{◌≡◌}
+use Prim.Native.Nat.{◌≤◌, ◌-◌}
+use lib.ListN.{length, get_or}
+use lib.Ieee.{nan}
+use Rattle.blocks.proofs.copy.Given as goal
+
+abbrev pub invariant-loop-k : goal.invariant-loop-k
+invariant-loop-k l = (l.k ≤ l.n) × ((l.n ≡ length l.initial.to) × Filled l.k (λ j. get_or l.from j nan) l.initial.to l.to)
+
+abbrev pub decreases-loop-k : goal.decreases-loop-k
+decreases-loop-k l = l.n - l.k

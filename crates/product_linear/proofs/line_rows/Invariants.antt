@@ -1,0 +1,13 @@
+use Prim.Native.Nat.{◌-◌, ◌≤◌}
+use lib.ListN.{length}
+use Rattle.lists.specs.Table.{Filled}
+use Rattle.product_linear.specs.Rows.{lined_flat}
+use Rattle.product_linear.specs.Raised.{Along}
+use Rattle.product_linear.proofs.line_rows.Given as goal
+
+abbrev pub invariant-loop-at : goal.invariant-loop-at
+invariant-loop-at l = Along l.width l.step l.from l.at × ((l.at ≤ length l.initial.to) × Filled l.at (lined_flat l.c l.m l.s l.width l.step
+    l.a) l.initial.to l.to)
+
+abbrev pub decreases-loop-at : goal.decreases-loop-at
+decreases-loop-at l = length l.initial.to - l.at

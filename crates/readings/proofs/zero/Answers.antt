@@ -1,0 +1,6 @@
+use Rattle.model.specs.Header.{zero_with}
+use Rattle.readings.proofs.zero.Goals as goal
+
+pub returns : goal.returns
+unfolding zero_with
+returns c = (c.constant_with.ensures.answer, c.constant_with.ensures.written)

@@ -1,0 +1,16 @@
+use mathlib.Core.Path.{refl}
+use native.Mathlib.Omega.{arith}
+use Prim.Native.Nat.{◌-◌}
+use Rattle.lists.specs.Walk.{walked_none, walked_more, walked_end}
+use Rattle.model.specs.Readings.{sum_to}
+use Rattle.readings_sums.proofs.sum_to.Goals as goal
+
+pub loop-i-init : goal.loop-i-init
+loop-i-init c = (omega arith, walked_none _ 0 _)
+
+pub loop-i-preserved : goal.loop-i-preserved
+loop-i-preserved c = (omega arith, walked_more c.loop-i.invariant.1 refl)
+
+pub returns : goal.returns
+unfolding sum_to
+returns c = walked_end c.args.n c.loop-i.invariant.1 (omega arith)

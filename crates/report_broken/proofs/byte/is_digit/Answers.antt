@@ -1,0 +1,7 @@
+use mathlib.Core.Path.{refl}
+use Rattle.model_texts.specs.Hex.{is_digit}
+use Rattle.report_broken.proofs.byte.is_digit.Goals as goal
+
+pub returns : goal.returns
+unfolding is_digit
+returns c = refl

@@ -1,0 +1,15 @@
+use borrow.Author.Tests.{le-leb, lt-leb}
+use Rattle.model_forecast.specs.Shares.{used_total}
+use Rattle.report_totals.proofs.share.used_total.Goals as goal
+
+pub returns-in-Number : goal.returns-in-Number
+unfolding used_total
+returns-in-Number c = rw c.in-Number.is
+
+pub returns-then-s-ge64 : goal.returns-then-s-ge64
+unfolding used_total
+returns-then-s-ge64 c = rw (c.in-Nothing.is, le-leb _ _ c.if-s-ge64.true)
+
+pub returns-else-s-ge64 : goal.returns-else-s-ge64
+unfolding used_total
+returns-else-s-ge64 c = rw (c.in-Nothing.is, lt-leb _ _ c.if-s-ge64.false)

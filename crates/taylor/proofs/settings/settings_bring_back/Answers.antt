@@ -1,0 +1,9 @@
+use mathlib.Core.Path.{◌∙◌}
+use Rattle.taylor.proofs.settings.settings_bring_back.Goals as goal
+
+pub returns : goal.returns
+returns c =
+    rw (← c.bring_back-a.ensures.0) (
+      c.word_of.ensures,
+      (c.put_version.ensures, c.bring_back-a.ensures.1 ∙ rw (← c.bring_back-a.ensures.0)),
+    )

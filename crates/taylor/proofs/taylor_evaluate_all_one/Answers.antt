@@ -1,0 +1,10 @@
+use mathlib.Core.Path.{ap, ◌∙◌}
+use Rattle.taylor.specs.Face.{word_of_reading, value_after}
+use Rattle.taylor.proofs.taylor_evaluate_all_one.Goals as goal
+
+pub returns : goal.returns
+returns c = (
+  c.put.ensures.answer ∙ ap word_of_reading c.evaluate_all_one.ensures,
+  c.put.ensures.value
+      ∙ ap (λ x. value_after x c.args.value.now) c.evaluate_all_one.ensures,
+)

@@ -1,0 +1,6 @@
+use mathlib.Core.Path.{ap, ◌∙◌}
+use Rattle.taylor.specs.Face.{word_of_answer}
+use Rattle.taylor.proofs.taylor_var.Goals as goal
+
+pub returns : goal.returns
+returns c = (c.word_of.ensures ∙ ap word_of_answer c.var.ensures.0, c.var.ensures.1)
