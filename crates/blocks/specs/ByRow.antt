@@ -105,7 +105,8 @@ module _ (minus : Bool) (n : List ℕ) (a old : List Float) (i : List ℕ) (z : 
   abbrev part : List Float
   part = take (at n 3) (drop (place n i) a)
 
-  line_place_lem : (k : ℕ) → Sizes n → Inside n i → count n ≤ length a → line_joined minus part old k ≡ join_at minus (get_or old k nan) (block n a) (along_row i k)
+  line_place_lem : (k : ℕ) → Sizes n → Inside n i → count n ≤ length a → line_joined minus part old k ≡ join_at minus (get_or old k nan)
+      (block n a) (along_row i k)
   unfolding join_at
   line_place_lem k g t m =
       let f = along-fits g t z (le_refl (at n 3)) in

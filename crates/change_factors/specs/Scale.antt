@@ -1,6 +1,7 @@
 -- `derivative` and `taylor_expansion_of_coeff`: the rows from n on, each times its factor.
 use Rattle.std.specs.Prelude.{ℕ, ◌+◌, ◌-◌, ◌*◌, ◌/◌, ◌%◌, ◌≤◌, ◌<◌, List, ◌++◌, Bool, true, false, cond, ◌≡◌, refl, T, ltb, eqb, pos, take, Float}
-use Rattle.std.proofs.Common.{sym, ◌∙◌, arith, div-add-mod', div-lt_iff_lt-mul, mod-lt, mul-le-mul_right, le→leb, length-drop, length-append, get_or-drop, length-take-le, ltb-true, ltb-false, ne_eqb}
+use Rattle.std.proofs.Common.{sym, ◌∙◌, arith, div-add-mod', div-lt_iff_lt-mul, mod-lt, mul-le-mul_right, le→leb}
+use Rattle.std.proofs.Common.{length-drop, length-append, get_or-drop, length-take-le, ltb-true, ltb-false, ne_eqb}
 use Rattle.std.proofs.Math.Path.{ap}
 use Rattle.std.proofs.Math.Arith.{digits_div, digits_mod}
 use Rattle.std.proofs.Math.ListN.{length, get_or, drop, length-take, get_or-append}

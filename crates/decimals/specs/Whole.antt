@@ -13,7 +13,8 @@ use Rattle.std.specs.Float.{binary64}
 use borrow.Author.Tests.{leb-true, eqb-true, ne_eqb}
 use Rattle.lists.specs.Bytes.{bytes}
 use Rattle.lists.specs.Test.{decide, and_left, and_right, or_right}
-use Rattle.model_texts.specs.Number.{exponent_of, digits_of, behind_point, is_zero, is_top, is_scaled, is_whole_word, size_of, signed_text, word_text, number_text}
+use Rattle.model_texts.specs.Number.{exponent_of, digits_of, behind_point, is_zero, is_top, is_scaled, is_whole_word}
+use Rattle.model_texts.specs.Number.{size_of, signed_text, word_text, number_text}
 use Rattle.model_texts.specs.Printed.{decimal}
 use Rattle.model_texts.specs.Report.{when}
 use Rattle.model_decimals.specs.Value.{minus_of, units_of}

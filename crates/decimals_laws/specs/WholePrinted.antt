@@ -15,7 +15,8 @@ use Rattle.lists.specs.Bytes.{bytes}
 use Rattle.lists.specs.Test.{decide, of-both}
 use Rattle.model_texts.specs.Printed.{decimal}
 use Rattle.model_texts.specs.Report.{when}
-use Rattle.model_texts.specs.Number.{exponent_of, digits_of, behind_point, is_zero, is_top, is_scaled, is_whole_word, size_of, signed_text, word_text, number_text}
+use Rattle.model_texts.specs.Number.{exponent_of, digits_of, behind_point, is_zero, is_top, is_scaled, is_whole_word}
+use Rattle.model_texts.specs.Number.{size_of, signed_text, word_text, number_text}
 use Rattle.decimals_laws.specs.WholeValue.{word_value}
 use Rattle.model_decimals.specs.Text.{float_text}
 use Rattle.decimals.specs.Whole.{whole_same}
@@ -123,7 +124,14 @@ module _ (n : ℕ) (some : 1 ≤ n) (less : n < 2 ^ 53) where
 
     scaled_word_lem : Word s n
     unfolding is_whole_word
-    scaled_word_lem = record { word = scaled_word s; small = scaled_small; whole = rw (not-zero, not_top, is_scaled_lem); says = scaled-says; sign = scaled_sign }
+    scaled_word_lem = record {
+      word = scaled_word s;
+      small = scaled_small;
+      whole = rw (not-zero, not_top, is_scaled_lem);
+      says =
+          scaled-says;
+      sign = scaled_sign;
+    }
 
 word_of_lem : (s : Bool) (n : ℕ) → n ≤ 2 ^ 53 → Word s n
 word_of_lem s n l =

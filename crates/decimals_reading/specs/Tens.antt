@@ -1,6 +1,7 @@
 -- The powers of ten that a float holds, and division of whole numbers that floats hold.
 use Rattle.std.specs.Prelude.{ℕ, zero, suc, ◌+◌, ◌*◌, ◌^◌, ◌≤◌, ◌<◌, Bool, true, false, not, ◌&&◌, List, [], ◌∷◌, ◌≡◌, refl, T, ltb, eqb, get_or, Float, pos}
-use Rattle.std.proofs.Common.{sym, ap, ◌∙◌, subst, arith, mul-one, zero-mul, mul_assoc, mul_comm, mul_left_comm, mul-pos, le→leb, pow_pos, ne_eqb, eqb-true, ltb-true}
+use Rattle.std.proofs.Common.{sym, ap, ◌∙◌, subst, arith, mul-one, zero-mul, mul_assoc, mul_comm, mul_left_comm}
+use Rattle.std.proofs.Common.{mul-pos, le→leb, pow_pos, ne_eqb, eqb-true, ltb-true}
 use Rattle.std.proofs.Math.Nat.{pow-le-pow_right}
 use Rattle.std.specs.Float.{nan, inf, fin, binary64}
 use Rattle.std.specs.Float.Ieee.{up, down, of_bits, of_int, in_float, round, div}

@@ -1,6 +1,8 @@
 -- The value of a float is its number of smallest floats; a value as another fraction; which floats are below 2 ^ 63.
 use Rattle.std.specs.Prelude.{ℕ, zero, suc, ◌+◌, ◌-◌, ◌*◌, ◌%◌, ◌^◌, ◌≤◌, ◌<◌, Bool, true, false, cond, ◌≡◌, T, leb, eqb, Float}
-use Rattle.std.proofs.Common.{sym, ap, ◌∙◌, subst, arith, mul_right_comm, mul-le-mul, mul-le-mul_right, mul-lt-mul_of_pos_right, pow_pos, pow-add, pow_mono, eqb-true, ne_eqb, leb-true, leb-false}
+use Rattle.std.proofs.Common.{sym, ap, ◌∙◌, subst, arith, mul_right_comm, mul-le-mul, mul-le-mul_right}
+use Rattle.std.proofs.Common.{mul-lt-mul_of_pos_right, pow_pos, pow-add, pow_mono, eqb-true, ne_eqb, leb-true}
+use Rattle.std.proofs.Common.{leb-false}
 use Rattle.std.proofs.Math.Nat.{eq_of_mul-eq-mul_right}
 use Rattle.std.proofs.Math.Pow.{field}
 use Rattle.std.specs.Float.{nan, inf, fin, binary64}

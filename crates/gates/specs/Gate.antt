@@ -223,7 +223,14 @@ one-announced f w t = announced-regular f (good_word_lem w t).regular none-regul
 
 one_facts : (f : Family) (w m n : ℕ) → good_word w ≡ true → full w m ≡ true → fits (announced_one f w) n ≡ true → OneReady f w m n
 one_facts f w m n s t u =
-    record { word = s; good = good_word_lem w s; full = leb-true _ _ t; announced = fits-good n (one-announced f w s) u; room = fits-room (announced_one f w) n u }
+    record {
+      word = s;
+      good = good_word_lem w s;
+      full = leb-true _ _ t;
+      announced = fits-good n (one-announced f w s) u;
+      room = fits-room
+          (announced_one f w) n u;
+    }
 
 pub one-ready : (f : Family) (w m n : ℕ) → (one_gate f w m n).number ≡ 0 → OneReady f w m n
 unfolding one_gate

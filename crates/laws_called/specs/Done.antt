@@ -76,7 +76,7 @@ pub record Holds (h : Header) (r : ℕ) (out : List Float) (Z : Series) : Type 0
   pub at : (k : List ℕ) → length k ≡ 4 → Inside (header_of r).lengths k → Whole (get_or out (place (header_of r).lengths k) nan) (Z k)
   pub past : (k : List ℕ) → length k ≡ 4 → Inside (header_of r).limits k → inside (header_of r).lengths k ≡ false → Z k ≡ pos 0
 
-holds-held : {h : Header} {r : ℕ} {out : List Float} {Z : Series} → good_word r ≡ true → Keeps h (held r out) → Is h.limits (block_of (held r out)) Z
+pub holds-held : {h : Header} {r : ℕ} {out : List Float} {Z : Series} → good_word r ≡ true → Keeps h (held r out) → Is h.limits (block_of (held r out)) Z
     → Holds h r out Z
 holds-held {h} {r} {out} g k w = record {
   good = g;
@@ -88,11 +88,3 @@ holds-held {h} {r} {out} g k w = record {
       (stored_at (block_of (held r out)) i (w.at i f (stored-under (keeps-sits k) o)) o);
   past = λ i f o. past-at (block_of (held r out)) i (w.at i f (rw k.under.limits at o));
 }
-
--- the general law: of any entry that makes a polynomial, g its gate's refusal, h what it announces, p its value
-pub holds : {h : Header} (g : Refusal) (p : Poly) (out : List Float) {r : ℕ} {Z : Series} → answered g p ≡ Done r → Good h → Keeps h p
-    → Is h.limits (block_of p) Z → Holds h r (out_after g h p out) Z
-holds {h} g p out {r} {Z} done t k w =
-    let e = out-holds g p done k out in
-    holds-held (rw (word-answered g p done) (packed-good p.head (keeps-good t k)))
-    (subst (Keeps h) (sym e) k) (subst (λ (q : Poly). Is h.limits (block_of q) Z) (sym e) w)

@@ -45,7 +45,8 @@ capped_at_lem c n a p h =
     (λ t. rw t)
     (λ t. rw t (table_at nan (capped_at c n a) (count n) p h))
 
-pub capped-under : (c : ℕ) (n : List ℕ) (a : List Float) (p : ℕ) → p < count n → under_cap c (index n p) ≡ true → get_or (capped_places c n a) p nan ≡ get_or a p nan
+pub capped-under : (c : ℕ) (n : List ℕ) (a : List Float) (p : ℕ) → p < count n → under_cap c (index n p) ≡ true → get_or (capped_places c n
+    a) p nan ≡ get_or a p nan
 capped-under c n a p h u = capped_at_lem c n a p h ∙ rw u
 
 -- blocks that agree under the cap

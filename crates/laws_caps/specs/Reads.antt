@@ -21,14 +21,16 @@ AgreeUp l k zero v xs ys = get_or xs 0 nan ≡ get_or ys 0 nan
 AgreeUp l k (suc n) v xs ys = (j : ℕ) → j ≤ at k v → j < at l v → AgreeUp l k n (suc v) (drop (j * span l n (suc v)) xs) (drop (j * span l n (suc v)) ys)
 
 -- the first place
-agree-first : (l k : List ℕ) (n v : ℕ) (xs ys : List Float) → ((w : ℕ) → v ≤ w → w < v + n → 1 ≤ at l w) → AgreeUp l k n v xs ys → get_or xs 0 nan ≡ get_or ys 0 nan
+agree-first : (l k : List ℕ) (n v : ℕ) (xs ys : List Float) → ((w : ℕ) → v ≤ w → w < v + n → 1 ≤ at l w) → AgreeUp l k n v xs ys → get_or xs
+    0 nan ≡ get_or ys 0 nan
 agree-first l k zero v xs ys p a = a
 agree-first l k (suc n) v xs ys p a =
     agree-first l k n (suc v) xs ys (λ w x y. p w (omega arith) (omega arith))
     (rw (zero-mul (span l n (suc v))) at (a 0 (omega arith) (p v (omega arith) (omega arith))))
 
 -- where the variables after v have length 1, a place of the line
-line_first_lem : (l k : List ℕ) (n v : ℕ) (xs ys : List Float) → ((w : ℕ) → v ≤ w → w < v + suc n → 1 ≤ at l w) → span l n (suc v) ≡ 1 → AgreeUp l k (suc n) v xs ys
+line_first_lem : (l k : List ℕ) (n v : ℕ) (xs ys : List Float) → ((w : ℕ) → v ≤ w → w < v + suc n → 1 ≤ at l w) → span l n (suc v) ≡ 1 →
+    AgreeUp l k (suc n) v xs ys
     → (j : ℕ) → j ≤ at k v → j < at l v → get_or xs j nan ≡ get_or ys j nan
 line_first_lem l k n v xs ys p s a j x y =
     let d : ℕ = j * span l n (suc v) in

@@ -37,5 +37,6 @@ module _ {A : Type 0} (M : Adding A) where
       ∙ sum_narrow M r p (suc n + m) (omega arith) (λ j x y. past j x)
 
 -- one row is the box at most
-pub row-part : (f : List ℕ → ℕ) (ns : List ℕ) (v : ℕ) → v < length ns → {k : List ℕ} → InBox k (set ns v 1) → sum_n (λ j. f (set k v j)) (at ns v) 0 ≤ box_n ns f
+pub row-part : (f : List ℕ → ℕ) (ns : List ℕ) (v : ℕ) → v < length ns → {k : List ℕ} → InBox k (set ns v 1) → sum_n (λ j. f (set k v j)) (at
+    ns v) 0 ≤ box_n ns f
 row-part f ns v h u = rw (box-rows add_n f ns v h) (box_n-term (λ k. sum_n (λ j. f (set k v j)) (at ns v) 0) u)

@@ -117,7 +117,7 @@ module _ (A B : Series) (k : List ℕ) (f : length k ≡ 4) where
         (λ t. rw t)
         (λ t. rw t (only j w (λ e. eqb-false (degree j) 0 t (ap degree e)) o))
 
-    times-unit : times (rest A) B k ≡ raised_z v (A (unit v)) B k
+    pub times-unit : times (rest A) B k ≡ raised_z v (A (unit v)) B k
     unfolding rest
     times-unit =
         decide (eqb (at k v) 0)
@@ -133,12 +133,3 @@ module _ (A B : Series) (k : List ℕ) (f : length k ≡ 4) where
         (times-only (rest A) B (unit-within k f v h l) rest-zero
         ∙ ap₂ ◌*ℤ◌ here (ap B (minus-unit k f v h))
         ∙ *ℤ_comm (A (unit v)) (B (set k v (at k v - 1)))))
-
-    -- a factor that is zero but for its constant and v itself
-    pub times-line : times A B k ≡ raised_z v (A (unit v)) B k +ℤ times B (constant_of A) k
-    times-line =
-        times-comm A B k
-        ∙ times-rest B A k
-        ∙ +ℤ_comm (B k *ℤ A (index_minus k k)) (times B (rest A) k)
-        ∙ ap₂ ◌+ℤ◌ (times-comm B (rest A) k ∙ times-unit)
-        (ap (λ (i : List ℕ). B k *ℤ A i) (minus_self k f) ∙ *ℤ_comm (B k) (A origin) ∙ sym times-constant_of_lem ∙ times-comm (constant_of A) B k)

@@ -28,7 +28,7 @@ use Rattle.shape_words.specs.Places.{place-lt}
 use Rattle.laws_keeps.specs.Sits.{Sits}
 use Rattle.laws_keeps.specs.ProductKeeps.{raised-sits}
 use Rattle.laws_keeps.specs.Ways.{Line, line_two_lem, line_place_lem}
-use Rattle.laws_exact.specs.Factors.{positive, sizes-term, unit, unit-length, unit-within, minus-unit, raised_z, constant_of, times-constant_of_lem, times-line}
+use Rattle.laws_exact.specs.Factors.{positive, sizes-term, unit, unit-length, unit-within, minus-unit, raised_z, constant_of, times-constant_of_lem}
 use Rattle.laws_exact.specs.Generals.{Fits, before}
 use Rattle.laws_exact.specs.Wholes.{Is, stored_at, past-at, place-one, place-origin, is_same_lem}
 use Rattle.laws_exact.specs.Firsts.{first-whole, origin-stored, stored-under}
@@ -55,8 +55,10 @@ module _ {l : List ℕ} {a : Block} {A : Series} (s : Sits l a) (p : Is l a A) (
       (λ t.
       let j = inside_is n k t in
       let first-no : eqb x 0 ≡ false = ne_eqb x 0 (λ e. o (place-one n k origin f refl j (origin-stored s) (e ∙ sym (place-origin n)))) in
-      let row-no : eqb x (row_one a v) ≡ false = ne_eqb x (row_one a v) (λ e. u (place-one n k (unit v) f (unit-length v) j unit-stored (e ∙ sym place-unit))) in
-      let z : eq (read_at a k) zero_f ≡ true = or_right (eqb x 0 || eqb x (row_one a v)) _ (line_place_lem a v fits x (place-lt n k j)) (rw (first-no, row-no)) in
+      let row-no : eqb x (row_one a v) ≡ false = ne_eqb x (row_one a v) (λ e. u
+      (place-one n k (unit v) f (unit-length v) j unit-stored (e ∙ sym place-unit))) in
+      let z : eq (read_at a k) zero_f ≡ true = or_right (eqb x 0 || eqb x (row_one a v)) _ (line_place_lem a v fits x (place-lt n k j)) (rw
+      (first-no, row-no)) in
       (eq-zero (stored_at a k (p.at k f i) j)).0 z)
       (λ t. past-at a k (p.at k f i) t)
 
@@ -74,11 +76,8 @@ module _ {l : List ℕ} {a x : Block} {A X : Series} (by_c : Block → Block) (l
   unfolding line_of
   factor = rw (ap (λ (x : Linear). x.m) i.is) (line_factor s p v i.var i.fits)
 
-  exact : (k : List ℕ) → length k ≡ 4 → Inside l k → times A X k ≡ raised_z v (A (unit v)) X k +ℤ times X (constant_of A) k
-  exact k f j = times-line A X k f v i.var (λ d w o u. line-only s p v i.var i.fits d (within-length w ∙ f) (before w j) o u)
-
   -- what is raised is a term of the product
-  small : (k : List ℕ) → length k ≡ 4 → Inside l k → nat_abs (raised_z v (A (unit v)) X k) ≤ 2 ^ 53
+  pub small : (k : List ℕ) → length k ≡ 4 → Inside l k → nat_abs (raised_z v (A (unit v)) X k) ≤ 2 ^ 53
   small k f j =
       decide (eqb (at k v) 0)
       (λ e. rw e (omega arith))
@@ -88,21 +87,5 @@ module _ {l : List ℕ} {a x : Block} {A X : Series} (by_c : Block → Block) (l
       let b : nat_abs (A (unit v)) * nat_abs (X k') ≤ sizes A X k = rw (minus-unit k f v i.var) at (sizes-term A X w) in
       rw e (le_trans (le_of_eq (abs-mul (X k') (A (unit v)) ∙ mul_comm (nat_abs (X k')) (nat_abs (A (unit v))))) (le_trans b (room.at k f j))))
 
-  up : Is l (raised l v line.m x) (raised_z v (A (unit v)) X)
-  up = raised_is v i.var t q factor small
-
-  up-sits : Sits l (raised l v line.m x)
+  pub up-sits : Sits l (raised l v line.m x)
   up-sits = raised-sits v line.m i.var t t (omega arith)
-
-  pub linear_product_lem : Sits l (by_c x) → Is l (by_c x) (times X (constant_of A)) → Is l (linear_product by_c l line x) (times A X)
-  unfolding linear_product
-  linear_product_lem u c =
-      decide (eq line.c zero_f)
-      (λ e.
-      let z : A origin ≡ pos 0 = (eq-zero (line-constant i s p)).0 e in
-      rw e (is_same_lem (λ k f j. sym (exact k f j
-      ∙ ap (λ (y : ℤ). raised_z v (A (unit v)) X k +ℤ y)
-      (times-comm X (constant_of A) k ∙ times-constant_of_lem A X k f ∙ ap (λ (y : ℤ). y *ℤ X k) z ∙ zero-*ℤ (X k))
-      ∙ +ℤ_idr _)) up))
-      (λ e. rw e (is_same_lem (λ k f j. sym (exact k f j))
-      (joined_is false up-sits u up c (record { left = small; both = λ k f j. rw (← exact k f j) (le_trans (abs-times A X k) (room.at k f j)) }))))

@@ -22,7 +22,6 @@ use Rattle.laws_exact.specs.Generals.{Fits, before}
 use Rattle.laws_exact.specs.Wholes.{Is, cut-is, is_same_lem, stored_at, place-origin}
 use Rattle.laws_exact.specs.Firsts.{at-origin, only-first, origin-stored}
 use Rattle.laws_exact.specs.Constants.{constant-is}
-use Rattle.laws_exact.specs.Stages.{product_is}
 
 -- ---- a zero before the cut
 
@@ -49,7 +48,7 @@ zero_is {Z = Z} h = is_same_lem (λ k f i. of-both (λ x. x ≡ Z k) (eqb (degre
 module _ {l : List ℕ} {a b : Block} {A B : Series} (pos_l : (k : ℕ) → k < 4 → 1 ≤ at l k) (s : Sits a.lengths a)
     (t : Sits b.lengths b) (p : Is l a A) (q : Is l b B) where
   -- either is zero
-  zero-way : (is_zero a || is_zero b) ≡ true → (k : List ℕ) → length k ≡ 4 → Inside l k → times A B k ≡ pos 0
+  pub zero-way : (is_zero a || is_zero b) ≡ true → (k : List ℕ) → length k ≡ 4 → Inside l k → times A B k ≡ pos 0
   zero-way e k f i =
       decide (is_zero a)
       (λ u. times_none A B k (λ j w.
@@ -57,10 +56,3 @@ module _ {l : List ℕ} {a b : Block} {A B : Series} (pos_l : (k : ℕ) → k < 
       (λ u. times_none A B k (λ j w.
       ap (λ (z : ℤ). A j *ℤ z) (zero-series pos_l t q (or_right (is_zero a) (is_zero b) e u) (index_minus k j)
       (minus-length k j ∙ f) (before (minus-within k j) i)) ∙ *ℤ-zero (A j)))
-
-  pub multiplied-is : Fits l A B → Is l (multiplied l a b) (times A B)
-  unfolding multiplied
-  multiplied-is r =
-      decide (is_zero a || is_zero b)
-      (λ e. rw e (zero_is (zero-way e)))
-      (λ e. rw e (product_is 1 (cut-sits l a pos_l s.lo) (cut-sits l b pos_l t.lo) (cut-is p) (cut-is q) r))

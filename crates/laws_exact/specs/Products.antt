@@ -28,7 +28,6 @@ use Rattle.laws_keeps.specs.Keeps.{limits_of, left-sits, right-sits}
 use Rattle.laws_exact.specs.Sums.{series_in, weight_in, weight_in_lem}
 use Rattle.laws_exact.specs.Generals.{Fits, general-is}
 use Rattle.laws_exact.specs.Wholes.{Wholes, Is, wholes-is, cut-is}
-use Rattle.laws_exact.specs.Multiplied.{multiplied-is}
 
 -- the general product, whatever the shortcuts
 abbrev pub general_block : List ℕ → Block → Block → Block
@@ -42,32 +41,13 @@ own-sits p g full = record { ns = g.ns; lo = λ k h. (ruled-at g.rules k h).pos;
 module _ (p q : Poly) (g : Regular p.head) (h : Regular q.head) (s : length p.coeffs ≡ stored p.head) (t : length q.coeffs ≡ stored q.head)
     {A B : Series} (u : Is (limits_of p q) (block_of p) A) (v : Is (limits_of p q) (block_of q) B)
     (bound : weight (limits_of p q) A * weight (limits_of p q) B ≤ 2 ^ 53) where
-  room : Fits (limits_of p q) A B
+  pub room : Fits (limits_of p q) A B
   unfolding min_degrees_p1
   room = record { at = λ k f i. le_trans (sizes-le A B (inside_in-box (limits_of p q) refl k f (is_inside_lem i))) bound }
-
-  pub product-exact-cut : (k : List ℕ) → length k ≡ 4 → Inside (announced Product p.head q.head).limits k
-      → Whole (coefficient_at (block_of (product_poly p q)) k) (times A B k)
-  unfolding product_poly announced paired
-  product-exact-cut = (multiplied-is (min_limit-pos p.head q.head g.rules h.rules) (own-sits p g s) (own-sits q h t) u v room).at
-
-  -- all ways agree as numbers: whichever was taken, the coefficient equals that of the general product of the cut
-  -- operands
-  pub ways_agree : (k : List ℕ) → length k ≡ 4 → Inside (announced Product p.head q.head).limits k
-      → eq (coefficient_at (block_of (product_poly p q)) k)
-      (coefficient_at (general_block (limits_of p q) (cut (limits_of p q) (block_of p)) (cut (limits_of p q) (block_of q)))
-      k) ≡ true
-  unfolding announced paired
-  ways_agree k f i =
-      (whole-eq (product-exact-cut k f i) ((general-is (left-sits p q g h) (right-sits p q g h) (cut-is u) (cut-is v) room).at k f i)).1 refl
 
 -- so too where every coefficient is whole, |A| and |B| of the operands as they are stored
 module _ (p q : Poly) (g : Regular p.head) (h : Regular q.head) (a b : ℕ → ℤ) (u : Wholes (block_of p) a) (v : Wholes (block_of q) b)
     (bound : weight_in p a * weight_in q b ≤ 2 ^ 53) where
-  bound-cut : weight (limits_of p q) (series_in p a) * weight (limits_of p q) (series_in q b) ≤ 2 ^ 53
+  pub bound-cut : weight (limits_of p q) (series_in p a) * weight (limits_of p q) (series_in q b) ≤ 2 ^ 53
   unfolding min_degrees_p1
   bound-cut = le_trans (mul-le-mul (weight_in_lem p g a (limits_of p q) refl) (weight_in_lem q h b (limits_of p q) refl)) bound
-
-  pub product-exact : (k : List ℕ) → length k ≡ 4 → Inside (announced Product p.head q.head).limits k
-      → Whole (coefficient_at (block_of (product_poly p q)) k) (times (series_in p a) (series_in q b) k)
-  product-exact = product-exact-cut p q g h u.full v.full (wholes-is u (limits_of p q)) (wholes-is v (limits_of p q)) bound-cut

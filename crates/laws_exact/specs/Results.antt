@@ -20,12 +20,11 @@ use Rattle.shape_words.specs.Lengths.{Inside}
 use Rattle.shape.specs.Keeps.{Keeps}
 use Rattle.laws_keeps.specs.Sits.{Sits}
 use Rattle.laws_keeps.specs.Keeps.{combined-keeps}
-use Rattle.laws_keeps.specs.ProductKeeps.{product-keeps}
+use Rattle.laws_keeps.proofs.ProductKeeps.{product-keeps}
 use Rattle.laws_exact.specs.Weights.{weight_any}
 use Rattle.laws_exact.specs.Wholes.{Wholes, Is}
 use Rattle.laws_exact.specs.Cuts.{numbers_of, is-wholes, wholes_agree, wholes-weight}
-use Rattle.laws_exact.specs.Sums.{series_in, weight_in, sum-exact, difference-exact}
-use Rattle.laws_exact.specs.Products.{product-exact}
+use Rattle.laws_exact.specs.Sums.{series_in, weight_in}
 
 -- the whole numbers of p are those of Z under the limits l, and |Z| there is n at most
 pub record Result (l : List ℕ) (p : Poly) (Z : Series) (n : ℕ) : Type 0 where
@@ -46,41 +45,15 @@ pub result : {h : Header} {p : Poly} {Z : Series} {n : ℕ} → Keeps h p → Is
     → weight p.head.lengths Z ≤ n → Result h.limits p Z n
 result k w b = let s = keeps-sits k in record { wholes = is-wholes s w; agrees = wholes_agree s w; light = le_trans (wholes-weight s w) b }
 
-weight-less : (A B : Series) (n : List ℕ) → weight n (less A B) ≤ weight n A + weight n B
+pub weight-less : (A B : Series) (n : List ℕ) → weight n (less A B) ≤ weight n A + weight n B
 unfolding weight less
 weight-less A B n =
-    le_trans (box_n-le _ (λ k. nat_abs (A k) + nat_abs (B k)) n (λ k u. abs-sub (A k) (B k))) (le_of_eq (box-plus add_n (λ k. nat_abs (A k)) (λ k. nat_abs (B k)) n))
+    le_trans (box_n-le _ (λ k. nat_abs (A k) + nat_abs (B k)) n (λ k u. abs-sub (A k) (B k))) (le_of_eq
+    (box-plus add_n (λ k. nat_abs (A k)) (λ k. nat_abs (B k)) n))
 
 module _ (p q : Poly) (g : Regular p.head) (h : Regular q.head) (a b : ℕ → ℤ) (u : Wholes (block_of p) a) (v : Wholes (block_of q) b) where
-  left-weight : (n : List ℕ) → length n ≡ 4 → weight n (series_in p a) ≤ weight_in p a
+  pub left-weight : (n : List ℕ) → length n ≡ 4 → weight n (series_in p a) ≤ weight_in p a
   left-weight n e = weight_any p.head.lengths (ap length g.ns) a n e
 
-  right-weight : (n : List ℕ) → length n ≡ 4 → weight n (series_in q b) ≤ weight_in q b
+  pub right-weight : (n : List ℕ) → length n ≡ 4 → weight n (series_in q b) ≤ weight_in q b
   right-weight n e = weight_any q.head.lengths (ap length h.ns) b n e
-
-  module _ (bound : weight_in p a + weight_in q b ≤ 2 ^ 53) where
-    pub sum-result : Result (announced Sum p.head q.head).limits (combined false p q) (plus (series_in p a) (series_in q b)) (weight_in p a + weight_in q b)
-    sum-result =
-        let k = combined-keeps p q g h false in
-        let n = (combined false p q).head.lengths in
-        let e = ap length k.regular.ns in
-        result k (record { at = sum-exact p q g h a b u v bound })
-        (omega (arith, weight-plus (series_in p a) (series_in q b) n, left-weight n e, right-weight n e))
-
-    pub difference-result : Result (announced Sum p.head q.head).limits (combined true p q)
-        (less (series_in p a) (series_in q b)) (weight_in p a + weight_in q b)
-    difference-result =
-        let k = combined-keeps p q g h true in
-        let n = (combined true p q).head.lengths in
-        let e = ap length k.regular.ns in
-        result k (record { at = difference-exact p q g h a b u v bound })
-        (omega (arith, weight-less (series_in p a) (series_in q b) n, left-weight n e, right-weight n e))
-
-  module _ (bound : weight_in p a * weight_in q b ≤ 2 ^ 53) where
-    pub product-result : Result (announced Product p.head q.head).limits (product_poly p q)
-        (times (series_in p a) (series_in q b)) (weight_in p a * weight_in q b)
-    product-result =
-        let k = product-keeps p q g h in
-        let e = ap length k.regular.ns in
-        result k (record { at = product-exact p q g h a b u v bound })
-        (le_trans (weight-times (series_in p a) (series_in q b) (product_poly p q).head.lengths) (mul-le-mul (left-weight _ e) (right-weight _ e)))

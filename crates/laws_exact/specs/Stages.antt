@@ -17,25 +17,26 @@ use Rattle.laws_whole.specs.Compare.{eq-one}
 use Rattle.laws_whole.specs.SeriesLaws.{times-comm}
 use Rattle.laws_whole.specs.SeriesSizes.{abs-times}
 use Rattle.laws_keeps.specs.Sits.{Sits, sits-more}
-use Rattle.laws_keeps.specs.ProductKeeps.{shape-under, constant-sits, product-sits}
+use Rattle.laws_keeps.specs.ProductKeeps.{shape-under, constant-sits}
+use Rattle.laws_keeps.proofs.ProductKeeps.{product-sits}
 use Rattle.laws_exact.specs.Factors.{sizes-comm, sizes-less, constant_of}
 use Rattle.laws_exact.specs.Generals.{Fits, general-is}
 use Rattle.laws_exact.specs.Wholes.{Is, is_same_lem}
 use Rattle.laws_exact.specs.Firsts.{first-whole}
 use Rattle.laws_keeps.specs.Ways.{Shortcuts, by_way, by-way_or-line, Line, linear-is}
 use Rattle.laws_exact.specs.Constants.{scaled-is, constant-is, constant-times}
-use Rattle.laws_exact.specs.Lines.{line-constant, linear_product_lem}
+use Rattle.laws_exact.specs.Lines.{line-constant}
 
 -- ---- bounds
 
-fits-comm : {l : List ℕ} {A B : Series} → Fits l A B → Fits l B A
+pub fits-comm : {l : List ℕ} {A B : Series} → Fits l A B → Fits l B A
 fits-comm {A = A} {B = B} r = record { at = λ k f i. rw (sizes-comm B A k) (r.at k f i) }
 
 -- the constant of a factor in its place
 small-constant : (A : Series) (j : List ℕ) → nat_abs (constant_of A j) ≤ nat_abs (A j)
 small-constant A j = of-both (λ x. nat_abs x ≤ nat_abs (A j)) (eqb (degree j) 0) (le_refl _) (omega arith)
 
-fits-constant : {l : List ℕ} {A B : Series} → Fits l A B → Fits l B (constant_of A)
+pub fits-constant : {l : List ℕ} {A B : Series} → Fits l A B → Fits l B (constant_of A)
 fits-constant {A = A} {B = B} r = record { at = λ k f i. le_trans (sizes-less B A (constant_of A) k (small-constant A)) ((fits-comm r).at k f i) }
 
 -- ---- the ways
@@ -58,38 +59,14 @@ module _ {l : List ℕ} {a b : Block} {A B : Series} (s : Sits l a) (p : Is l a 
       is_same_lem (λ k f i. sym (constant-times s p c B k f i))
       (scaled-is (first-whole s p) q (λ k f i. rw (← constant-times s p c B k f i) (le_trans (abs-times A B k) (room.at k f i))))
 
-swapped : {l : List ℕ} {x : Block} (A B : Series) → Is l x (times B A) → Is l x (times A B)
+pub swapped : {l : List ℕ} {x : Block} (A B : Series) → Is l x (times B A) → Is l x (times A B)
 swapped A B = is_same_lem (λ k f i. times-comm B A k)
 
--- a line times x, given the product of x by the line's constant
-line_way_lem : (stage : ℕ) {l : List ℕ} {a x : Block} {A X : Series} → Sits l a → Sits l x → Is l a A → Is l x X → Fits l A X → Line a (linear a)
-    → Is l (product_of stage l x (constant_block (linear a).c)) (times X (constant_of A))
-    → Is l (linear_product (λ y. product_of stage l y (constant_block (linear a).c)) l (linear a) x) (times A X)
-line_way_lem stage {l} {a} {x} {A} s t p q r i given =
-    linear_product_lem (λ y. product_of stage l y (constant_block (linear a).c)) (linear a) i s t p q r
-    (sits-more (shape-under l _ _) (product-sits stage t (constant-sits (linear a).c t))) given
-
 -- the shortcuts
-shortcut-is : {l : List ℕ} {a b : Block} {A B : Series} → Sits l a → Sits l b → Is l a A → Is l b B → Fits l A B → Shortcuts a b (λ x. Is l x (times A B))
+pub shortcut-is : {l : List ℕ} {a b : Block} {A B : Series} → Sits l a → Sits l b → Is l a A → Is l b B → Fits l A B → Shortcuts a b (λ x. Is l x (times A B))
 shortcut-is {A = A} {B = B} s t p q r = record {
   left_one = one-is s p q;
   right_one = λ e. swapped A B (one-is t q p e);
   left_constant = by_constant_lem s p q r;
   right_constant = λ e. swapped A B (by_constant_lem t q p (fits-comm r) e);
 }
-
-pub product_is : (stage : ℕ) {l : List ℕ} {a b : Block} {A B : Series} → Sits l a → Sits l b → Is l a A → Is l b B
-    → Fits l A B → Is l (product_of stage l a b) (times A B)
-product_is zero {l} s t p q r = by_way l (shortcut-is s t p q r) (general-is s t p q r)
-product_is (suc stage) {l} {a} {b} {A} {B} s t p q r =
-    by-way_or-line l (shortcut-is s t p q r) (general-is s t p q r)
-    (record {
-      left_linear = λ e.
-          let i = linear-is a e in
-          line_way_lem stage s t p q r i (product_is stage t (constant-sits _ t) q (constant-is A (line-constant i s p)) (fits-constant r));
-      right_linear = λ e.
-          let i = linear-is b e in
-          swapped A B (line_way_lem stage t s q p (fits-comm r) i
-          (product_is stage s (constant-sits _ s) p (constant-is B (line-constant i t q))
-          (fits-constant (fits-comm r))));
-    })

@@ -47,40 +47,18 @@ module _ (p q : Poly) (g : Regular p.head) (h : Regular q.head) {A B : Series} (
   unfolding min_degrees_p1
   size-cut C k f i = weight-at C (inside_in-box (limits_of p q) refl k f (is_inside_lem i))
 
-  room : (minus : Bool) → Room minus (limits_of p q) A B
+  pub room : (minus : Bool) → Room minus (limits_of p q) A B
   room minus = record {
     left = λ k f i. omega (arith, size-cut A k f i);
     both = λ k f i. omega (arith, abs-join minus (A k) (B k), size-cut A k f i, size-cut B k f i);
   }
 
-  combined-is : (minus : Bool) → Is (limits_of p q) (block_of (combined minus p q)) (λ k. join_z minus (A k) (B k))
-  unfolding combined announced paired
-  combined-is minus = joined_is minus (left-sits p q g h) (right-sits p q g h) (cut-is u) (cut-is v) (room minus)
-
-  pub sum-exact-cut : (k : List ℕ) → length k ≡ 4 → Inside (announced Sum p.head q.head).limits k
-      → Whole (coefficient_at (block_of (combined false p q)) k) (plus A B k)
-  unfolding plus announced paired
-  sum-exact-cut = (combined-is false).at
-
-  pub difference-exact-cut : (k : List ℕ) → length k ≡ 4 → Inside (announced Sum p.head q.head).limits k
-      → Whole (coefficient_at (block_of (combined true p q)) k) (less A B k)
-  unfolding less announced paired
-  difference-exact-cut = (combined-is true).at
-
 -- so too where every coefficient is whole, |A| and |B| of the operands as they are stored
 module _ (p q : Poly) (g : Regular p.head) (h : Regular q.head) (a b : ℕ → ℤ) (u : Wholes (block_of p) a) (v : Wholes (block_of q) b)
     (bound : weight_in p a + weight_in q b ≤ 2 ^ 53) where
-  bound-cut : weight (limits_of p q) (series_in p a) + weight (limits_of p q) (series_in q b) ≤ 2 ^ 53
+  pub bound-cut : weight (limits_of p q) (series_in p a) + weight (limits_of p q) (series_in q b) ≤ 2 ^ 53
   unfolding min_degrees_p1
   bound-cut = omega (arith, weight_in_lem p g a (limits_of p q) refl, weight_in_lem q h b (limits_of p q) refl)
-
-  pub sum-exact : (k : List ℕ) → length k ≡ 4 → Inside (announced Sum p.head q.head).limits k
-      → Whole (coefficient_at (block_of (combined false p q)) k) (plus (series_in p a) (series_in q b) k)
-  sum-exact = sum-exact-cut p q g h (wholes-is u (limits_of p q)) (wholes-is v (limits_of p q)) bound-cut
-
-  pub difference-exact : (k : List ℕ) → length k ≡ 4 → Inside (announced Sum p.head q.head).limits k
-      → Whole (coefficient_at (block_of (combined true p q)) k) (less (series_in p a) (series_in q b) k)
-  difference-exact = difference-exact-cut p q g h (wholes-is u (limits_of p q)) (wholes-is v (limits_of p q)) bound-cut
 
 pub negated-exact : (p : Poly) → Regular p.head → (a : ℕ → ℤ) → Wholes (block_of p) a → (k : List ℕ) → length k ≡ 4
     → Whole (coefficient_at (block_of (negated p)) k) (neg_ℤ (series_in p a k))

@@ -84,7 +84,8 @@ module _ {n m k : ℕ} {ns ms ks : List ℕ} {xs ys : List Float} {P Q : Series}
     flat-sizes i = box_flat add_n _ ks flat ∙ ap (λ (x : List ℕ). nat_abs (P (i ∷ ks)) * nat_abs (Q ((k - i) ∷ x))) (minus_flat ks ks flat)
 
     -- the line of the one long variable
-    pub line_whole_lem : box_count ns ≡ 1 → box_count ms ≡ 1 → InBox ks ns → InBox ks ms → {x : Float} {c : ℤ} → Whole x c → nat_abs c + sizes P Q (k ∷ ks) ≤ 2 ^ 53
+    pub line_whole_lem : box_count ns ≡ 1 → box_count ms ≡ 1 → InBox ks ns → InBox ks ms → {x : Float} {c : ℤ} → Whole x c → nat_abs c +
+        sizes P Q (k ∷ ks) ≤ 2 ^ 53
         → Whole (add binary64 x (line xs ys n m k)) (c +ℤ times P Q (k ∷ ks))
     unfolding line box_place
     line_whole_lem e f u v {x} {c} w h =

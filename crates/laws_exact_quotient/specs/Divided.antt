@@ -19,7 +19,7 @@ use Rattle.laws_whole.specs.Exact.{whole-div}
 use Rattle.laws_whole.specs.Compare.{eq-one}
 use Rattle.laws_whole.specs.SeriesLaws.{times-comm}
 use Rattle.laws_whole.specs.SeriesSizes.{abs-times}
-use Rattle.laws_whole.specs.QuotientLaws.{quotient-times}
+use Rattle.laws_whole.proofs.QuotientLaws.{quotient-times}
 use Rattle.shape_words.specs.Lengths.{Inside}
 use Rattle.laws_keeps.specs.Sits.{Sits, cut-sits}
 use Rattle.laws_exact.specs.Wholes.{Is, whole-at, stored_at, past-at, table-read, is_same_lem, cut-is}
@@ -27,7 +27,6 @@ use Rattle.laws_exact.specs.Firsts.{first-whole}
 use Rattle.laws_exact.specs.Generals.{Fits}
 use Rattle.laws_exact.specs.Constants.{constant-times}
 use Rattle.laws_exact_quotient.specs.Inverses.{quotient-only-under}
-use Rattle.laws_exact_quotient.specs.Recurred.{recurred-is}
 
 -- each place divided by c, which is 1 or -1
 divided-by : {l : List ℕ} {a : Block} {A : Series} {c : Float} {C : ℤ} → Whole c C → nat_abs C ≡ 1 → Is l a A
@@ -46,27 +45,14 @@ module _ {l : List ℕ} {a b : Block} {A B : Series} (s : Sits l a) (t : Sits l 
   times-divisor : count b.lengths ≡ 1 → (Z : Series) (k : List ℕ) → length k ≡ 4 → Inside l k → times Z B k ≡ Z k *ℤ B origin
   times-divisor e Z k f i = times-comm Z B k ∙ constant-times t q e Z k f i ∙ *ℤ_comm (B origin) (Z k)
 
-  over-one : is_one b ≡ true → Is l a (quotient A B)
+  pub over-one : is_one b ≡ true → Is l a (quotient A B)
   over-one e =
       let c = eqb-true _ _ (and_left (is_constant b) (eq (first b.places) one_f) e) in
       let o : B origin ≡ pos 1 = (eq-one (first-whole t q)).0 (and_right (is_constant b) (eq (first b.places) one_f) e) in
       is_same_lem (quotient-only-under B unit (record { at = λ k f i. times-divisor c A k f i ∙ ap (λ (z : ℤ). A k *ℤ z) o ∙ *ℤ-unit (A k) })) p
 
-  over-constant : is_constant b ≡ true → Is l (block a.lengths (table (count a.lengths) (divided_at (first b.places) a.places))) (quotient A B)
+  pub over-constant : is_constant b ≡ true → Is l (block a.lengths (table (count a.lengths) (divided_at (first b.places) a.places))) (quotient A B)
   over-constant e =
       let Z : Series = λ k. A k *ℤ B origin in
       is_same_lem (quotient-only-under B unit (record { at = λ k f i. times-divisor (eqb-true _ _ e) Z k f i ∙ unit-back (A k) (B origin) unit }))
       (divided-by (first-whole t q) unit p (λ k f i. rw (← quotient-times A B unit k f) (le_trans (abs-times (quotient A B) B k) (room.at k f i))))
-
-  -- blocks that are cut already
-  quotient_is : Is l (quotient_of l a b) (quotient A B)
-  unfolding quotient_of
-  quotient_is =
-      decide (is_one b)
-      (λ e. rw e (over-one e))
-      (λ e. rw e (decide (is_constant b) (λ c. rw c (over-constant c)) (λ c. rw c (recurred-is s t p q unit room))))
-
-pub divided-is : {l : List ℕ} {a b : Block} {A B : Series} → ((k : ℕ) → k < 4 → 1 ≤ at l k) → Sits a.lengths a → Sits b.lengths b → Is l a A → Is l b B
-    → nat_abs (B origin) ≡ 1 → Fits l (quotient A B) B → Is l (divided l a b) (quotient A B)
-unfolding divided
-divided-is {l} {a} {b} pos_l s t p q = quotient_is (cut-sits l a pos_l s.lo) (cut-sits l b pos_l t.lo) (cut-is p) (cut-is q)

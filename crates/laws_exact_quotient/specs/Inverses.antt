@@ -9,7 +9,7 @@ use Rattle.model_textbook.specs.Box.{index_minus}
 use Rattle.model_textbook.specs.Textbook.{Series, times, one, origin, quotient}
 use Rattle.laws_whole.specs.IndexLaws.{within-length, minus-length}
 use Rattle.laws_whole.specs.SeriesLaws.{times-same, times-comm, times-assoc, times-one}
-use Rattle.laws_whole.specs.QuotientLaws.{quotient-times}
+use Rattle.laws_whole.proofs.QuotientLaws.{quotient-times}
 use Rattle.shape_words.specs.Lengths.{Inside}
 use Rattle.laws_exact.specs.Generals.{before}
 

@@ -71,7 +71,7 @@ module _ {r k : List ℕ} {zs : List Float} {y : Block} (s : Sits r (block r zs)
     own : at k v < at r v
     own = inside-at i v (omega arith)
 
-    taken-whole : Whole (taken ly r ys k n v q) taken_at
+    pub taken-whole : Whole (taken ly r ys k n v q) taken_at
     unfolding taken from
     taken-whole =
         let kv = at k v in
@@ -89,12 +89,12 @@ module _ {r k : List ℕ} {zs : List Float} {y : Block} (s : Sits r (block r zs)
         whole-zero (omega (arith, sizes-last w.divisor least P, w.room)))
 
     -- the product less what the rows before give
-    own-left : neg_ℤ taken_at +ℤ times P B (from k (suc n) v) ≡ own_at
+    pub own-left : neg_ℤ taken_at +ℤ times P B (from k (suc n) v) ≡ own_at
     unfolding from
     own-left = ap (λ (x : ℤ). neg_ℤ taken_at +ℤ x) (times-last w.divisor least P) ∙ neg_+ℤ_cancel taken_at own_at
 
     -- one variable further: the place's own row, and the divisor's row 0
-    further : Left r k y n (suc v) (drop (rows_before ly r ys k n v) q) (λ j. P (at k v ∷ j)) (λ j. B (0 ∷ j))
+    pub further : Left r k y n (suc v) (drop (rows_before ly r ys k n v) q) (λ j. P (at k v ∷ j)) (λ j. B (0 ∷ j))
     unfolding from degree
     further = record {
       earlier = row-own w.earlier own (span r n (suc v)) (sym (from-count r n (suc v)));
@@ -103,26 +103,6 @@ module _ {r k : List ℕ} {zs : List Float} {y : Block} (s : Sits r (block r zs)
       room = omega (arith, sizes-last w.divisor least P, w.room);
     }
 
-    own-small : nat_abs own_at ≤ 2 ^ 53
+    pub own-small : nat_abs own_at ≤ 2 ^ 53
     own-small = le_trans (abs-times (λ j. P (at k v ∷ j)) (λ j. B (0 ∷ j)) ks) further.room
-
-  -- ---- all the variables left
-
-  lessened-whole : (n v : ℕ) → n + v ≡ 4 → {q : List Float} {P B : Series} → Left r k y n v q P B → {c : Float} → Whole c (times P B (from k n v))
-      → Whole (lessened ly r ys k n v q c) (P (from k n v))
-  unfolding lessened from box_place degree
-  lessened-whole zero v e {P = P} {B = B} w z =
-      let u = w.unit [] refl refl in
-      rw (unit-back (P []) (B []) u) at
-      (whole-div (rw (times-nil P B) at z) (w.divisor.known [] InBox.none Within.none) u (rw (← times-nil P B) (le_trans (abs-times P B []) w.room)))
-  lessened-whole (suc n) v e w z =
-      let o = own-left n v e w in
-      lessened-whole n (suc v) (omega arith) (further n v e w) (rw o at (whole-add (whole_neg (taken-whole n v e w)) z (rw o (own-small n v e w))))
-
-  -- the place: the dividend is added in the first variable, where it stores something
-  pub quotient_at-whole : (x : Block) {q : List Float} {P B : Series} → Left r k y 4 0 q P B → Whole (coefficient_at x k) (times P B (from k 4 0))
-      → Whole (quotient_at x y r k q) (P (from k 4 0))
-  unfolding quotient_at from
-  quotient_at-whole x w z =
-      let o = own-left 3 0 refl w in
-      lessened-whole 3 1 refl (further 3 0 refl w) (rw o at (join_at_lem false x k (whole_neg (taken-whole 3 0 refl w)) z (rw o (own-small 3 0 refl w))))
+    -- ---- all the variables left

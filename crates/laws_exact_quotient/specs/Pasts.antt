@@ -14,7 +14,7 @@ use Rattle.model.specs.Quotient.{quotient_shape}
 use Rattle.model_textbook.specs.Textbook.{Series, truncated, times, origin, quotient}
 use Rattle.laws_whole.specs.IndexLaws.{minus-length, minus-within}
 use Rattle.laws_whole.specs.SeriesLaws.{times-same}
-use Rattle.laws_whole.specs.QuotientLaws.{quotient-times}
+use Rattle.laws_whole.proofs.QuotientLaws.{quotient-times}
 use Rattle.shape_words.specs.Lengths.{Inside, inside_is, is_inside_lem, inside-four, inside-at}
 use Rattle.laws_keeps.specs.Sits.{Sits}
 use Rattle.laws_exact.specs.Windows.{minus-at, times_none}

@@ -32,7 +32,6 @@ use Rattle.laws_exact.specs.Wholes.{Wholes, Is, wholes-is}
 use Rattle.laws_exact.specs.Products.{own-sits}
 use Rattle.laws_exact.specs.Results.{Result, keeps-sits, result}
 use Rattle.laws_keeps.specs.QuotientKeeps.{quotient-keeps}
-use Rattle.laws_exact_quotient.specs.Divided.{divided-is}
 
 -- the exact quotient of two polynomials, and |Q| under the announced limits
 abbrev pub quotient_in : Poly → (ℕ → ℤ) → Poly → (ℕ → ℤ) → Series
@@ -46,33 +45,13 @@ weight_over p a q b = weight (announced Quotient p.head q.head).limits (quotient
 module _ (p q : Poly) (g : Regular p.head) (h : Regular q.head) (s : length p.coeffs ≡ stored p.head) (t : length q.coeffs ≡ stored q.head)
     {A B : Series} (u : Is (limits_of p q) (block_of p) A) (v : Is (limits_of p q) (block_of q) B) (unit : nat_abs (B origin) ≡ 1)
     (bound : weight (limits_of p q) (quotient A B) * weight (limits_of p q) B ≤ 2 ^ 53) where
-  room : Fits (limits_of p q) (quotient A B) B
+  pub room : Fits (limits_of p q) (quotient A B) B
   unfolding min_degrees_p1
   room = record { at = λ k f i. le_trans (sizes-le (quotient A B) B (inside_in-box (limits_of p q) refl k f (is_inside_lem i))) bound }
-
-  pub quotient-exact-cut : (k : List ℕ) → length k ≡ 4 → Inside (announced Quotient p.head q.head).limits k
-      → Whole (coefficient_at (block_of (quotient_poly p q)) k) (quotient A B k)
-  unfolding quotient_poly announced paired
-  quotient-exact-cut = (divided-is (min_limit-pos p.head q.head g.rules h.rules) (own-sits p g s) (own-sits q h t) u v unit room).at
 
 -- so too where every coefficient is whole, |A| and |B| of the operands as they are stored
 module _ (p q : Poly) (g : Regular p.head) (h : Regular q.head) (a b : ℕ → ℤ) (u : Wholes (block_of p) a) (v : Wholes (block_of q) b)
     (unit : nat_abs (series_in q b origin) ≡ 1) (bound : weight_in p a + weight_over p a q b * weight_in q b ≤ 2 ^ 53) where
-  bound-cut : weight (limits_of p q) (quotient_in p a q b) * weight (limits_of p q) (series_in q b) ≤ 2 ^ 53
+  pub bound-cut : weight (limits_of p q) (quotient_in p a q b) * weight (limits_of p q) (series_in q b) ≤ 2 ^ 53
   unfolding announced paired min_degrees_p1
   bound-cut = omega (arith, mul-le-mul_left (weight_over p a q b) (weight_in_lem q h b (limits_of p q) refl))
-
-  pub quotient-exact : (k : List ℕ) → length k ≡ 4 → Inside (announced Quotient p.head q.head).limits k
-      → Whole (coefficient_at (block_of (quotient_poly p q)) k) (quotient (series_in p a) (series_in q b) k)
-  quotient-exact = quotient-exact-cut p q g h u.full v.full (wholes-is u (limits_of p q)) (wholes-is v (limits_of p q)) unit bound-cut
-
-  -- the result is a polynomial with whole coefficients again, and no heavier than Q
-  pub quotient-result : Result (announced Quotient p.head q.head).limits (quotient_poly p q) (quotient_in p a q b) (weight_over p a q b)
-  unfolding weight
-  quotient-result =
-      let k = quotient-keeps p q g h in
-      let s = keeps-sits k in
-      let e : length (announced Quotient p.head q.head).limits ≡ 4 = ap length (announced-regular Quotient g h).ls in
-      result k (record { at = quotient-exact })
-      (box_n-part (λ j. nat_abs (quotient_in p a q b j))
-      (at-within _ _ (ap length s.ns ∙ sym e) (λ v l. s.hi v (rw e at l))))

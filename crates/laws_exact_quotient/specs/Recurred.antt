@@ -23,7 +23,7 @@ use Rattle.laws_whole.specs.IndexLaws.{in-box-length, four_at_lem}
 use Rattle.laws_whole.specs.SeriesSizes.{sizes}
 use Rattle.laws_whole.specs.PlaceLaws.{place_of-four}
 use Rattle.laws_whole.specs.StoredLaws.{in-box-inside}
-use Rattle.laws_whole.specs.QuotientLaws.{quotient-times}
+use Rattle.laws_whole.proofs.QuotientLaws.{quotient-times}
 use Rattle.shape_words.specs.Lengths.{Inside, inside_is, inside-four, inside-at}
 use Rattle.shape_words.specs.Places.{place-lt, place-index, index-place}
 use Rattle.laws_keeps.specs.Sits.{Sits}
@@ -35,7 +35,6 @@ use Rattle.laws_exact.specs.Generals.{Fits, stores}
 use Rattle.laws_keeps.specs.QuotientKeeps.{divisor-fits, recurred-fits, quotient-under}
 use Rattle.laws_exact_quotient.specs.Pasts.{past-quotient}
 use Rattle.laws_exact_quotient.specs.Earlier.{Before}
-use Rattle.laws_exact_quotient.specs.Lessened.{quotient_at-whole}
 
 module _ {l : List ℕ} {a b : Block} {A B : Series} (s : Sits l a) (t : Sits l b) (p : Is l a A) (q : Is l b B) (unit : nat_abs (B origin) ≡ 1) where
   abbrev r : List ℕ
@@ -52,7 +51,7 @@ module _ {l : List ℕ} {a b : Block} {A B : Series} (s : Sits l a) (t : Sits l 
   four = refl
 
   -- the places before that of k, by their indices
-  earlier : (k : List ℕ) → length k ≡ 4 → (g : List Float)
+  pub earlier : (k : List ℕ) → length k ≡ 4 → (g : List Float)
       → ((x : ℕ) → x < place r k → Within (index r x) k → Whole (get_or g x nan) (Q (index r x))) → Before (from r 4 0) (from k 4 0) g Q
   earlier k f g known =
       rw (from-four r, from-four k, ← four_at_lem r four, ← four_at_lem k f)
@@ -64,48 +63,3 @@ module _ {l : List ℕ} {a b : Block} {A B : Series} (s : Sits l a) (t : Sits l 
             let w = known (place r j) (rw (← z, ← place_of-four r k four f) h) (rw (index-place r j i, ← four_at_lem j e) d) in
             rw z (rw (index-place r j i ∙ sym (four_at_lem j e)) at w);
       })
-
-  -- in a region D that holds, with an index, every index within it: room there is enough
-  module _ (D : List ℕ → Type 0) (down : (j k : List ℕ) → Within j k → D k → D j)
-      (room : (k : List ℕ) → length k ≡ 4 → Inside l k → D k → sizes Q B k ≤ 2 ^ 53) where
-    place-next : (k : List ℕ) → length k ≡ 4 → Inside r k → D k → (g : List Float)
-        → ((x : ℕ) → x < place r k → D (index r x) → Whole (get_or g x nan) (Q (index r x))) → Whole (quotient_at a b r k g) (Q k)
-    place-next k f o m g known =
-        let i : Inside l k = inside-four (λ v h. omega (arith, inside-at o v h, quotient-under s t v h)) in
-        let same : from k 4 0 ≡ k = from-four k ∙ sym (four_at_lem k f) in
-        rw same at
-        (quotient_at-whole (recurred-fits s t) (divisor-fits s t) o a
-        (record {
-          earlier = earlier k f g (λ x h w. known x h (down (index r x) k w m));
-          divisor = stores t q k f i;
-          unit = λ j e d. rw (degree-origin j e d) unit;
-          room = rw same (room k f i m);
-        })
-        (rw (same, quotient-times A B unit k f) (p.at k f i)))
-
-    places-known : (n : ℕ) → n ≤ count r → (x : ℕ) → x < n → D (index r x) → Whole (get_or (grow n step []) x nan) (Q (index r x))
-    unfolding grow index
-    places-known zero h x l m = absurd (omega arith)
-    places-known (suc n) h x l m =
-        let g = grow n step [] in
-        let e : length g ≡ n = length-grow n step [] ∙ omega arith in
-        let known = places-known n (omega arith) in
-        decide (ltb x n)
-        (λ o. let y = ltb-true x n o in rw (get_or-append g (step g ∷ []) nan x (omega arith)) (known x y m))
-        (λ o.
-        let y : x ≡ n = omega (arith, ltb-false x n o) in
-        rw (y, get_or_at g (step g) [] nan n e, e)
-        (place-next (index r n) refl (index-stored r n (recurred-fits s t).lo h) (rw y at m) g (rw (place-index r n) known)))
-
-    pub recurred_in_lem : (k : List ℕ) → length k ≡ 4 → Inside l k → D k → Whole (coefficient_at (block r (recurred a b r)) k) (Q k)
-    unfolding recurred
-    recurred_in_lem k f i m =
-        whole-at (block r (recurred a b r)) k
-        (λ o.
-        let e : index r (place r k) ≡ k = index-place r k o ∙ sym (four_at_lem k f) in
-        rw e at (places-known (count r) (omega arith) (place r k) (place-lt r k o) (rw e m)))
-        (past-quotient s t p q unit k f i)
-
-  -- everywhere under the limits
-  pub recurred-is : Fits l Q B → Is l (block r (recurred a b r)) Q
-  recurred-is room = record { at = λ k f i. recurred_in_lem (λ k. Unit {0}) (λ j k w d. tt) (λ k f i d. room.at k f i) k f i tt }

@@ -25,7 +25,7 @@ use Rattle.model.specs.Shifts.{shift_down_poly}
 use Rattle.model_textbook.specs.Textbook.{Series, weight, sum_of_all, shifted}
 use Rattle.laws_whole.specs.Whole.{Whole}
 use Rattle.laws_whole.specs.Compare.{whole-eq}
-use Rattle.laws_whole.specs.Steps.{whole_list}
+use Rattle.laws_whole.proofs.Steps.{whole_list}
 use Rattle.laws_whole.specs.SumSizes.{abs-sum_z, sum_n-le}
 use Rattle.laws_whole.specs.BoxLaws.{box-same}
 use Rattle.laws_whole.specs.BoxSizes.{box_n-le}

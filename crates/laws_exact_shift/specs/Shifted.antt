@@ -17,7 +17,7 @@ use Rattle.model.specs.Shifts.{in_row, by_index, row_sum, shift_down_poly}
 use Rattle.model_textbook.specs.Textbook.{Series, weight, shifted}
 use Rattle.laws_whole.specs.Whole.{Whole}
 use Rattle.laws_whole.specs.Exact.{whole-add}
-use Rattle.laws_whole.specs.Steps.{whole_sum}
+use Rattle.laws_whole.proofs.Steps.{whole_sum}
 use Rattle.laws_whole.specs.SumLaws.{sum-last, sum_zeros, sum_narrow}
 use Rattle.laws_whole.specs.SumSizes.{abs-sum_z, sum_n-part}
 use Rattle.laws_whole.specs.Index.{InBox}

@@ -24,10 +24,11 @@ use Rattle.laws_keeps.specs.Keeps.{joined-under}
 use Rattle.laws_exact.specs.Generals.{Fits}
 use Rattle.laws_exact.specs.Wholes.{Wholes, Is, is_same_lem, wholes-is}
 use Rattle.laws_exact.specs.Joins.{Room, joined_is}
-use Rattle.laws_exact.specs.Multiplied.{zero_is, multiplied-is}
+use Rattle.laws_exact.specs.Multiplied.{zero_is}
+use Rattle.laws_exact.proofs.Multiplied.{multiplied-is}
 use Rattle.laws_keeps.specs.ProductKeeps.{constant-sits}
 use Rattle.laws_exact.specs.Weights.{weight_any}
-use Rattle.laws_keeps.specs.Running.{multiplied-sits}
+use Rattle.laws_keeps.proofs.Running.{multiplied-sits}
 use Rattle.laws_keeps.specs.SubstituteKeeps.{row-sits}
 use Rattle.laws_exact_substitution.specs.Rowed.{row_is}
 use Rattle.laws_exact_substitution.specs.Hornered.{running, running_none, running-step, running-all, running-weight}

@@ -33,7 +33,8 @@ use Rattle.laws_whole.specs.IndexLaws.{within-length}
 use Rattle.laws_whole.specs.SeriesLaws.{times-comm}
 use Rattle.shape_words.specs.Lengths.{is_inside_lem, inside-at}
 use Rattle.shape.specs.Cut.{cut_inside, inside-cut}
-use Rattle.laws_exact.specs.Factors.{unit, unit-same, raised_z, constant_of, times-constant_of_lem, times-line, positive}
+use Rattle.laws_exact.specs.Factors.{unit, unit-same, raised_z, constant_of, times-constant_of_lem, positive}
+use Rattle.laws_exact.proofs.Factors.{times-line}
 use Rattle.laws_exact.specs.Wholes.{Wholes, Is, whole-at, stored_at, past-at, index_read, wholes-at}
 use Rattle.laws_exact.specs.Firsts.{outside}
 use Rattle.laws_exact_substitution.specs.Hornered.{running, running_none, running-step, running-all}

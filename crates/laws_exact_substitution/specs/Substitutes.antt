@@ -36,7 +36,7 @@ use Rattle.laws_exact.specs.Wholes.{Wholes, Is, is_same_lem, wholes-is}
 use Rattle.laws_exact.specs.Sums.{series_in, weight_in}
 use Rattle.laws_exact.specs.Products.{own-sits}
 use Rattle.laws_exact.specs.Results.{Result, result}
-use Rattle.laws_keeps.specs.SubstituteKeeps.{substitute-keeps}
+use Rattle.laws_keeps.proofs.SubstituteKeeps.{substitute-keeps}
 use Rattle.laws_exact_substitution.specs.Hornered.{running, running-all, substitute-one}
 use Rattle.laws_exact_substitution.specs.Horners.{Puts, made-weight}
 use Rattle.laws_exact_substitution.specs.Substituted.{substituted-is}
@@ -64,10 +64,10 @@ module _ (v : ℕ) (p q : Poly) (g : Regular p.head) (h : Regular q.head) (a b :
   -- ---- a variable that the polynomial has
 
   module _ (i : v < 4) where
-    powers : powers_in v p ≡ len p.head v
+    pub powers : powers_in v p ≡ len p.head v
     powers = let o = (ruled-at g.rules v i).pos in omega arith
 
-    puts : Puts (limits_of p q) v (block_of p) (block_of q) a b
+    pub puts : Puts (limits_of p q) v (block_of p) (block_of q) a b
     puts = record {
       var = i;
       pos_l = min_limit-pos p.head q.head g.rules h.rules;
@@ -77,18 +77,6 @@ module _ (v : ℕ) (p q : Poly) (g : Regular p.head) (h : Regular q.head) (a b :
       wholes_right = w;
       bound = rw powers at bound;
     }
-
-    has-weight : (n : List ℕ) → length n ≡ 4 → weight n (substitute v (powers_in v p) A B) ≤ weight_with v p a q b
-    unfolding weight
-    has-weight n f =
-        let r : List ℕ = four (λ w. at n w + len p.head v) in
-        let x : Within n r = at-within n r f (each (λ w. at n w ≤ at r w) (omega arith) (omega arith) (omega arith) (omega arith)) in
-        rw powers
-        (le_trans (box_n-part (λ k. nat_abs (substitute v (len p.head v) A B k)) x)
-        (le_trans (le_of_eq (box-same add_n _ _ r (λ k c. ap nat_abs (sym (running-all v A B (len p.head v) k)))
-        ∙ sym (mul-one _) ∙ ap (λ (z : ℕ). weight r (running v A B 0 (len p.head v)) * z)
-        (sym (pow-zero (max 1 (weight_in q b))))))
-        (made-weight puts r refl (rw (at-four (λ w. at n w + len p.head v) v i) (omega arith)) 0 (len p.head v) (omega arith))))
 
   -- ---- one that it lacks
 
@@ -105,13 +93,13 @@ module _ (v : ℕ) (p q : Poly) (g : Regular p.head) (h : Regular q.head) (a b :
         (λ t. let l = ltb-true v 4 t in omega (arith, (ruled-at g.rules v l).gone o, inside-at i v l))
         (λ t. past_end k v (omega (arith, ltb-false v 4 t)))
 
-    unchanged : (k : List ℕ) → length k ≡ 4 → Inside p.head.limits k → substitute v (powers_in v p) A B k ≡ A k
+    pub unchanged : (k : List ℕ) → length k ≡ 4 → Inside p.head.limits k → substitute v (powers_in v p) A B k ≡ A k
     unfolding coefficient_of
     unchanged k f i =
         let z : at k v ≡ 0 = first-row k f i in
         rw none (substitute-one v A B k ∙ rw (eq-eqb (at k v) 0 z) (ap A (ap (set k v) (sym z) ∙ set-get_or k v 0)))
 
-    lacks-weight : weight p.head.lengths (substitute v (powers_in v p) A B) ≤ weight_with v p a q b
+    pub lacks-weight : weight p.head.lengths (substitute v (powers_in v p) A B) ≤ weight_with v p a q b
     unfolding weight
     lacks-weight =
         let n : List ℕ = p.head.lengths in
@@ -122,28 +110,4 @@ module _ (v : ℕ) (p q : Poly) (g : Regular p.head) (h : Regular q.head) (a b :
         (λ k c. ap nat_abs (unchanged k (in-box-length c ∙ f) (under k (inside_is n k (in-box-inside n f c)))))
         ∙ sym (mul-one (weight_in p a))))
         (mul-le-mul (omega arith) (one-le-pow (powers_in v p - 1) (max 1 (weight_in q b)) (omega arith)))
-
-  -- ---- the paths
-
-  substitute-is : Is (announced (Substitution v) p.head q.head).limits (block_of (substitute_poly v p q)) (substitute v (powers_in v p) A B)
-  unfolding announced paired substitute_poly
-  substitute-is =
-      decide (ltb v p.head.vars)
-      (λ t. let i : v < 4 = omega (arith, ltb-true v p.head.vars t, g.rules.few) in rw (t, powers i) (substituted-is (puts i)))
-      (λ t. rw t (is_same_lem (λ k f i. sym (unchanged (ltb-false v p.head.vars t) k f i)) (wholes-is u p.head.limits)))
-
-  pub substitute-exact : (k : List ℕ) → length k ≡ 4 → Inside (announced (Substitution v) p.head q.head).limits k
-      → Whole (coefficient_at (block_of (substitute_poly v p q)) k) (substitute v (powers_in v p) A B k)
-  substitute-exact = substitute-is.at
-
-  substitute-weight : weight (substitute_poly v p q).head.lengths (substitute v (powers_in v p) A B) ≤ weight_with v p a q b
-  unfolding substitute_poly
-  substitute-weight =
-      decide (ltb v p.head.vars)
-      (λ t. has-weight (omega (arith, ltb-true v p.head.vars t, g.rules.few))
-      (substitute_poly v p q).head.lengths (ap length (substitute-keeps v p q g h u.full).regular.ns))
-      (λ t. rw t (lacks-weight (ltb-false v p.head.vars t)))
-
-  pub substitute-result : Result (announced (Substitution v) p.head q.head).limits (substitute_poly v p q)
-      (substitute v (powers_in v p) A B) (weight_with v p a q b)
-  substitute-result = result (substitute-keeps v p q g h u.full) substitute-is substitute-weight
+    -- ---- the paths

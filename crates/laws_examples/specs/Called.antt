@@ -6,21 +6,17 @@ use Rattle.model.specs.declared.Answer.{Answer}
 use Rattle.model.specs.declared.Answer.TheVariants.{Done, Refused}
 use Rattle.laws_examples.specs.Examples.{Operand, operand, nothing, Row, row, Tail, shown, answer, same, equal, hold, rows, examples-hold}
 
-abbrev no_row : Row
+abbrev pub no_row : Row
 no_row = row (Tail 0 0) nothing nothing nothing
 
-abbrev holds : Row → Type 0
+abbrev pub holds : Row → Type 0
 holds r = equal (answer r.operation r.left r.right) r.wanted ≡ true
 
-each_row_lem : (rs : List Row) → hold rs ≡ true → (k : ℕ) → k < length rs → holds (get_or rs k no_row)
+pub each_row_lem : (rs : List Row) → hold rs ≡ true → (k : ℕ) → k < length rs → holds (get_or rs k no_row)
 unfolding hold
 each_row_lem [] e k h = absurd (omega arith)
 each_row_lem (r ∷ rs) e zero h = and_left (equal (answer r.operation r.left r.right) r.wanted) (hold rs) e
 each_row_lem (r ∷ rs) e (suc k) h = each_row_lem rs (and_right (equal (answer r.operation r.left r.right) r.wanted) (hold rs) e) k (omega arith)
-
--- row k of the table
-pub in_row : (k : ℕ) → k < length rows → holds (get_or rows k no_row)
-in_row = each_row_lem rows examples-hold
 
 -- what is shown of a refusal has no header
 pub shown-done : (a : Answer) (out : List Float) (o : Operand) → 0 < o.word → equal (shown a out) o ≡ true → a ≡ Done o.word

@@ -24,15 +24,16 @@ use Rattle.model_textbook.specs.Textbook.{truncated, series_of, weight, times, r
 use Rattle.model_textbook.specs.Textbook.{coefficient_of, substitute, shifted, origin}
 use Rattle.laws_whole.specs.Whole.{Whole, whole-unit}
 use Rattle.laws_called.specs.Held.{AllWhole, all_under}
-use Rattle.laws_called.specs.Called.{smaller, multiply-exact, divide-exact, subst-exact, shift-exact}
+use Rattle.laws_called.specs.Called.{smaller}
+use Rattle.laws_called.proofs.Called.{multiply-exact, divide-exact, subst-exact, shift-exact}
 use Rattle.laws_examples.specs.Examples.{Operand, operand, square, three, floats, lent, rows}
-use Rattle.laws_examples.specs.Called.{in_row, shown-done}
+use Rattle.laws_examples.specs.Called.{shown-done}
 
 -- places for a result, and scratch
-abbrev places : Header → List Float
+abbrev pub places : Header → List Float
 places h = lent (stored h)
 
-abbrev scratch : Header → List Float
+abbrev pub scratch : Header → List Float
 scratch h = lent (8 * stored h)
 
 abbrev whole : List ℤ → ℕ → ℤ
@@ -47,19 +48,19 @@ threefold P a b c (suc (suc (suc p))) h = absurd (omega arith)
 
 -- ---- a product
 
-abbrev left : Operand
+abbrev pub left : Operand
 left = square (0x3ff0000000000000 ∷ 0x4000000000000000 ∷ 0x4008000000000000 ∷ 0x4010000000000000 ∷ [])
 
-abbrev right : Operand
+abbrev pub right : Operand
 right = square (0x4014000000000000 ∷ 0x4018000000000000 ∷ 0x401c000000000000 ∷ 0x4020000000000000 ∷ [])
 
-abbrev a : ℕ → ℤ
+abbrev pub a : ℕ → ℤ
 a = whole (pos 1 ∷ pos 2 ∷ pos 3 ∷ pos 4 ∷ [])
 
-abbrev b : ℕ → ℤ
+abbrev pub b : ℕ → ℤ
 b = whole (pos 5 ∷ pos 6 ∷ pos 7 ∷ pos 8 ∷ [])
 
-left-whole : AllWhole left.word (floats left) a
+pub left-whole : AllWhole left.word (floats left) a
 unfolding header_of span of_bits
 left-whole = record {
   at =
@@ -68,7 +69,7 @@ left-whole = record {
       (record { sign = false; value = (refl, refl); is = refl }) (record { sign = false; value = (refl, refl); is = refl });
 }
 
-right-whole : AllWhole right.word (floats right) b
+pub right-whole : AllWhole right.word (floats right) b
 unfolding header_of span of_bits
 right-whole = record {
   at =
@@ -77,35 +78,22 @@ right-whole = record {
       (record { sign = false; value = (refl, refl); is = refl }) (record { sign = false; value = (refl, refl); is = refl });
 }
 
-abbrev squares : Header
+abbrev pub squares : Header
 squares = announced_pair Product left.word right.word
-
-multiplies : product_answer left.word (floats left) right.word (floats right) (places squares) (scratch squares) ≡ Done left.word
-unfolding rows
-multiplies =
-    shown-done _ (product_out left.word (floats left) right.word (floats right) (places squares) (scratch squares)) _
-    (lit< tt) (in_row 2 (lit< tt))
-
-sixty : Whole (get_or (product_out left.word (floats left) right.word (floats right) (places squares) (scratch squares)) 3 nan) (pos 60)
-unfolding header_of span weight times series_of truncated inside strides offset box up_to index_minus min_degrees_p1 min_limit
-sixty =
-    (multiply-exact left.word (floats left) right.word (floats right) (places squares) (scratch squares) a b
-    (all_under (smaller left.word right.word) left-whole) (all_under (smaller left.word right.word) right-whole)
-    (lit≤ tt) multiplies).at (1 ∷ 1 ∷ 0 ∷ 0 ∷ []) refl (record { i0 = lit< tt; i1 = lit< tt; i2 = lit< tt; i3 = lit< tt })
 
 -- ---- a quotient
 
-abbrev unity : Operand
+abbrev pub unity : Operand
 unity = operand 0x2100000000000000 (0x3ff0000000000000 ∷ [])
 
-abbrev ones : Operand
+abbrev pub ones : Operand
 ones = operand 0x2102000000000000 (0x3ff0000000000000 ∷ 0x3ff0000000000000 ∷ [])
 
 -- 1 at each place
-abbrev units : ℕ → ℤ
+abbrev pub units : ℕ → ℤ
 units p = pos 1
 
-unity-whole : AllWhole unity.word (floats unity) units
+pub unity-whole : AllWhole unity.word (floats unity) units
 unfolding header_of span
 unity-whole = record { at = unity-at }
   where
@@ -113,7 +101,7 @@ unity-whole = record { at = unity-at }
     unity-at zero h = whole-unit
     unity-at (suc p) h = absurd (omega arith)
 
-ones-whole : AllWhole ones.word (floats ones) units
+pub ones-whole : AllWhole ones.word (floats ones) units
 unfolding header_of span
 ones-whole = record { at = ones-at }
   where
@@ -122,29 +110,18 @@ ones-whole = record { at = ones-at }
     ones-at (suc zero) h = whole-unit
     ones-at (suc (suc p)) h = absurd (omega arith)
 
-abbrev over : Header
+abbrev pub over : Header
 over = announced_pair Quotient unity.word ones.word
-
-divides : quotient_answer unity.word (floats unity) ones.word (floats ones) (places over) (scratch over) ≡ Done 0x2104000000000000
-unfolding rows
-divides = shown-done _ (quotient_out unity.word (floats unity) ones.word (floats ones) (places over) (scratch over)) _ (lit< tt) (in_row 4 (lit< tt))
-
-minus_one : Whole (get_or (quotient_out unity.word (floats unity) ones.word (floats ones) (places over) (scratch over)) 1 nan) (negsuc 0)
-unfolding header_of span weight quotient turns rest degree times series_of truncated inside strides offset box up_to index_minus min_degrees_p1 min_limit
-minus_one =
-    (divide-exact unity.word (floats unity) ones.word (floats ones) (places over) (scratch over) units units
-    (all_under (smaller unity.word ones.word) unity-whole) (all_under (smaller unity.word ones.word) ones-whole)
-    refl (lit≤ tt) divides).at (1 ∷ 0 ∷ 0 ∷ 0 ∷ []) refl (record { i0 = lit< tt; i1 = lit< tt; i2 = lit< tt; i3 = lit< tt })
 
 -- ---- a substitution
 
-abbrev into : Operand
+abbrev pub into : Operand
 into = three (0x3ff0000000000000 ∷ 0x4000000000000000 ∷ 0x4008000000000000 ∷ [])
 
-abbrev c : ℕ → ℤ
+abbrev pub c : ℕ → ℤ
 c = whole (pos 1 ∷ pos 2 ∷ pos 3 ∷ [])
 
-into-whole : AllWhole into.word (floats into) c
+pub into-whole : AllWhole into.word (floats into) c
 unfolding header_of span of_bits
 into-whole = record {
   at =
@@ -154,28 +131,18 @@ into-whole = record {
       (record { sign = false; value = (refl, refl); is = refl });
 }
 
-abbrev put : Header
+abbrev pub put : Header
 put = announced_pair (Substitution 0) into.word ones.word
-
-substitutes : substitute_answer 0 into.word (floats into) ones.word (floats ones) (places put) (scratch put) ≡ Done into.word
-unfolding rows
-substitutes = shown-done _ (substitute_out 0 into.word (floats into) ones.word (floats ones) (places put) (scratch put)) _ (lit< tt) (in_row 13 (lit< tt))
-
-eight : Whole (get_or (substitute_out 0 into.word (floats into) ones.word (floats ones) (places put) (scratch put)) 1 nan) (pos 8)
-unfolding header_of span weight substitute power one degree coefficient_of times series_of truncated inside strides offset box sum up_to index_minus
-eight =
-    (subst-exact into.word (floats into) ones.word (floats ones) (places put) (scratch put) c units 0 into-whole ones-whole (lit≤ tt) substitutes).at
-    (1 ∷ 0 ∷ 0 ∷ 0 ∷ []) refl (record { i0 = lit< tt; i1 = lit< tt; i2 = lit< tt; i3 = lit< tt })
 
 -- ---- a shift
 
-abbrev down : Operand
+abbrev pub down : Operand
 down = three (0x4000000000000000 ∷ 0x4008000000000000 ∷ 0x3ff0000000000000 ∷ [])
 
 abbrev d : ℕ → ℤ
 d = whole (pos 2 ∷ pos 3 ∷ pos 1 ∷ [])
 
-down-whole : AllWhole down.word (floats down) d
+pub down-whole : AllWhole down.word (floats down) d
 unfolding header_of span of_bits
 down-whole = record {
   at =
@@ -185,14 +152,5 @@ down-whole = record {
       (record { sign = false; value = (refl, refl); is = refl });
 }
 
-abbrev lower : Header
+abbrev pub lower : Header
 lower = announced_one (Shift 0 1) down.word
-
-shifts : shift_down_answer down.word (floats down) 0 1 (places lower) ≡ Done 0x2082000000000000
-unfolding rows
-shifts = shown-done _ (shift_down_out down.word (floats down) 0 1 (places lower)) _ (lit< tt) (in_row 7 (lit< tt))
-
-five : Whole (get_or (shift_down_out down.word (floats down) 0 1 (places lower)) 0 nan) (pos 5)
-unfolding header_of span weight shifted series_of truncated inside strides offset box sum
-five = (shift-exact down.word (floats down) 0 1 (places lower) down-whole (lit≤ tt) shifts).at origin refl
-    (record { i0 = lit< tt; i1 = lit< tt; i2 = lit< tt; i3 = lit< tt })

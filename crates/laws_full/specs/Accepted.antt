@@ -10,7 +10,8 @@ use Rattle.model_recipes.specs.Check.{check_refusal, check_by, check_answer}
 use Rattle.model_recipes.specs.Reasons.{StepReason, late_a, late_b, wrong_word, step}
 use Rattle.recipes_kinds.specs.Known.{Known}
 use Rattle.recipes_check.specs.Judged.{accepts, places-known}
-use Rattle.recipes_laws.specs.Exact.{check-exact, length-known}
+use Rattle.recipes_laws.proofs.Exact.{check-exact}
+use Rattle.recipes_laws.specs.Exact.{length-known}
 use Rattle.laws_full.specs.Made.{Ordered}
 
 module _ (it : Recipe) (z : (check_refusal it).number ≡ 0) where

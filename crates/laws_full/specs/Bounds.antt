@@ -64,7 +64,7 @@ unfolding constant
 bounds-constant c =
     record { some = λ w l. omega arith; past = λ w l k p. rw (ne_eqb (degree k) 0 (λ e. omega (arith, degree-at k w))) }
 
-bounds-one : Bounds (λ w. 1) one
+pub bounds-one : Bounds (λ w. 1) one
 unfolding one
 bounds-one =
     record { some = λ w l. omega arith; past = λ w l k p. rw (ne_eqb (degree k) 0 (λ e. omega (arith, degree-at k w))) }
@@ -110,12 +110,6 @@ module _ {n : ℕ → ℕ} {A : Series} (f : Bounds n A) where
               (g.past w l (index_minus k j)
               (omega (arith, leb-false (n w) (at j w) t, q.0, q.1, f.some w l))) ∙ *ℤ-zero (A j)));
         }
-
-pub bounds-power : {n : ℕ → ℕ} {A : Series} → Bounds n A → (e : ℕ) → Bounds (λ w. e * (n w - 1) + 1) (power A e)
-unfolding power
-bounds-power {n} f zero = bounds-more bounds-one (λ w l. omega arith)
-bounds-power {n} f (suc e) =
-    bounds-more (bounds-times (bounds-power f e) f) (λ w l. omega (arith, f.some w l, suc-mul e (n w - 1)))
 
 -- nothing is asked of what is raised to the power of 0
 pub bounds-none : (n : ℕ → ℕ) (A : Series) → Bounds (λ w. 0 * (n w - 1) + 1) (power A 0)
@@ -192,10 +186,10 @@ module _ {n : ℕ → ℕ} {A : Series} (f : Bounds n A) (v : ℕ) where
 
   -- ---- substitution
 
-  abbrev without : ℕ → ℕ
+  abbrev pub without : ℕ → ℕ
   without w = cond (eqb w v) 1 (n w)
 
-  bounds-coefficient : (i : ℕ) → Bounds without (coefficient_of v i A)
+  pub bounds-coefficient : (i : ℕ) → Bounds without (coefficient_of v i A)
   unfolding coefficient_of
   bounds-coefficient i =
       record {
@@ -208,33 +202,4 @@ module _ {n : ℕ → ℕ} {A : Series} (f : Bounds n A) (v : ℕ) where
             let r : 1 ≤ at k v = rw e at q in
             rw (ne_eqb (at k v) 0 (λ z. omega arith)))
             (λ t. decide (eqb (at k v) 0) (λ z. rw z (other-past w l (eqb-false w v t) k i (rw t at p))) (λ z. rw z));
-      }
-
-  module _ {m : ℕ → ℕ} {B : Series} (p : ℕ) (g : Bounds m B) where
-    term_bounds : (i : ℕ) → i < p
-        → Bounds (λ w. without w + (p - 1) * (m w - 1)) (times (coefficient_of v i A) (power B i))
-    term_bounds i h =
-        bounds-more (bounds-times (bounds-coefficient i) (bounds-power g i))
-        (λ w l. omega (arith, mul-le-mul_right (m w - 1) (let z : i ≤ p - 1 = omega arith in z)))
-
-    pub bounds-substitute : Bounds (λ w. without w + (p - 1) * (m w - 1)) (substitute v p A B)
-    unfolding substitute
-    bounds-substitute =
-        record {
-          some = λ w l. omega (arith, (bounds-coefficient 0).some w l);
-          past = λ w l k q.
-              sum_zeros add_z (λ i. times (coefficient_of v i A) (power B i) k) p 0
-              (λ i x y. (term_bounds i (omega arith)).past w l k q);
-        }
-
-  -- where the variable has one row, nothing is put for it
-  pub bounds-kept : (m : ℕ → ℕ) (B : Series) → Bounds (λ w. without w + (1 - 1) * (m w - 1)) (substitute v 1 A B)
-  unfolding substitute power
-  bounds-kept m B =
-      record {
-        some = λ w l. omega (arith, (bounds-coefficient 0).some w l);
-        past = λ w l k q.
-            sum_zeros add_z (λ i. times (coefficient_of v i A) (power B i) k) 1 0 (λ i x y.
-            let e : i ≡ 0 = omega arith in
-            rw e ((bounds-times (bounds-coefficient 0) bounds-one).past w l k (omega (arith, zero-mul (m w - 1)))));
       }

@@ -20,8 +20,8 @@ use Rattle.laws_full.specs.Unlimited.{Value, results, no_value, constant, sum_le
 use Rattle.laws_full.specs.Unlimited.{shift_lengths, substitution_lengths}
 use Rattle.laws_full.specs.Made.{is_polynomial}
 use Rattle.laws_full.specs.Bounds.{Bounds, bounds-constant, bounds-negative, bounds-plus, bounds-less}
-use Rattle.laws_full.specs.Bounds.{bounds-times, bounds-power, bounds-none, bounds-derivative, bounds-expansion}
-use Rattle.laws_full.specs.Bounds.{bounds-shifted, bounds-substitute, bounds-kept}
+use Rattle.laws_full.specs.Bounds.{bounds-times, bounds-none, bounds-derivative, bounds-expansion}
+use Rattle.laws_full.specs.Bounds.{bounds-shifted}
 use Rattle.laws_full.specs.Counts.{Counts, counts-one, counts-sum, counts-product, counts-power, counts-shift}
 use Rattle.laws_full.specs.Counts.{counts_substitution}
 
@@ -31,60 +31,19 @@ abbrev pub Bounded : Value → Type 0
 Bounded x = Bounds (at x.lengths) x.series
 
 -- four numbers given by variable
-listed : (n : ℕ → ℕ) {A : Series} → Bounds n A → Bounds (at (four n)) A
+pub listed : (n : ℕ → ℕ) {A : Series} → Bounds n A → Bounds (at (four n)) A
 listed n b =
     record { some = λ w l. rw (at-four n w l) (b.some w l); past = λ w l k p. b.past w l k (rw (at-four n w l) at p) }
 
-bounded-constant : (c : ℕ) → Bounds (at ones) (constant c)
+pub bounded-constant : (c : ℕ) → Bounds (at ones) (constant c)
 bounded-constant c = listed (λ w. 1) (bounds-constant c)
 
 pub true-not : {b : Bool} → b ≡ false → not b ≡ true
 true-not h = rw h
 
 module _ (s : Step) (a b : Value) where
-  abbrev family : ℕ → Family
+  abbrev pub family : ℕ → Family
   family k = get_or (families 0 s) k Constant
-
-  power-bounded : (needs_first (family 6) ≡ true → Bounded a)
-      → Bounds (at (power_lengths s.n a.lengths)) (power a.series s.n)
-  unfolding needs_first families power_lengths
-  power-bounded f =
-      decide (eqb s.n 0)
-      (λ t. let e : s.n ≡ 0 = eqb-true s.n 0 t in rw e (listed _ (bounds-none (at a.lengths) a.series)))
-      (λ t. listed _ (bounds-power (f (true-not t)) s.n))
-
-  -- x stands for the length of v, where that is 1
-  substitute-bounded : (x : ℕ) → (x ≡ 1 → at a.lengths s.variable ≡ 1) → Bounded a
-      → (needs_second (family 10) x ≡ true → Bounded b)
-      → Bounds (at (substitution_lengths s.variable a.lengths b.lengths))
-      (substitute s.variable (at a.lengths s.variable) a.series b.series)
-  unfolding needs_second families substitution_lengths
-  substitute-bounded x h f g =
-      decide (eqb x 1)
-      (λ t. rw (h (eqb-true x 1 t)) (listed _ (bounds-kept f s.variable (at b.lengths) b.series)))
-      (λ t. listed _ (bounds-substitute f s.variable (at a.lengths s.variable) (g (true-not t))))
-
-  pub result-bounded : (x k : ℕ) → is_polynomial (family k) ≡ true
-      → (needs_first (family k) ≡ true → x ≡ 1 → at a.lengths s.variable ≡ 1)
-      → (needs_first (family k) ≡ true → Bounded a) → (needs_second (family k) x ≡ true → Bounded b)
-      → Bounded (get_or (results s a b) k no_value)
-  unfolding results is_polynomial needs_first needs_second families sum_lengths product_lengths shift_lengths
-  result-bounded x =
-      by_kind (record {
-        k0 = λ o h f g. bounded-constant s.n;
-        k1 = λ o h f g. bounds-negative (f refl);
-        k2 = λ o h f g. listed _ (bounds-plus (f refl) (g refl));
-        k3 = λ o h f g. listed _ (bounds-less (f refl) (g refl));
-        k4 = λ o h f g. listed _ (bounds-times (f refl) (g refl));
-        k5 = λ o h f g. absurd (false≢true o);
-        k6 = λ o h f g. power-bounded f;
-        k7 = λ o h f g. listed _ (bounds-derivative (f refl) s.variable s.n);
-        k8 = λ o h f g. listed _ (bounds-expansion (f refl) s.variable s.n);
-        k9 = λ o h f g. listed _ (bounds-shifted (f refl) s.variable s.n);
-        k10 = λ o h f g. substitute-bounded x (h refl) (f refl) g;
-        k11 = λ o h f g. absurd (false≢true o);
-        past = λ k o h f g. bounded-constant 0;
-      })
 
   -- ---- full lengths stand for the lengths, in the variable w: x, y, z those of a in the variable of the step, of a
   -- and of b

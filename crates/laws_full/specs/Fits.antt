@@ -27,13 +27,13 @@ use Rattle.recipes_laws.specs.Editions.{idle_step, same-family}
 use Rattle.laws_full.specs.Places.{full-input, full-step}
 use Rattle.laws_full.specs.Setting.{size, known, head, lengths, full, step, out}
 use Rattle.laws_full.specs.Chained.{head_step}
-use Rattle.laws_full.specs.Lacking.{good, lacking-one}
+use Rattle.laws_full.specs.Lacking.{good}
 
-or-first : (a b : Bool) → (a || b) ≡ false → a ≡ false
+pub or-first : (a b : Bool) → (a || b) ≡ false → a ≡ false
 or-first true b h = h
 or-first false b h = refl
 
-or-second : (a b : Bool) → (a || b) ≡ false → b ≡ false
+pub or-second : (a b : Bool) → (a || b) ≡ false → b ≡ false
 or-second true b h = absurd (false≢true (sym h))
 or-second false b h = h
 
@@ -45,7 +45,7 @@ module _ (it : Recipe) (z : (check_refusal it).number ≡ 0) where
 
   -- ---- the test, in all four variables
 
-  none_passed : (p : ℕ) → out it p ≡ false → (w : ℕ) → w < 4 → passes (known it) (lengths it) p w ≡ false
+  pub none_passed : (p : ℕ) → out it p ≡ false → (w : ℕ) → w < 4 → passes (known it) (lengths it) p w ≡ false
   unfolding leaves_out
   none_passed p e =
       let t : ℕ → Bool = passes (known it) (lengths it) p in
@@ -53,21 +53,6 @@ module _ (it : Recipe) (z : (check_refusal it).number ≡ 0) where
       let r = or-second (t 0 || t 1) (t 2 || t 3) e in
       each (λ w. t w ≡ false) (or-first (t 0) (t 1) l) (or-second (t 0) (t 1) l) (or-first (t 2) (t 3) r)
       (or-second (t 2) (t 3) r)
-
-  pub out-fits : (p : ℕ) → p < size it → out it p ≡ false → (w : ℕ) → w < 4 → Fits p w
-  unfolding passes
-  out-fits p l e w m =
-      let f : ℕ = full it p w in
-      let k : ℕ = limit (head it p) w in
-      decide (has (known it) w p)
-      (λ t.
-      let n : (endless f || ltb k f) ≡ false = rw t at (none_passed p e w m) in
-      let o = eqb-false f 0 (or-first (endless f) (ltb k f) n) in
-      record { some = omega arith; most = ltb-false k f (or-second (endless f) (ltb k f) n) })
-      (λ t.
-      let v = ltb-false w (head it p).vars t in
-      let e = lacking-one it z p l w m v in
-      record { some = omega arith; most = omega (arith, (good it z p w m).gone v) })
 
   not-passed : (p w : ℕ) → Fits p w → passes (known it) (lengths it) p w ≡ false
   unfolding passes
@@ -94,13 +79,10 @@ module _ (it : Recipe) (z : (check_refusal it).number ≡ 0) where
   -- a step whose operand leaves nothing out
   module _ (p : ℕ) (i : length it.headers ≤ p) (l : p < size it) (b : (step it p).a < p)
       (e : out it (step it p).a ≡ false) where
-    abbrev operand : Header
+    abbrev pub operand : Header
     operand = head it (step it p).a
 
-    operand-fits : (w : ℕ) → w < 4 → Fits (step it p).a w
-    operand-fits = out-fits (step it p).a (omega arith) e
-
-    head-is : (f : Family) → family_of it.edition (step it p) ≡ f
+    pub head-is : (f : Family) → family_of it.edition (step it p) ≡ f
         → head it p ≡ announced f operand (head_at (take p (known it)) (step it p).b)
     unfolding announced_step
     head-is f k =
@@ -112,7 +94,7 @@ module _ (it : Recipe) (z : (check_refusal it).number ≡ 0) where
         ∙ ap (λ (g : Family). announced g operand other) k
 
     -- it is no power, so that its edition does not matter
-    in-edition : (f : Family) → family_of 0 (step it p) ≡ f → ((n : ℕ) → Power n ≡ f → ⊥) → family_of it.edition (step it p) ≡ f
+    pub in-edition : (f : Family) → family_of 0 (step it p) ≡ f → ((n : ℕ) → Power n ≡ f → ⊥) → family_of it.edition (step it p) ≡ f
     unfolding families
     in-edition f k other =
         decide (idle_step it.edition (step it p))
@@ -121,20 +103,8 @@ module _ (it : Recipe) (z : (check_refusal it).number ≡ 0) where
         absurd (other (step it p).n (rw six at k)))
         (λ t. same-family it.edition (step it p) t ∙ k)
 
-    pub negation-fits : family_of 0 (step it p) ≡ Same → out it p ≡ false
-    unfolding announced single full_after
-    negation-fits k =
-        fits_out p (λ w m.
-        let f = full-step (known it) it.steps (length it.headers) (size it) p w i l m in
-        let r = operand-fits w m in
-        let h : limit (head it p) w ≡ limit operand w =
-        ap (λ (x : Header). limit x w) (head-is Same (in-edition Same k (λ n e. let g : ◌≡◌ {A = ℕ} 0 1 = cc in omega (arith, g))))
-        ∙ at-four (limit operand) w m in
-        let s : full it p w ≡ counted (full it (step it p).a w) = f.is ∙ rw (k, f.of-first b) in
-        record { some = omega (arith, r.some); most = omega (arith, r.most) })
-
     -- what a shift takes off a full length it takes off the limit
-    shift-fits-at : (v n w x : ℕ) → 1 ≤ x → x ≤ limit operand w → limit operand w ≤ 64
+    pub shift-fits-at : (v n w x : ℕ) → 1 ≤ x → x ≤ limit operand w → limit operand w ≤ 64
         → (1 ≤ counted (cond (eqb w v) (shift_full n x) x)) ×
         (counted (cond (eqb w v) (shift_full n x) x) ≤ less_in v n w (limit operand w))
     unfolding shift_full
@@ -142,17 +112,3 @@ module _ (it : Recipe) (z : (check_refusal it).number ≡ 0) where
         decide (eqb w v)
         (λ t. rw (t, ne_eqb x 0 (λ e. omega arith), ne_eqb x many (λ e. omega arith)) (omega arith, omega arith))
         (λ t. rw t (omega arith, omega arith))
-
-    pub shift_fits : (v n : ℕ) → family_of 0 (step it p) ≡ Shift v n → out it p ≡ false
-    unfolding announced single full_after
-    shift_fits v n k =
-        fits_out p (λ w m.
-        let f = full-step (known it) it.steps (length it.headers) (size it) p w i l m in
-        let r = operand-fits w m in
-        let x : ℕ = full it (step it p).a w in
-        let h : limit (head it p) w ≡ less_in v n w (limit operand w) =
-        ap (λ (y : Header). limit y w) (head-is (Shift v n) (in-edition (Shift v n) k (λ n e. let g : ◌≡◌ {A = ℕ} 0 1 = cc in omega (arith, g))))
-        ∙ at-four (λ w. less_in v n w (limit operand w)) w m in
-        let s : full it p w ≡ counted (cond (eqb w v) (shift_full n x) x) = f.is ∙ rw (k, f.of-first b) in
-        let q = shift-fits-at v n w x r.some r.most (good it z (step it p).a w m).most in
-        record { some = rw s q.0; most = rw (s, h) q.1 })

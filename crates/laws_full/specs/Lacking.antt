@@ -22,43 +22,14 @@ module _ (it : Recipe) (z : (check_refusal it).number ≡ 0) where
   good p w l = ruled-at ((accepted-known it z).at p).rules w l
 
   -- what the places before p announce
-  taken : (p x : ℕ) → x < p → head_at (take p (known it)) x ≡ head it x
+  pub taken : (p x : ℕ) → x < p → head_at (take p (known it)) x ≡ head it x
   taken p x l = get_or-take p (known it) x no_header l
 
-  Lacks : ℕ → ℕ → Type 0
+  unfoldable pub Lacks : ℕ → ℕ → Type 0
   Lacks p w = (head it p).vars ≤ w → full it p w ≡ 1
 
-  input_lacks : (p : ℕ) → p < length it.headers → p < size it → (w : ℕ) → w < 4 → Lacks p w
+  pub input_lacks : (p : ℕ) → p < length it.headers → p < size it → (w : ℕ) → w < 4 → Lacks p w
   unfolding Lacks
   input_lacks p t l w m v =
       let g = good p w m in
       full-input (known it) it.steps (length it.headers) (size it) p w t l m ∙ omega (arith, g.pos, g.fit, g.gone v)
-
-  step_lacks : (p : ℕ) → length it.headers ≤ p → p < size it → ((x : ℕ) → x < p → (w : ℕ) → w < 4 → Lacks x w) → (w : ℕ)
-      → w < 4 → Lacks p w
-  unfolding Lacks announced_step
-  step_lacks p i l ih w m v =
-      let s = step it p in
-      let o = accepted-ordered it z in
-      let before = take p (known it) in
-      let f = full-step (known it) it.steps (length it.headers) (size it) p w i l m in
-      f.is
-      ∙ ap counted
-      (missing-one it.edition s (head_at before s.a) (head_at before s.b) w _ _ _ s.kind
-      (λ u k.
-      let b = o.first p i l u in
-      f.in-variable b ∙ ih s.a b s.variable (small-variable (word it p)) (rw (taken p s.a b) at k))
-      (λ u k. let b = o.first p i l u in f.of-first b ∙ ih s.a b w m (rw (taken p s.a b) at k))
-      (λ u k. let b = o.second p i l u in f.of-second b ∙ ih s.b b w m (rw (taken p s.b b) at k))
-      (rw (head_step it p i l) at v))
-
-  below : (n p : ℕ) → p < n → p < size it → (w : ℕ) → w < 4 → Lacks p w
-  below zero p h l = absurd (omega arith)
-  below (suc n) p h l =
-      decide (ltb p (length it.headers))
-      (λ t. input_lacks p (ltb-true _ _ t) l)
-      (λ t. step_lacks p (ltb-false _ _ t) l (λ x b. below n x (omega arith) (omega arith)))
-
-  pub lacking-one : (p : ℕ) → p < size it → (w : ℕ) → w < 4 → (head it p).vars ≤ w → full it p w ≡ 1
-  unfolding Lacks
-  lacking-one p l w m = below (suc p) p (omega arith) l w m

@@ -21,5 +21,4 @@ pub mod Lacking
 pub mod Fits
 pub mod Polynomials
 -- what WHOLE says
-pub mod WholeLaws
 pub mod Examples

@@ -17,7 +17,7 @@ use Rattle.laws_full.specs.Uses.{first-before, second-before, second-first}
 use Rattle.laws_full.specs.Places.{full-input, full-step}
 use Rattle.laws_full.specs.Bounds.{bounds-stored}
 use Rattle.laws_full.specs.Counts.{Counts, counts-is, counts-counted, counts-small}
-use Rattle.laws_full.specs.Described.{Bounded, result-bounded, result-counts}
+use Rattle.laws_full.specs.Described.{Bounded, result-counts}
 use Rattle.laws_full.specs.Same.{result-four}
 use Rattle.laws_full.specs.Accepted.{accepted-ordered}
 use Rattle.laws_full.specs.Setting.{size, known, head, lengths, full, word, step, Takes-a, Takes-b, IsPolynomial}
@@ -51,7 +51,7 @@ module _ (it : Recipe) (z : (check_refusal it).number ≡ 0) (cs : ℕ → ℕ �
     pub four : length (value_of p).lengths ≡ 4
 
   -- an input
-  input_described : (p : ℕ) → p < length it.headers → p < size it → Described p
+  pub input_described : (p : ℕ) → p < length it.headers → p < size it → Described p
   unfolding input_value header_of
   input_described p t l =
       let h : Header = header_of (get_or it.headers p 0) in
@@ -85,57 +85,10 @@ module _ (it : Recipe) (z : (check_refusal it).number ≡ 0) (cs : ℕ → ℕ �
     unfolding step_result
     result-is = unlimited-step it cs p i l
 
-    in-counts : Takes-a it p → Counts in_variable (at (value_of (step it p).a).lengths (step it p).variable)
+    pub in-counts : Takes-a it p → Counts in_variable (at (value_of (step it p).a).lengths (step it p).variable)
     in-counts t = (of-a t).counts (step it p).variable (small-variable (word it p))
 
     -- where the full length of the variable is 1, so is the length
     pub one-row : Takes-a it p → in_variable ≡ 1
         → at (operand (step it p).a).lengths (step it p).variable ≡ 1
     one-row t e = rw (a-is t) (sym (counts-is (in-counts t) (omega arith)) ∙ e)
-
-    step_counts_lem : IsPolynomial it p → (w : ℕ) → w < 4 → Counts (full it p w) (at (value_of p).lengths w)
-    step_counts_lem o w m =
-        let s = step it p in
-        let f = full-step (known it) it.steps (length it.headers) (size it) p w i l m in
-        let early : Takes-a it p → s.a < p = a-before it i z l in
-        rw (f.is, result-is)
-        (counts-counted
-        (result-counts s (operand s.a) (operand s.b) w m _ _ _ s.kind (o.each p itself i)
-        (λ t. rw (f.in-variable (early t), a-is t) (in-counts t))
-        (λ t. rw (f.of-first (early t), a-is t) ((of-a t).counts w m))
-        (λ t.
-        let u : Takes-b it p = rw (f.in-variable (early (second-first s _ s.kind t))) at t in
-        rw (f.of-second (b-before it i z l u), b-is u) ((of-b u).counts w m))))
-
-    step_described : IsPolynomial it p → Described p
-    step_described o =
-        let s = step it p in
-        record {
-          bounded =
-              rw result-is
-              (result-bounded s (operand s.a) (operand s.b) in_variable s.kind (o.each p itself i) one-row
-              (λ t. rw (a-is t) (of-a t).bounded) (λ t. rw (b-is t) (of-b t).bounded));
-          counts = step_counts_lem o;
-          four =
-              rw result-is
-              (result-four s (operand s.a) (operand s.b) s.kind (λ t. rw (a-is t) (of-a t).four));
-        }
-
-  below : (n p : ℕ) → p < n → p < size it → IsPolynomial it p → Described p
-  below zero p h l o = absurd (omega arith)
-  below (suc n) p h l o =
-      decide (ltb p (length it.headers))
-      (λ t. input_described p (ltb-true _ _ t) l)
-      (λ t.
-      let i = ltb-false p (length it.headers) t in
-      step_described p i l
-      (λ u.
-      let b = a-before it i z l u in
-      below n (step it p).a (omega arith) (omega arith) (a_polynomial it i o u))
-      (λ u.
-      let b = b-before it i z l u in
-      below n (step it p).b (omega arith) (omega arith) (b_polynomial it i o u))
-      o)
-
-  pub described : (p : ℕ) → p < size it → IsPolynomial it p → Described p
-  described p l = below (suc p) p (omega arith) l

@@ -120,13 +120,3 @@ module _ (h : Header) (x : Value) (b : Bounded x) (fits : (w : ℕ) → w < 4 �
   -- every coefficient outside the limits is zero
   pub outside-zero : (k : List ℕ) → inside h.limits k ≡ false → x.series k ≡ pos 0
   outside-zero k t = past-some (x.series k ≡ pos 0) h.limits k t (λ w l p. b.past w l k (omega (arith, fits w l)))
-
-  uncut : (k : List ℕ) → truncated h.limits x.series k ≡ x.series k
-  unfolding truncated
-  uncut k = decide (inside h.limits k) (λ t. rw t) (λ t. rw t (sym (outside-zero k t)))
-
-  pub cut-none : length x.lengths ≡ 4 → cut_to h x ≡ x
-  unfolding cut_to
-  cut-none e =
-      ap₂ value (four_same (λ k. min (limit h k) (at x.lengths k)) (at x.lengths) (λ k l. omega (arith, fits k l))
-      ∙ sym (four_at_lem x.lengths e)) (λ i k. uncut k i)

@@ -5,7 +5,7 @@ use Rattle.model_recipes.specs.declared.Step.{Step}
 use Rattle.model_recipes.specs.Recipe.{Recipe, head_at, announced_places}
 use Rattle.model_texts.specs.Trace.{step_word}
 use Rattle.model_texts.specs.Full.{full_at, fulls}
-use Rattle.model_texts.specs.Whole.{leaves_out, is_whole, first_out}
+use Rattle.model_texts.specs.Whole.{leaves_out, is_whole, first_out as first_left_out}
 use Rattle.laws_full.specs.Made.{step_at, takes_first, takes_second, Made, Polynomial, Drops}
 
 module _ (it : Recipe) where
@@ -62,7 +62,7 @@ module _ (it : Recipe) where
   Whole p = is_whole known it.steps (length it.headers) lengths p ≡ true
 
   abbrev pub first_out : ℕ → ℕ
-  first_out = first_out known it.steps (length it.headers) lengths
+  first_out = first_left_out known it.steps (length it.headers) lengths
 
   abbrev pub out : ℕ → Bool
   out = leaves_out known lengths

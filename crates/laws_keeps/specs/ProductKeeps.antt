@@ -63,7 +63,7 @@ module _ {l : List ℕ} {a b : Block} (s : Sits l a) (t : Sits l b) where
   pub right-fits : Sits shape b
   right-fits = record { ns = t.ns; lo = t.lo; hi = λ k h. rw (sum_at_lem l a.lengths b.lengths k h) (omega (arith, t.hi k h, s.lo k h)); full = t.full }
 
-  general-fits : Sits shape (block shape (general a.lengths b.lengths shape a.places b.places))
+  pub general-fits : Sits shape (block shape (general a.lengths b.lengths shape a.places b.places))
   unfolding sum_shape general
   general-fits = record {
     ns = refl;
@@ -97,7 +97,7 @@ raised-sits {l} {r} {x} v m h s t e =
 
 -- ---- the ways
 
-shortcut-fits : {l : List ℕ} {a b : Block} → Sits l a → Sits l b → Shortcuts a b (Sits (sum_shape l a.lengths b.lengths))
+pub shortcut-fits : {l : List ℕ} {a b : Block} → Sits l a → Sits l b → Shortcuts a b (Sits (sum_shape l a.lengths b.lengths))
 shortcut-fits s t = record {
   left_one = λ e. right-fits s t;
   right_one = λ e. left-fits s t;
@@ -106,7 +106,7 @@ shortcut-fits s t = record {
 }
 
 -- a line in v times x, r the lengths that the result may have
-linear-fits : (by_c : Block → Block) (l : List ℕ) (line : Linear) {r : List ℕ} {x : Block} → line.variable < 4 → Sits l x → Sits r x
+pub linear-fits : (by_c : Block → Block) (l : List ℕ) (line : Linear) {r : List ℕ} {x : Block} → line.variable < 4 → Sits l x → Sits r x
     → min (at l line.variable) (at x.lengths line.variable + 1) ≤ at r line.variable
     → Sits (sum_shape l x.lengths ones) (by_c x) → Sits r (linear_product by_c l line x)
 unfolding linear_product
@@ -114,31 +114,4 @@ linear-fits by_c l line {r} h s t e q =
     let up = raised-sits line.variable line.m h s t e in
     of-both (Sits r) (eq line.c zero_f) up (joined-under false up (sits-more (λ k g. le_trans (one_more s k g) (t.hi k g)) q))
 
-pub product-sits : (stage : ℕ) {l : List ℕ} {a b : Block} → Sits l a → Sits l b → Sits (sum_shape l a.lengths b.lengths) (product_of stage l a b)
-product-sits zero {l} s t = by_way l (shortcut-fits s t) (general-fits s t)
-product-sits (suc stage) {l} {a} {b} s t =
-    by-way_or-line l (shortcut-fits s t) (general-fits s t)
-    (record {
-      left_linear = λ e.
-          let i = linear-is a e in
-          let v = (linear a).variable in
-          linear-fits _ l (linear a) i.var t (right-fits s t)
-          (rw (sum_at_lem l a.lengths b.lengths v i.var) (omega (arith, line_two_lem a v i.fits)))
-          (product-sits stage t (constant-sits _ t));
-      right_linear = λ e.
-          let i = linear-is b e in
-          let v = (linear b).variable in
-          linear-fits _ l (linear b) i.var s (left-fits s t)
-          (rw (sum_at_lem l a.lengths b.lengths v i.var) (omega (arith, line_two_lem b v i.fits)))
-          (product-sits stage s (constant-sits _ s));
-    })
-
 -- ---- the whole product
-
-pub product-keeps : (p q : Poly) → Regular p.head → Regular q.head → Keeps (announced Product p.head q.head) (product_poly p q)
-unfolding product_poly multiplied announced paired cut cut_to sum_shape
-product-keeps p q g h =
-    let s = left-sits p q g h in
-    let t = right-sits p q g h in
-    sits-keeps (announced-regular Product g h)
-    (of-both (Sits _) (is_zero (block_of p) || is_zero (block_of q)) (constant-sits zero_f (general-fits s t)) (product-sits 1 s t))

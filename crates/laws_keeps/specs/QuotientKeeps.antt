@@ -28,7 +28,8 @@ use Rattle.laws_keeps.specs.Keeps.{sits-keeps, left-sits, right-sits}
 -- ---- the lengths
 
 -- by the two cases of the divisor's length
-pub by_length : (P : ℕ → Type 0) (l n m : List ℕ) (k : ℕ) → k < 4 → (at m k ≡ 1 → P (at n k)) → ((at m k ≡ 1 → ⊥) → P (at l k)) → P (at (quotient_shape l n m) k)
+pub by_length : (P : ℕ → Type 0) (l n m : List ℕ) (k : ℕ) → k < 4 → (at m k ≡ 1 → P (at n k)) → ((at m k ≡ 1 → ⊥) → P (at l k)) → P (at
+    (quotient_shape l n m) k)
 unfolding quotient_shape
 by_length P l n m k h f g =
     rw (at-four (λ k. length_after Quotient k (at l k) 1 (at n k) (at m k)) k h)

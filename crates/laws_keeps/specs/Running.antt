@@ -17,7 +17,7 @@ use Rattle.shape.specs.Keeps.{Keeps}
 use Rattle.shape.specs.Cut.{cut_at}
 use Rattle.laws_keeps.specs.Sits.{Sits, sits-more, cut-sits, sum_at_lem, max-at}
 use Rattle.laws_keeps.specs.Keeps.{sits-keeps, joined-sits, joined-under}
-use Rattle.laws_keeps.specs.ProductKeeps.{constant-sits, left-fits, shape-under, product-sits}
+use Rattle.laws_keeps.specs.ProductKeeps.{constant-sits, left-fits, shape-under}
 
 pub record Most (l : List ℕ) (x : ℕ → ℕ) (b : Block) : Type 0 where
   pub sits : Sits l b
@@ -28,29 +28,6 @@ most-more h m = record { sits = m.sits; most = λ k g. le_trans (m.most k g) (h 
 
 pub constant-most : {l : List ℕ} {x : ℕ → ℕ} {b : Block} (c : Float) → Sits l b → ((k : ℕ) → k < 4 → 1 ≤ x k) → Most l x (constant_block c)
 constant-most c s h = record { sits = constant-sits c s; most = λ k g. le_trans (omega (arith, at-four (λ k. 1) k g)) (h k g) }
-
-module _ (l : List ℕ) (a b : Block) (pos_l : (k : ℕ) → k < 4 → 1 ≤ at l k) (p : (k : ℕ) → k < 4 → 1 ≤ at a.lengths k)
-    (q : (k : ℕ) → k < 4 → 1 ≤ at b.lengths k) where
-  -- the whole product, zero tested before the cut
-  pub multiplied-fits : Sits (sum_shape l (cut l a).lengths (cut l b).lengths) (multiplied l a b)
-  unfolding multiplied
-  multiplied-fits =
-      let s = cut-sits l a pos_l p in
-      let t = cut-sits l b pos_l q in
-      of-both (Sits _) (is_zero a || is_zero b) (constant-sits zero_f (left-fits s t)) (product-sits 1 s t)
-
-  pub multiplied-sits : Sits l (multiplied l a b)
-  multiplied-sits = sits-more (shape-under l _ _) multiplied-fits
-
-  pub multiplied-most : {x y z : ℕ → ℕ} → ((k : ℕ) → k < 4 → at a.lengths k ≤ x k) → ((k : ℕ) → k < 4 → at (cut l b).lengths k ≤ y k)
-      → ((k : ℕ) → k < 4 → x k + y k ≤ z k + 1) → Most l z (multiplied l a b)
-  unfolding cut
-  multiplied-most f g h = record {
-    sits = multiplied-sits;
-    most = λ k i.
-        let s : at (cut l a).lengths k ≤ at a.lengths k = rw (cut_at l a.lengths k i) (omega arith) in
-        omega (arith, multiplied-fits.hi k i, sum_at_lem l (cut l a).lengths (cut l b).lengths k i, f k i, g k i, h k i);
-  }
 
 pub joined-most : {l : List ℕ} {x : ℕ → ℕ} {a b : Block} → Most l x a → Most l x b → Most l x (joined_block false a b)
 joined-most {a = a} {b = b} m n = record {

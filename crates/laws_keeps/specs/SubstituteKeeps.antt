@@ -33,7 +33,7 @@ use Rattle.laws_keeps.specs.Sits.{Sits}
 use Rattle.laws_keeps.specs.Keeps.{limits_of}
 use Rattle.laws_keeps.specs.ProductKeeps.{set-four}
 use Rattle.laws_keeps.specs.Ways.{linear-is, line_two_lem}
-use Rattle.laws_keeps.specs.Running.{Most, most-more, constant-most, multiplied-most, joined-most, most-keeps}
+use Rattle.laws_keeps.specs.Running.{Most, most-more, constant-most, joined-most, most-keeps}
 
 -- p rows under the limit l, where b has two at least
 rows-kept : (l p b : ℕ) → 1 ≤ l → 1 ≤ p → 2 ≤ b → min l p ≤ 1 + (p - 1) * (min l b - 1)
@@ -63,30 +63,14 @@ module _ (l : List ℕ) (v : ℕ) (a : Block) (h : v < 4) (pos_l : (k : ℕ) →
     full = length-table _ (count row_lengths);
   }
 
-  row-most : (i : ℕ) → Most l (at row_lengths) (row_at l v a i)
+  pub row-most : (i : ℕ) → Most l (at row_lengths) (row_at l v a i)
   unfolding row_at
   row-most i = record { sits = row-sits i; most = λ k g. le_refl _ }
 
   module _ (b : Block) (pos-b : (k : ℕ) → k < 4 → 1 ≤ at b.lengths k) where
     -- one less than b's length after cutting
-    abbrev more : ℕ → ℕ
+    abbrev pub more : ℕ → ℕ
     more k = min (at l k) (at b.lengths k) - 1
-
-    turn-most : (n : ℕ) (x : ℕ → ℕ) {res : Block} → ((k : ℕ) → k < 4 → at row_lengths k ≤ x k) → Most l x res
-        → Most l (λ k. x k + more k) (joined_block false (multiplied l res b) (row_at l v a n))
-    unfolding cut
-    turn-most n x {res} e m =
-        joined-most
-        (multiplied-most l res b pos_l m.sits.lo pos-b {y = λ k. more k + 1} m.most
-        (λ k g. rw (cut_at l b.lengths k g) (omega arith)) (λ k g. omega arith))
-        (most-more (λ k g. le_trans (e k g) (omega arith)) (row-most n))
-
-    horner-most : (n : ℕ) (x : ℕ → ℕ) {res : Block} → ((k : ℕ) → k < 4 → at row_lengths k ≤ x k) → Most l x res
-        → Most l (λ k. x k + n * more k) (horner l v a n b res)
-    unfolding horner
-    horner-most zero x e m = most-more (λ k g. omega arith) m
-    horner-most (suc n) x e m =
-        most-more (λ k g. omega arith) (horner-most n (λ k. x k + more k) (λ k g. le_trans (e k g) (omega arith)) (turn-most n x e m))
 
     zero_is : eq zero_f zero_f ≡ true
     unfolding eq of_bits
@@ -97,17 +81,8 @@ module _ (l : List ℕ) (v : ℕ) (a : Block) (h : v < 4) (pos_l : (k : ℕ) →
     unfolding multiplied span
     zero-first = rw zero_is
 
-    horner-all : (p : ℕ) → 1 ≤ p → Most l (λ k. at row_lengths k + (p - 1) * more k) (horner l v a p b (constant_block zero_f))
-    unfolding horner row_at
-    horner-all zero e = absurd (omega arith)
-    horner-all (suc n) e =
-        let d : suc n - 1 ≡ n = omega arith in
-        rw d
-        (horner-most n (at row_lengths) (λ k g. le_refl _)
-        (rw zero-first (joined-most (constant-most zero_f (row-sits n) (row-sits n).lo) (row-most n))))
-
     -- as far as the limit lets it, v keeps its rows
-    powered-most : (m : Float) → 2 ≤ at b.lengths v → Most l (λ k. at row_lengths k + (at a.lengths v - 1) * more k) (powered l v a m)
+    pub powered-most : (m : Float) → 2 ≤ at b.lengths v → Most l (λ k. at row_lengths k + (at a.lengths v - 1) * more k) (powered l v a m)
     unfolding powered cut_to
     powered-most m two = record {
       sits = record { ns = refl; lo = cut-pos; hi = λ k g. rw (cut_at l a.lengths k g) (omega arith); full = length-table _ (count (cut_to l a.lengths)) };
@@ -115,21 +90,8 @@ module _ (l : List ℕ) (v : ℕ) (a : Block) (h : v < 4) (pos_l : (k : ℕ) →
           (rw (cut_at l a.lengths v h) (rows-kept (at l v) (at a.lengths v) (at b.lengths v) (pos_l v h) (pos-a v h) two)) (λ k g o. omega arith);
     }
 
-    pub substituted-most : Most l (λ k. at row_lengths k + (at a.lengths v - 1) * more k) (substituted l v a b)
-    unfolding substituted
-    substituted-most =
-        decide (is_zero b)
-        (λ t. rw t (most-more (λ k g. omega arith) (row-most 0)))
-        (λ t. rw t (decide (((linear b).yes && eqb (linear b).variable v) && eq (linear b).c zero_f)
-        (λ u.
-        let w = and_left ((linear b).yes && eqb (linear b).variable v) (eq (linear b).c zero_f) u in
-        let i = linear-is b (and_left (linear b).yes (eqb (linear b).variable v) w) in
-        let same : (linear b).variable ≡ v = eqb-true _ _ (and_right (linear b).yes (eqb (linear b).variable v) w) in
-        rw u (powered-most (linear b).m (rw same at (line_two_lem b (linear b).variable i.fits))))
-        (λ u. rw u (horner-all (at a.lengths v) (pos-a v h)))))
-
 module _ (v : ℕ) (p q : Poly) (g : Regular p.head) (h : Regular q.head) (full : length p.coeffs ≡ stored p.head) where
-  abbrev limits : List ℕ
+  abbrev pub limits : List ℕ
   limits = limits_of p q
 
   abbrev length_at : ℕ → ℕ
@@ -145,19 +107,6 @@ module _ (v : ℕ) (p q : Poly) (g : Regular p.head) (h : Regular q.head) (full 
       ≤ length_at k) (cut_to limits p.head.lengths) v 1 i
       (rw (eq-eqb v v refl) (le_refl _))
       (λ k l o. rw (ne_eqb k v o, cut_at limits p.head.lengths k l) (le_refl _)) k l)
-
-  pub substitute-keeps : Keeps (announced (Substitution v) p.head q.head) (substitute_poly v p q)
-  unfolding substitute_poly announced paired
-  substitute-keeps =
-      decide (ltb v p.head.vars)
-      (λ t.
-      let i : v < 4 = omega (arith, ltb-true v p.head.vars t, g.rules.few) in
-      rw t
-      (most-keeps (paired-regular (Substitution v) (len p.head v) g.rules h.rules)
-      (substituted-most limits v (block_of p) i (min_limit-pos p.head q.head g.rules h.rules)
-      (λ k l. (ruled-at g.rules k l).pos) (block_of q) (λ k l. (ruled-at h.rules k l).pos))
-      (lengths-fit i)))
-      (λ t. rw t (record { regular = g; under = under_same p.head; full = full }))
 
 -- of a variable that p lacks: p itself, whatever q is
 pub substitute_lacks : (v : ℕ) (p q : Poly) → p.head.vars ≤ v → substitute_poly v p q ≡ p

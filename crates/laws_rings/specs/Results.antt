@@ -26,12 +26,14 @@ use Rattle.shape.specs.Keeps.{Keeps}
 use Rattle.laws_exact.specs.Wholes.{Wholes, Is}
 use Rattle.laws_exact.specs.Cuts.{numbers_of}
 use Rattle.laws_keeps.specs.Keeps.{combined-keeps}
-use Rattle.laws_keeps.specs.ProductKeeps.{product-keeps}
-use Rattle.laws_exact.specs.Sums.{series_in, weight_in, sum-exact}
-use Rattle.laws_exact.specs.Products.{product-exact}
+use Rattle.laws_keeps.proofs.ProductKeeps.{product-keeps}
+use Rattle.laws_exact.specs.Sums.{series_in, weight_in}
+use Rattle.laws_exact.proofs.SumLaws.{sum-exact}
+use Rattle.laws_exact.proofs.ProductLaws.{product-exact}
 use Rattle.laws_exact.specs.Firsts.{stored-under}
 use Rattle.laws_exact.specs.Windows.{times_none, minus-at}
-use Rattle.laws_exact.specs.Results.{Result, result, keeps-sits, sum-result, product-result}
+use Rattle.laws_exact.specs.Results.{Result, result, keeps-sits}
+use Rattle.laws_exact.proofs.Results.{sum-result, product-result}
 use Rattle.laws_truncation.specs.Agree.{Agree}
 use Rattle.laws_caps.specs.Capped.{capped-full, capped_is}
 use Rattle.laws_rings.specs.Reach.{Reach, inside_or, cut-under, cut-least, cut-alike}

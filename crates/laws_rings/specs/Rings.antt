@@ -33,7 +33,7 @@ pub record Heads (p q x : Capped) : Type 0 where
   pub limits : x.value.head.limits ≡ min_degrees_p1 p.value.head q.value.head
   pub cap : x.cap ≡ cap_of p q
 
-sum-heads : (p q : Capped) → Heads p q (sum p q)
+pub sum-heads : (p q : Capped) → Heads p q (sum p q)
 unfolding sum combined announced paired
 sum-heads p q = record { vars = refl; limits = refl; cap = refl }
 
@@ -74,7 +74,7 @@ heads-comm {p} {q} a b h g = record {
   cap = h.cap ∙ cap-comm p.cap q.cap ∙ sym g.cap;
 }
 
-heads-assoc : {p q r x y z w : Capped} → Heads p q x → Heads x r y → Heads q r z → Heads p z w → Alike y w
+pub heads-assoc : {p q r x y z w : Capped} → Heads p q x → Heads x r y → Heads q r z → Heads p z w → Alike y w
 heads-assoc {p} {q} {r} {x} {y} {z} {w} hx hy hz hw = record {
   vars = hy.vars ∙ ap (λ (n : ℕ). max n (nvars r)) hx.vars ∙ omega arith ∙ sym (hw.vars ∙ ap (max (nvars p)) hz.vars);
   limits = same-limits hy hw (λ k l.
@@ -83,18 +83,6 @@ heads-assoc {p} {q} {r} {x} {y} {z} {w} hx hy hz hw = record {
       ∙ limit-assoc (nvars p) (nvars q) (nvars r) k (lim p k) (lim q k) (lim r k)
       ∙ sym (heads-at hw k l ∙ ap₂ (λ (n m : ℕ). min_limit (nvars p) n k (lim p k) m) hz.vars (heads-at hz k l)));
   cap = hy.cap ∙ ap (λ (n : ℕ). min_cap n r.cap) hx.cap ∙ cap-assoc p.cap q.cap r.cap ∙ sym (hw.cap ∙ ap (min_cap p.cap) hz.cap);
-}
-
-heads_spread : {p q r x y z w t : Capped} → Heads q r x → Heads p x y → Heads p q z → Heads p r w → Heads z w t → Alike y t
-heads_spread {p} {q} {r} {x} {y} {z} {w} {t} hx hy hz hw ht = record {
-  vars = hy.vars ∙ ap (max (nvars p)) hx.vars ∙ omega arith ∙ sym (ht.vars ∙ ap₂ max hz.vars hw.vars);
-  limits = same-limits hy ht (λ k l.
-      heads-at hy k l
-      ∙ ap₂ (λ (n m : ℕ). min_limit (nvars p) n k (lim p k) m) hx.vars (heads-at hx k l)
-      ∙ limit_spread (nvars p) (nvars q) (nvars r) k (lim p k) (lim q k) (lim r k)
-      ∙ sym (heads-at ht k l ∙ ap₂ (λ (n m : ℕ). min_limit n m k (lim z k) (lim w k)) hz.vars hw.vars ∙ ap₂
-      (min_limit (max (nvars p) (nvars q)) (max (nvars p) (nvars r)) k) (heads-at hz k l) (heads-at hw k l)));
-  cap = hy.cap ∙ ap (min_cap p.cap) hx.cap ∙ cap_spread p.cap q.cap r.cap ∙ sym (ht.cap ∙ ap₂ min_cap hz.cap hw.cap);
 }
 
 -- what a result reaches, its operands reach
@@ -161,63 +149,5 @@ module _ (p q : Capped) {a b : ℕ → ℤ} (u : Whole p a) (v : Whole q b) (bou
       (agree_same (times-comm (series p a) (series q b)))
 
 module _ (p q r : Capped) {a b c : ℕ → ℤ} (u : Whole p a) (v : Whole q b) (w : Whole r c) (bound : least1 p a * least1 q b * least1 r c ≤ 2 ^ 51) where
-  three : Sizes (least1 p a) (least1 q b) (least1 r c)
+  pub three : Sizes (least1 p a) (least1 q b) (least1 r c)
   three = record { x1 = omega arith; y1 = omega arith; z1 = omega arith; most = bound }
-
-  abbrev A : Series
-  A = series p a
-
-  abbrev B : Series
-  B = series q b
-
-  abbrev C : Series
-  C = series r c
-
-  pub sum_associates : Same (sum (sum p q) r) (sum p (sum q r))
-  sum_associates =
-      let s = three in
-      let x = sum-made p q u v (omega (arith, left-x s, left-y s)) in
-      let z = sum-made q r v w (omega (arith, left-y s, last_z s)) in
-      let y = sum-made (sum p q) r x.whole w (omega (arith, left-x s, left-y s, last_z s, x.light)) in
-      let t = sum-made p (sum q r) u z.whole (omega (arith, left-x s, left-y s, last_z s, z.light)) in
-      let e = heads-assoc (sum-heads p q) (sum-heads (sum p q) r) (sum-heads q r) (sum-heads p (sum q r)) in
-      alike_same e y t
-      (agree_then (agree-plus (agree_less (reach-left (sum-heads (sum p q) r)) x.agrees) agree_self)
-      (agree_then (agree_same (plus_assoc A B C))
-      (agree-plus agree_self (agree-back (agree_less (λ k d. reach-right (sum-heads p (sum q r)) k (alike-reach e k d)) z.agrees)))))
-
-  pub product_associates : Same (product (product p q) r) (product p (product q r))
-  product_associates =
-      let s = three in
-      let ab : size p a * size q b ≤ least1 p a * least1 q b = mul-le-mul (omega arith) (omega arith) in
-      let bc : size q b * size r c ≤ least1 q b * least1 r c = mul-le-mul (omega arith) (omega arith) in
-      let x = product-made p q u v (omega (arith, ab, xy s)) in
-      let z = product-made q r v w (omega (arith, bc, yz s)) in
-      let xc : size (product p q) x.numbers * size r c ≤ least1 p a * least1 q b * least1 r c = mul-le-mul (le_trans x.light ab) (omega arith) in
-      let az : size p a * size (product q r) z.numbers ≤ least1 p a * (least1 q b * least1 r c) = mul-le-mul (omega arith) (le_trans z.light bc) in
-      let y = product-made (product p q) r x.whole w (omega (arith, xc, bound)) in
-      let t = product-made p (product q r) u z.whole (omega (arith, az, bound, mul_assoc (least1 p a) (least1 q b) (least1 r c))) in
-      let e = heads-assoc (product-heads p q) (product-heads (product p q) r) (product-heads q r) (product-heads p (product q r)) in
-      alike_same e y t
-      (agree_then (agree-times reach-down (agree_less (reach-left (product-heads (product p q) r)) x.agrees) agree_self)
-      (agree_then (agree_same (times-assoc A B C))
-      (agree-times reach-down agree_self (agree-back (agree_less (λ k d. reach-right (product-heads p (product q r)) k (alike-reach e k d)) z.agrees)))))
-
-  pub product_distributes : Same (product p (sum q r)) (sum (product p q) (product p r))
-  product_distributes =
-      let s = three in
-      let ab : size p a * size q b ≤ 2 ^ 51 = le_trans (mul-le-mul (omega arith) (omega arith)) (xy s) in
-      let ac : size p a * size r c ≤ 2 ^ 51 = le_trans (mul-le-mul (omega arith) (omega arith)) (xz s) in
-      let x = sum-made q r v w (omega (arith, left-y s, last_z s)) in
-      let y = product-made p (sum q r) u x.whole
-      (le_trans (mul-le-mul (le_refl (size p a)) x.light) (omega (arith, ab, ac, mul-add (size p a) (size q b) (size r c)))) in
-      let z = product-made p q u v (omega (arith, ab)) in
-      let o = product-made p r u w (omega (arith, ac)) in
-      let t = sum-made (product p q) (product p r) z.whole o.whole (omega (arith, ab, ac, z.light, o.light)) in
-      let e = heads_spread (sum-heads q r) (product-heads p (sum q r)) (product-heads p q) (product-heads p r) (sum-heads (product p q) (product p r)) in
-      let h = sum-heads (product p q) (product p r) in
-      alike_same e y t
-      (agree_then (agree-times reach-down agree_self (agree_less (reach-right (product-heads p (sum q r))) x.agrees))
-      (agree_then (agree_same (times_spread A B C))
-      (agree-plus (agree-back (agree_less (λ k d. reach-left h k (alike-reach e k d)) z.agrees))
-      (agree-back (agree_less (λ k d. reach-right h k (alike-reach e k d)) o.agrees)))))

@@ -1,7 +1,9 @@
 -- What is known of a float of a computation: it is positive, within j roundings of an exact fraction, and of a size.
 -- Sum, product and quotient keep such knowledge, with one rounding more.
 use Rattle.std.specs.Prelude.{◌≡◌, refl, ℕ, zero, suc, ◌+◌, ◌*◌, ◌^◌, ◌≤◌, ◌<◌, Bool, true, false, cond, T, eqb, Float}
-use Rattle.std.proofs.Common.{ap, ◌∙◌, add-zero, le_trans, le_of_eq, lt_irrefl, lt_of_lt_of_le, zero-mul, zero-lt-suc, mul_comm, mul-le-mul, mul-le-mul_left, mul-le-mul_right, le_of_mul-le-mul_right, mul-pos, pow-suc, arith, ltb→lt, eqb→eq, lit≤, lit<}
+use Rattle.std.proofs.Common.{ap, ◌∙◌, add-zero, le_trans, le_of_eq, lt_irrefl, lt_of_lt_of_le, zero-mul}
+use Rattle.std.proofs.Common.{zero-lt-suc, mul_comm, mul-le-mul, mul-le-mul_left, mul-le-mul_right}
+use Rattle.std.proofs.Common.{le_of_mul-le-mul_right, mul-pos, pow-suc, arith, ltb→lt, eqb→eq, lit≤, lit<}
 use Rattle.std.proofs.Math.Nat.{pow-succ'}
 use Rattle.std.specs.Float.{nan, inf, fin, binary64}
 use Rattle.std.specs.Float.Ieee.{round, sum, add, mul, div}

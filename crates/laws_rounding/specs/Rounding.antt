@@ -1,7 +1,10 @@
 -- The error of one rounding to binary64: a fraction from 2 ^ -1022 to 2 ^ 1022 rounds to a value within 2 ^ -53 of it,
 -- relative (`round-near`).
 use Rattle.std.specs.Prelude.{◌≡◌, false, not, T, Float}
-use Rattle.std.proofs.Common.{sym, ap, ◌∙◌, le_trans, le_of_eq, lt_of_lt_of_le, lt_of_le_of_lt, lt_irrefl, zero-lt-suc, zero-mul, mul_assoc, mul_comm, mul_left_comm, mul-le-mul_left, mul-le-mul_right, le_of_mul-le-mul_right, lt_of_mul-lt-mul_right, le-div_iff_mul-le, div-add-mod', mod-lt, mul-pos, arith, leb→le, eqb→eq, lit≤, lit<, pow-add, pow_pos}
+use Rattle.std.proofs.Common.{sym, ap, ◌∙◌, le_trans, le_of_eq, lt_of_lt_of_le, lt_of_le_of_lt, lt_irrefl}
+use Rattle.std.proofs.Common.{zero-lt-suc, zero-mul, mul_assoc, mul_comm, mul_left_comm, mul-le-mul_left}
+use Rattle.std.proofs.Common.{mul-le-mul_right, le_of_mul-le-mul_right, lt_of_mul-lt-mul_right, le-div_iff_mul-le}
+use Rattle.std.proofs.Common.{div-add-mod', mod-lt, mul-pos, arith, leb→le, eqb→eq, lit≤, lit<, pow-add, pow_pos}
 use Prim.Native.Nat.{ℕ, zero, suc, ◌+◌, ◌-◌, ◌*◌, ◌/◌, ◌%◌, ◌^◌, ◌≤◌, ◌<◌, compare, Ordering}
 use Rattle.std.proofs.Math.Dec.{is_le, compare_is_eq, nleb→lt}
 use Rattle.std.specs.Float.{binary64}

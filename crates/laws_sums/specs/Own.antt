@@ -1,6 +1,9 @@
 -- A float of a format is what its own value rounds to, so over 1.0 it stays what it is.
-use Rattle.std.specs.Prelude.{ℕ, zero, suc, ◌+◌, ◌-◌, ◌*◌, ◌/◌, ◌%◌, ◌^◌, ◌≤◌, ◌<◌, Bool, true, false, cond, ◌&&◌, ◌≡◌, refl, ℤ, pos, negsuc, T, leb, ltb, eqb, Float}
-use Rattle.std.proofs.Common.{sym, ap, subst, ◌∙◌, mul-one, one-mul, zero-mul, mul_assoc, mul_comm, mul_right_comm, mul-pos, mul-lt-mul_of_pos_right, lt_of_mul-lt-mul_right, lt_of_lt_of_le, lt_irrefl, le_trans, le_of_eq, leb→le, ltb→lt, eqb→eq, pow-add, pow_pos, leb-true, leb-false}
+use Rattle.std.specs.Prelude.{ℕ, zero, suc, ◌+◌, ◌-◌, ◌*◌, ◌/◌, ◌%◌, ◌^◌, ◌≤◌, ◌<◌, Bool, true, false, cond, ◌&&◌}
+use Rattle.std.specs.Prelude.{◌≡◌, refl, ℤ, pos, negsuc, T, leb, ltb, eqb, Float}
+use Rattle.std.proofs.Common.{sym, ap, subst, ◌∙◌, mul-one, one-mul, zero-mul, mul_assoc, mul_comm, mul_right_comm}
+use Rattle.std.proofs.Common.{mul-pos, mul-lt-mul_of_pos_right, lt_of_mul-lt-mul_right, lt_of_lt_of_le, lt_irrefl}
+use Rattle.std.proofs.Common.{le_trans, le_of_eq, leb→le, ltb→lt, eqb→eq, pow-add, pow_pos, leb-true, leb-false}
 use Rattle.std.proofs.Math.Pow.{pow-lt}
 use Rattle.std.specs.Float.{nan, inf, fin, Format, binary64}
 use Rattle.std.specs.Float.Ieee.{prec, emax, low, up, down, unlike, size, round, div, fits, of_bits, to_bits, top, hid}

@@ -1,8 +1,11 @@
 -- Document 02, W1. On whole coefficients with a whole total, both within 2 ^ 53, numerator and denominator of a tail
 -- are exact: it is the one rounded quotient of the exact numbers. Of the total 1.0 it is 1.0 minus the sum.
-use Rattle.std.specs.Prelude.{ℕ, zero, suc, ◌+◌, ◌-◌, ◌*◌, ◌^◌, ◌≤◌, ◌<◌, min, Bool, not, cond, ◌&&◌, List, ◌≡◌, refl, ltb, eqb, ℤ, pos, negsuc, neg_ℤ, nat_abs, ◌+ℤ◌, ◌-ℤ◌, get_or, Float}
+use Rattle.std.specs.Prelude.{ℕ, zero, suc, ◌+◌, ◌-◌, ◌*◌, ◌^◌, ◌≤◌, ◌<◌, min, Bool, not, cond, ◌&&◌, List, ◌≡◌}
+use Rattle.std.specs.Prelude.{refl, ltb, eqb, ℤ, pos, negsuc, neg_ℤ, nat_abs, ◌+ℤ◌, ◌-ℤ◌, get_or, Float}
 use Rattle.std.proofs.Math.Bool.{true, false}
-use Rattle.std.proofs.Common.{sym, subst, ◌∙◌, arith, mul-one, zero-mul, mul_comm, mul_assoc, mul_left_comm, mul-pos, add-mul, zero-lt-suc, mul-lt-mul_of_pos_right, mul-le-mul_right, lt-ltb, le-ltb, ltb-true, ltb-false, eqb-true}
+use Rattle.std.proofs.Common.{sym, subst, ◌∙◌, arith, mul-one, zero-mul, mul_comm, mul_assoc, mul_left_comm, mul-pos}
+use Rattle.std.proofs.Common.{add-mul, zero-lt-suc, mul-lt-mul_of_pos_right, mul-le-mul_right, lt-ltb, le-ltb}
+use Rattle.std.proofs.Common.{ltb-true, ltb-false, eqb-true}
 use Rattle.std.proofs.Math.Path.{ap}
 use Rattle.std.proofs.Math.Nat.{mul-sub}
 use Rattle.std.proofs.Math.IntN.{neg_ℤ-neg_ℤ, pos-ne-negsuc}
@@ -18,7 +21,7 @@ use Rattle.model.specs.Readings.{one_f, sum_to}
 use Rattle.model.specs.Tail.{tail_of}
 use Rattle.model_textbook.specs.Sum.{sum_n, sum_z}
 use Rattle.laws_whole.specs.Whole.{Whole, signed, both-finite, common, own_sign}
-use Rattle.laws_whole.specs.Steps.{whole_list}
+use Rattle.laws_whole.proofs.Steps.{whole_list}
 use Rattle.laws_sums.specs.Own.{unlike-plus, div-one}
 
 -- of the total 1.0: what document 01 asks

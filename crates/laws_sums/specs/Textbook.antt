@@ -11,7 +11,7 @@ use Rattle.model.specs.Readings.{sum_to}
 use Rattle.model.specs.Least.{least_of}
 use Rattle.model_textbook.specs.Sum.{sum_n, sum_z}
 use Rattle.laws_whole.specs.SumSizes.{sum_n-part}
-use Rattle.laws_whole.specs.Steps.{whole_list}
+use Rattle.laws_whole.proofs.Steps.{whole_list}
 use Rattle.laws_whole.specs.Whole.{Whole, signed, both-finite, common, own_sign}
 use Rattle.readings_sums.specs.First.{least-found, least-none}
 use Rattle.laws_sums.specs.Order.{AtMost, at_most_lem, most-at, none, none_of}

@@ -67,7 +67,8 @@ module _ (a : List Float) (n : ℕ) (e : ℕ → ℤ) (q : Float) (known : (j : 
   exact_any : (j : ℕ) → j < n → le q (sum_to a (j + 1)) ≡ reached_by q (sum_z e (j + 1) 0)
   exact_any j h = any-le q (sum-whole a n e known sizes j h)
 
-  pub wanted-least : (k : ℕ) → k < n → reached_by q (sum_z e (k + 1) 0) ≡ true → ((j : ℕ) → j < k → reached_by q (sum_z e (j + 1) 0) ≡ false) → least_of a n q ≡ k
+  pub wanted-least : (k : ℕ) → k < n → reached_by q (sum_z e (k + 1) 0) ≡ true → ((j : ℕ) → j < k → reached_by q (sum_z e (j + 1) 0) ≡
+      false) → least_of a n q ≡ k
   wanted-least k h t f = least-found a n q k h (exact_any k h ∙ t) (λ j l. exact_any j (omega arith) ∙ f j l)
 
   pub wanted-none : ((j : ℕ) → j < n → reached_by q (sum_z e (j + 1) 0) ≡ false) → least_of a n q ≡ n

@@ -18,7 +18,8 @@ use Rattle.laws_whole.specs.SumSizes.{negation}
 use Rattle.laws_whole.specs.BoxLaws.{box-same, box-through, box-plus, box_triangle}
 use Rattle.laws_whole.specs.BoxSizes.{box_z-times, times-box_z}
 use Rattle.laws_full.specs.Unlimited.{constant, negative, sum_lengths, product_lengths, power_lengths}
-use Rattle.laws_full.specs.Bounds.{Bounds, bounds-power, bounds-none}
+use Rattle.laws_full.specs.Bounds.{Bounds, bounds-none}
+use Rattle.laws_full.proofs.Bounds.{bounds-power}
 use Rattle.laws_totals.specs.Boxes.{by-box, minus-at, wider, of_ones, listed}
 
 -- a number to a power
@@ -106,7 +107,7 @@ unfolding sum_of_all power_lengths power
 none-total a A = one-total (power_lengths 0 a) refl (λ w l. rw (at-four (λ k. 0 * (at a k - 1) + 1) w l) (omega arith))
 
 module _ (a : List ℕ) {A : Series} (ea : length a ≡ 4) (f : Bounds (at a) A) where
-  longer : (e w : ℕ) → w < 4 → at (power_lengths (suc e) a) w ≤ at (product_lengths (power_lengths e a) a) w
+  pub longer : (e w : ℕ) → w < 4 → at (power_lengths (suc e) a) w ≤ at (product_lengths (power_lengths e a) a) w
   unfolding power_lengths product_lengths
   longer e w l =
       rw (
@@ -115,13 +116,3 @@ module _ (a : List ℕ) {A : Series} (ea : length a ≡ 4) (f : Bounds (at a) A)
         at-four (λ k. e * (at a k - 1) + 1) w l,
       )
       (omega (arith, f.some w l, suc-mul e (at a w - 1)))
-
-  pub power-total : (e : ℕ) → sum_of_all (power_lengths e a) (power A e) ≡ power_z (sum_of_all a A) e
-  unfolding sum_of_all power_z power power_lengths product_lengths
-  power-total zero = none-total a A
-  power-total (suc e) =
-      let n : List ℕ = power_lengths e a in
-      let b : Bounds (at n) (power A e) = listed (λ k. e * (at a k - 1) + 1) (bounds-power f e) in
-      sym (wider {A = times (power A e) A} (power_lengths (suc e) a) (product_lengths n a) refl refl
-      (listed (λ k. suc e * (at a k - 1) + 1) (bounds-power f (suc e))) (λ w l. longer e w l))
-      ∙ (times-total n a {A = power A e} {B = A} refl ea b f ∙ ap (λ (x : ℤ). x *ℤ box_z a A) (power-total e))

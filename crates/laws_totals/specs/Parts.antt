@@ -16,7 +16,7 @@ use Rattle.laws_whole.specs.Whole.{Whole}
 use Rattle.laws_whole.specs.Exact.{whole_sub}
 use Rattle.laws_full.specs.Unlimited.{Value}
 use Rattle.laws_full.specs.Setting.{size}
-use Rattle.laws_totals.specs.Totals.{total_of, exact_at, amount_at, bar_at, Given, total-whole}
+use Rattle.laws_totals.specs.Totals.{total_of, exact_at, amount_at, bar_at, Given}
 
 -- what lies past the limits, zero below them
 unfoldable pub beyond : List ℕ → Series → Series
@@ -38,17 +38,8 @@ parts-total limits v =
     ∙ box-same add_z _ A n (λ k u. decide (inside limits k) (λ t. rw t (+ℤ_idr (A k))) (λ t. rw t (+ℤ_idl (A k))))
 
 -- the total less what is shown
-past_is : (limits : List ℕ) (v : Value) → total_of v -ℤ shown_of limits v ≡ past_of limits v
+pub past_is : (limits : List ℕ) (v : Value) → total_of v -ℤ shown_of limits v ≡ past_of limits v
 past_is limits v =
     let s : ℤ = shown_of limits v in
     ap (λ (t : ℤ). t -ℤ s) (sym (parts-total limits v))
     ∙ (+ℤ_comm (s +ℤ past_of limits v) (neg_ℤ s) ∙ neg_+ℤ_cancel s (past_of limits v))
-
--- where what is shown sums to the exact part below the limits, the difference printed is what lies past them
-module _ (it : Recipe) (xs : List Float) (cs : ℕ → ℕ → ℤ) (z : Given it xs cs) where
-  pub past-whole : (limits : List ℕ) (p : ℕ) {shown : Float} → p < size it → 64 ≤ bar_at it xs cs p
-      → Whole shown (shown_of limits (exact_at it xs cs p)) → nat_abs (past_of limits (exact_at it xs cs p)) ≤ 2 ^ 53
-      → Whole (sub binary64 (amount_at it xs cs p) shown) (past_of limits (exact_at it xs cs p))
-  past-whole limits p l o w h =
-      let e = past_is limits (exact_at it xs cs p) in
-      subst (Whole _) e (whole_sub (total-whole it xs cs z p l o) w (subst (λ (t : ℤ). nat_abs t ≤ 2 ^ 53) (sym e) h))

@@ -1,7 +1,8 @@
 -- `number_power` on a whole number is its power, where that is 2 ^ 53 at most in size: then no number on the way is
 -- larger.
 use Rattle.std.specs.Prelude.{ℕ, zero, suc, ◌+◌, ◌*◌, ◌/◌, ◌%◌, ◌^◌, ◌≤◌, ◌<◌, ◌≡◌, refl, leb, eqb, ℤ, pos, nat_abs, ◌*ℤ◌, Float}
-use Rattle.std.proofs.Common.{sym, ◌∙◌, arith, mul-one, one-mul, zero-mul, mul-zero, mul-le-mul_right, mul-le-mul_left, le_trans, le_of_eq, leb-true, leb-false, eqb-true}
+use Rattle.std.proofs.Common.{sym, ◌∙◌, arith, mul-one, one-mul, zero-mul, mul-zero, mul-le-mul_right}
+use Rattle.std.proofs.Common.{mul-le-mul_left, le_trans, le_of_eq, leb-true, leb-false, eqb-true}
 use Rattle.std.proofs.Math.Path.{ap}
 use Rattle.std.proofs.Math.IntN.{*ℤ_comm}
 use Rattle.std.specs.Float.Ieee.{mul}

@@ -32,7 +32,7 @@ use Rattle.shape_words.specs.Rules.{GoodVar}
 use Rattle.recipes_kinds.specs.Known.{small-variable}
 use Rattle.recipes_check.specs.Judged.{accepts}
 use Rattle.recipes_laws.specs.EachKind.{by_kind}
-use Rattle.laws_whole.specs.Steps.{whole_list}
+use Rattle.laws_whole.proofs.Steps.{whole_list}
 use Rattle.laws_whole.specs.StoredLaws.{total-stored}
 use Rattle.laws_whole.specs.Whole.{Whole, whole_int, whole-unit}
 use Rattle.laws_whole.specs.Exact.{whole_neg, whole-add, whole_sub, whole-mul}
@@ -40,14 +40,15 @@ use Rattle.laws_full.specs.Unlimited.{Value, no_value, value_at, results, result
 use Rattle.laws_full.specs.Unlimited.{sum_lengths, product_lengths, power_lengths, shift_lengths}
 use Rattle.laws_full.specs.Described.{Bounded}
 use Rattle.laws_full.specs.Bounds.{bounds-stored, bounds-constant, bounds-negative, bounds-plus, bounds-less, bounds-times}
-use Rattle.laws_full.specs.Bounds.{bounds-power, bounds-none, bounds-shifted}
+use Rattle.laws_full.proofs.Bounds.{bounds-power}
+use Rattle.laws_full.specs.Bounds.{bounds-none, bounds-shifted}
 use Rattle.laws_full.specs.Accepted.{accepted-ordered, accepted-few}
 use Rattle.laws_full.specs.Lacking.{good}
 use Rattle.laws_full.specs.Places.{chain_first, chain-step}
 use Rattle.laws_full.specs.Setting.{size, word, step, head}
 use Rattle.laws_full.specs.Chained.{head-input, unlimited-input, unlimited-step}
 use Rattle.laws_totals.specs.Boxes.{listed}
-use Rattle.laws_totals.specs.Kinds.{constant-total, negative-total, plus-total, less-total, times-total, none-total, power-total}
+use Rattle.laws_totals.specs.Kinds.{constant-total, negative-total, plus-total, less-total, times-total, none-total}
 use Rattle.laws_totals.specs.Shifts.{shifted-total}
 use Rattle.laws_totals.specs.Powers.{power-whole}
 
@@ -61,17 +62,17 @@ pub record Fine (v : Value) (x : Float) : Type 0 where
   pub four : length v.lengths ≡ 4
   pub whole : Whole x (total_of v)
 
-along : {x : Float} {m n : ℤ} → m ≡ n → (nat_abs n ≤ 2 ^ 53 → Whole x n) → nat_abs m ≤ 2 ^ 53 → Whole x m
+pub along : {x : Float} {m n : ℤ} → m ≡ n → (nat_abs n ≤ 2 ^ 53 → Whole x n) → nat_abs m ≤ 2 ^ 53 → Whole x m
 along {x} e f h = subst (Whole x) (sym e) (f (subst (λ (t : ℤ). nat_abs t ≤ 2 ^ 53) e h))
 
 -- ---- one step s at the place p: a and b its operands' values, x and y what was found for them, i and j what stands in
 -- their way
 
 module _ (s : Step) (a b : Value) (x y : Float) (p i j : ℕ) (small : p < 64) (few : s.n < 4294967296) (variable : s.variable < 4) where
-  abbrev bar_row : ℕ → ℕ
+  abbrev pub bar_row : ℕ → ℕ
   bar_row k = get_or (64 ∷ i ∷ min i j ∷ min i j ∷ min i j ∷ p ∷ cond (eqb s.n 0) 64 i ∷ p ∷ p ∷ i ∷ []) k p
 
-  abbrev amount_row : ℕ → Float
+  abbrev pub amount_row : ℕ → Float
   amount_row k =
       get_or
       (whole_f s.n
@@ -87,96 +88,8 @@ module _ (s : Step) (a b : Value) (x y : Float) (p i j : ℕ) (small : p < 64) (
       ∷ [])
       k nan
 
-  abbrev value_row : ℕ → Value
+  abbrev pub value_row : ℕ → Value
   value_row k = get_or (results s a b) k no_value
-
-  power-fine : 64 ≤ bar_row 6 → (64 ≤ i → Fine a x) → nat_abs (total_of (value_row 6)) ≤ 2 ^ 53 → Fine (value_row 6) (number_power s.n x)
-  unfolding results power_lengths number_power
-  power-fine o f h =
-      decide (eqb s.n 0)
-      (λ t.
-      let e : s.n ≡ 0 = eqb-true s.n 0 t in
-      record {
-        bounded = rw e (listed _ (bounds-none (at a.lengths) a.series));
-        four = refl;
-        whole = rw e (subst (Whole _) (sym (none-total a.lengths a.series)) whole-unit);
-      })
-      (λ t.
-      let g = f (rw t at o) in
-      record {
-        bounded = listed _ (bounds-power g.bounded s.n);
-        four = refl;
-        whole = along (power-total a.lengths g.four g.bounded s.n) (λ m. power-whole s.n few g.whole m) h;
-      })
-
-  row_fine : (k : ℕ) → 64 ≤ bar_row k → ((uses_of k).a ≡ true → 64 ≤ i → Fine a x) → ((uses_of k).b ≡ true → 64 ≤ j → Fine b y)
-      → nat_abs (total_of (value_row k)) ≤ 2 ^ 53 → Fine (value_row k) (amount_row k)
-  unfolding results rows sum_lengths product_lengths shift_lengths
-  row_fine =
-      by_kind (record {
-        k0 = λ o f g h.
-            record {
-              bounded = listed (λ w. 1) (bounds-constant s.n);
-              four = refl;
-              whole = along (constant-total s.n) (λ m. whole_int (pos s.n) m) h;
-            };
-        k1 = λ o f g h.
-            let u = f refl o in
-            record {
-              bounded = bounds-negative u.bounded;
-              four = u.four;
-              whole = subst (Whole _) (sym (negative-total a.lengths a.series)) (whole_neg u.whole);
-            };
-        k2 = λ o f g h.
-            let u = f refl (omega arith) in
-            let v = g refl (omega arith) in
-            record {
-              bounded = listed _ (bounds-plus u.bounded v.bounded);
-              four = refl;
-              whole =
-                  along (plus-total a.lengths b.lengths u.four v.four u.bounded v.bounded)
-                  (λ m. whole-add u.whole v.whole m) h;
-            };
-        k3 = λ o f g h.
-            let u = f refl (omega arith) in
-            let v = g refl (omega arith) in
-            record {
-              bounded = listed _ (bounds-less u.bounded v.bounded);
-              four = refl;
-              whole =
-                  along (less-total a.lengths b.lengths u.four v.four u.bounded v.bounded)
-                  (λ m. whole_sub u.whole v.whole m) h;
-            };
-        k4 = λ o f g h.
-            let u = f refl (omega arith) in
-            let v = g refl (omega arith) in
-            record {
-              bounded = listed _ (bounds-times u.bounded v.bounded);
-              four = refl;
-              whole =
-                  along (times-total a.lengths b.lengths u.four v.four u.bounded v.bounded)
-                  (λ m. whole-mul u.whole v.whole m) h;
-            };
-        k5 = λ o f g h. absurd (omega arith);
-        k6 = λ o f g h. power-fine o (f refl) h;
-        k7 = λ o f g h. absurd (omega arith);
-        k8 = λ o f g h. absurd (omega arith);
-        k9 = λ o f g h.
-            let u = f refl o in
-            record {
-              bounded = listed _ (bounds-shifted u.bounded s.variable s.n);
-              four = refl;
-              whole = subst (Whole _) (sym (shifted-total a.lengths s.variable s.n u.four u.bounded variable)) u.whole;
-            };
-        k10 = λ o f g h. absurd (omega arith);
-        k11 = λ o f g h. absurd (omega arith);
-        past = λ k o f g h. absurd (omega arith);
-      })
-
-  pub step-fine : 64 ≤ bar_of s p i j → ((uses_of s.kind).a ≡ true → 64 ≤ i → Fine a x) → ((uses_of s.kind).b ≡ true → 64 ≤ j → Fine b y)
-      → nat_abs (total_of (result_of s a b)) ≤ 2 ^ 53 → Fine (result_of s a b) (amount_of s x y)
-  unfolding bar_of amount_of
-  step-fine = row_fine s.kind
 
 -- ---- a recipe: xs its inputs' coefficients, and cs the whole numbers
 -- that they are
@@ -232,7 +145,7 @@ module _ (it : Recipe) (xs : List Float) (cs : ℕ → ℕ → ℤ) where
   bars-many = length-chain bar_step input_bars it.steps ∙ rw many-bars refl
 
   module _ (z : Given) where
-    input-fine : (p : ℕ) → p < length it.headers → Fine (exact_at p) (amount_at p)
+    pub input-fine : (p : ℕ) → p < length it.headers → Fine (exact_at p) (amount_at p)
     unfolding input_value header_of input_sum sum_to
     input-fine p l =
         let h : Header = header_of (get_or it.headers p 0) in
@@ -255,58 +168,29 @@ module _ (it : Recipe) (xs : List Float) (cs : ℕ → ℕ → ℤ) where
       s = step it p
 
       -- an operand before the place, read off the places before it
-      operand : (q : ℕ) → q < p → (64 ≤ bar_at q → Fine (exact_at q) (amount_at q))
+      pub operand : (q : ℕ) → q < p → (64 ≤ bar_at q → Fine (exact_at q) (amount_at q))
           → 64 ≤ get_or (take p (bars it.headers it.steps)) q 64
           → Fine (value_at (take p (unlimited it cs)) q) (get_or (take p (amounts it.headers xs it.steps)) q nan)
       operand q u f o =
           rw (get_or-take p (unlimited it cs) q no_value u, get_or-take p (amounts it.headers xs it.steps) q nan u)
           (f (rw (get_or-take p (bars it.headers it.steps) q 64 u) at o))
 
-      result-is : exact_at p ≡ result_of s (value_at (take p (unlimited it cs)) s.a) (value_at (take p (unlimited it cs)) s.b)
+      pub result-is : exact_at p ≡ result_of s (value_at (take p (unlimited it cs)) s.a) (value_at (take p (unlimited it cs)) s.b)
       unfolding step_result
       result-is = unlimited-step it cs p i l
 
-      bar-is : bar_at p ≡ bar_of s p (get_or (take p (bars it.headers it.steps)) s.a 64) (get_or (take p (bars it.headers it.steps)) s.b 64)
+      pub bar-is : bar_at p ≡ bar_of s p (get_or (take p (bars it.headers it.steps)) s.a 64) (get_or (take p (bars it.headers it.steps)) s.b 64)
       unfolding bar_step
       bar-is =
           let e : length (take p (bars it.headers it.steps)) ≡ p = length-take-le p (bars it.headers it.steps) (omega (arith, bars-many)) in
           bar_step_lem p i l
           ∙ ap (λ (n : ℕ). bar_of s n (get_or (take p (bars it.headers it.steps)) s.a 64) (get_or (take p (bars it.headers it.steps)) s.b 64)) e
 
-      amount-is : amount_at p
+      pub amount-is : amount_at p
           ≡ amount_of s (get_or (take p (amounts it.headers xs it.steps)) s.a nan) (get_or (take p (amounts it.headers xs it.steps)) s.b nan)
       unfolding amount_step
       amount-is = amount_step_lem p i l
 
-      n-small : s.n < 4294967296
+      pub n-small : s.n < 4294967296
       unfolding step_of
       n-small = omega arith
-
-      place-fine : 64 ≤ bar_at p → Fine (exact_at p) (amount_at p)
-      place-fine o =
-          let order = accepted-ordered it z.accepted in
-          rw (result-is, amount-is)
-          (step-fine s _ _ _ _ p _ _ (omega (arith, accepted-few it z.accepted)) n-small (small-variable (word it p))
-          (rw bar-is at o)
-          (λ u. let v = order.first p i l u in operand s.a v (of-a v))
-          (λ u. let v = order.second p i l u in operand s.b v (of-b v))
-          (rw result-is at (z.totals p l o)))
-
-    below : (n p : ℕ) → p < n → p < size it → 64 ≤ bar_at p → Fine (exact_at p) (amount_at p)
-    below zero p u l o = absurd (omega arith)
-    below (suc n) p u l o =
-        decide (ltb p (length it.headers))
-        (λ t. input-fine p (ltb-true _ _ t))
-        (λ t.
-        place-fine p (ltb-false p (length it.headers) t) l (λ v. below n (step it p).a (omega arith) (omega arith))
-        (λ v. below n (step it p).b (omega arith) (omega arith)) o)
-
-    -- the number found is the sum over all indices
-    pub total-whole : (p : ℕ) → p < size it → 64 ≤ bar_at p → Whole (amount_at p) (total_of (exact_at p))
-    total-whole p l o = (below (suc p) p (omega arith) l o).whole
-
-    -- of the answer
-    pub answer-whole : 64 ≤ answer_bar it.headers it.steps
-        → Whole (answer_amount it.headers xs it.steps) (total_of (exact_at (last_place it.headers it.steps)))
-    unfolding answer_bar answer_amount
-    answer-whole o = total-whole (last_place it.headers it.steps) (omega (arith, (accepts it z.accepted).sizes.some)) o

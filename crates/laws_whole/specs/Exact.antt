@@ -2,7 +2,9 @@
 -- size is 2 ^ 53 at most.
 use Rattle.std.specs.Prelude.{◌≡◌, refl, Bool, not, ℕ, zero, suc, ◌+◌, ◌-◌, ◌*◌, ◌^◌, ◌≤◌, ◌<◌, ltb, eqb, ℤ, nat_abs, ◌+ℤ◌, ◌-ℤ◌, ◌*ℤ◌, Float}
 use Rattle.std.proofs.Math.Path.{sym, ap}
-use Rattle.std.proofs.Common.{ap₂, ◌∙◌, mul-one, one-mul, mul_assoc, mul_comm, mul-pos, zero-mul, mul-zero, add-mul, lt_of_mul-lt-mul_right, le_of_mul-le-mul_right, lt_irrefl, arith, ltb-true, ltb-false, eqb-true}
+use Rattle.std.proofs.Common.{ap₂, ◌∙◌, mul-one, one-mul, mul_assoc, mul_comm, mul-pos, zero-mul, mul-zero, add-mul}
+use Rattle.std.proofs.Common.{lt_of_mul-lt-mul_right, le_of_mul-le-mul_right, lt_irrefl, arith, ltb-true, ltb-false}
+use Rattle.std.proofs.Common.{eqb-true}
 use Rattle.std.proofs.Math.Bool.{true, false}
 use Rattle.std.proofs.Math.Nat.{mul-mul-mul_comm, mul-sub}
 use Rattle.std.proofs.Math.IntN.{pos, neg_ℤ, neg_ℤ-neg_ℤ, neg_ℤ-+ℤ, zero-*ℤ, +ℤ_comm}

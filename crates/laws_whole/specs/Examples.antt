@@ -14,7 +14,6 @@ use Rattle.model_textbook.specs.Textbook.{Series, series_of, weight, sum_of_all,
 use Rattle.laws_whole.specs.Whole.{Whole, whole_int, whole-minus-zero}
 use Rattle.laws_whole.specs.Exact.{whole-mul, whole-div}
 use Rattle.laws_whole.specs.Compare.{eq-zero}
-use Rattle.laws_whole.specs.Steps.{whole_list}
 
 -- ---- sums
 
@@ -28,20 +27,9 @@ sum-box = refl
 
 -- ---- whole floats
 
--- the bound is reached; one more rounds to it, 1 times 2 ^ 53
-bound : Whole (of_int binary64 (pos (2 ^ 53))) (pos (2 ^ 53))
-bound = whole_int (pos (2 ^ 53)) (lit≤ tt)
-
 past_bound : of_int binary64 (pos (2 ^ 53 + 1)) ≡ fin false 1 (pos 53)
 unfolding of_int
 past_bound = refl
-
--- 3 * -4, and 7 over -1
-product_of-two : Whole (mul binary64 (of_int binary64 (pos 3)) (of_int binary64 (negsuc 3))) (negsuc 11)
-product_of-two = whole-mul (whole_int (pos 3) (lit≤ tt)) (whole_int (negsuc 3) (lit≤ tt)) (lit≤ tt)
-
-over_minus_one : Whole (div binary64 (of_int binary64 (pos 7)) (of_int binary64 (negsuc 0))) (negsuc 6)
-over_minus_one = whole-div (whole_int (pos 7) (lit≤ tt)) (whole_int (negsuc 0) (lit≤ tt)) refl (lit≤ tt)
 
 -- the two zeros are one number, and equal
 minus-zero-equal : eq (of_bits binary64 0x8000000000000000) (of_bits binary64 0) ≡ true
@@ -50,21 +38,6 @@ minus-zero-equal = (eq-zero whole-minus-zero).1 refl
 one_not_zero : eq (of_bits binary64 0x3ff0000000000000) (of_bits binary64 0) ≡ false
 unfolding eq of_bits
 one_not_zero = refl
-
--- 1, then near 2 ^ 53, then -2, then 3, upward from +0.0
-abbrev terms : List ℤ
-terms = pos 1 ∷ pos 9007199254740000 ∷ negsuc 1 ∷ pos 3 ∷ []
-
-abbrev floats : List Float
-floats = of_int binary64 (pos 1) ∷ of_int binary64 (pos 9007199254740000) ∷ of_int binary64 (negsuc 1) ∷ of_int binary64 (pos 3) ∷ []
-
-upward : Whole (walk (λ i acc. add binary64 acc (get_or floats i nan)) 4 0 (of_bits binary64 0)) (pos 9007199254740002)
-unfolding sum
-upward =
-    whole_list floats (λ j. get_or terms j (pos 0)) 4
-    (each (λ j. Whole (get_or floats j nan) (get_or terms j (pos 0))) (whole_int _ (lit≤ tt)) (whole_int _ (lit≤ tt))
-    (whole_int _ (lit≤ tt)) (whole_int _ (lit≤ tt)))
-    (lit≤ tt)
 
 -- ---- series
 

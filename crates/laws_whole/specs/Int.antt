@@ -2,7 +2,8 @@
 -- products.
 use Rattle.std.specs.Prelude.{◌≡◌, refl, ℕ, zero, suc, ◌+◌, ◌*◌, ◌≤◌, ltb, ℤ, pos, negsuc, neg_ℤ, nat_abs, ◌+ℤ◌, ◌-ℤ◌, ◌*ℤ◌}
 use Rattle.std.proofs.Common.{sym, ap, ◌∙◌, le_refl, arith, ltb-true}
-use Rattle.std.proofs.Math.IntN.{suc_ℤ, pred_ℤ, sub_ℕ, one, suc_ℤ-*ℤ, pred_ℤ-*ℤ, suc_ℤ-+ℤ, pred_ℤ-+ℤ, +ℤ_idl, +ℤ_assoc, +ℤ_comm, *ℤ_comm, *ℤ-one, zero-*ℤ, +ℤ_invl, +ℤ-neg_ℤ_cancel}
+use Rattle.std.proofs.Math.IntN.{suc_ℤ, pred_ℤ, sub_ℕ, one, suc_ℤ-*ℤ, pred_ℤ-*ℤ, suc_ℤ-+ℤ, pred_ℤ-+ℤ, +ℤ_idl}
+use Rattle.std.proofs.Math.IntN.{+ℤ_assoc, +ℤ_comm, *ℤ_comm, *ℤ-one, zero-*ℤ, +ℤ_invl, +ℤ-neg_ℤ_cancel}
 use Rattle.lists.specs.Test.{decide}
 
 -- ---- the sum

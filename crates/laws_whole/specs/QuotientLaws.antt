@@ -15,7 +15,7 @@ use Rattle.laws_whole.specs.IndexLaws.{within-length, degree-minus, minus_self}
 use Rattle.laws_whole.specs.SeriesLaws.{times-same, times-rest}
 
 -- the rest of a product asks only for what lies before
-before : (P Q B : Series) (k : List ℕ) → ((j : List ℕ) → Within j k → degree j < degree k → P j ≡ Q j) → times P (rest B) k ≡ times Q (rest B) k
+pub before : (P Q B : Series) (k : List ℕ) → ((j : List ℕ) → Within j k → degree j < degree k → P j ≡ Q j) → times P (rest B) k ≡ times Q (rest B) k
 unfolding rest
 before P Q B k h =
     times-same P (rest B) Q (rest B) k (λ j w.
@@ -32,37 +32,8 @@ module _ (A B : Series) where
   turns_same (suc n) (suc m) k p q =
       rw (before (turns n A B) (turns m A B) B k (λ j w l. turns_same n m j (omega arith) (omega arith)))
 
-  quotient-step : (k : List ℕ) → quotient A B k ≡ B origin *ℤ (A k -ℤ times (quotient A B) (rest B) k)
+  pub quotient-step : (k : List ℕ) → quotient A B k ≡ B origin *ℤ (A k -ℤ times (quotient A B) (rest B) k)
   unfolding quotient turns
   quotient-step k =
       ap (λ (x : ℤ). B origin *ℤ (A k -ℤ x)) (before (turns (degree k) A B) (quotient A B) B k
       (λ j w l. turns_same (degree k) (suc (degree j)) j l (omega arith)))
-
-  module _ (unit : nat_abs (B origin) ≡ 1) where
-    -- Q B = A
-    pub quotient-times : (k : List ℕ) → length k ≡ 4 → times (quotient A B) B k ≡ A k
-    quotient-times k four =
-        let r = times (quotient A B) (rest B) k in
-        times-rest (quotient A B) B k
-        ∙ ap (λ (i : List ℕ). quotient A B k *ℤ B i +ℤ r) (minus_self k four)
-        ∙ ap (λ (x : ℤ). x *ℤ B origin +ℤ r) (quotient-step k ∙ *ℤ_comm (B origin) (A k -ℤ r))
-        ∙ ap (λ (x : ℤ). x +ℤ r) (unit-back (A k -ℤ r) (B origin) unit)
-        ∙ -ℤ-+ℤ_cancel (A k) r
-
-    -- and no other Q has it
-    module _ (Q : Series) (h : (k : List ℕ) → length k ≡ 4 → times Q B k ≡ A k) where
-      only_below : (n : ℕ) (k : List ℕ) → degree k < n → length k ≡ 4 → Q k ≡ quotient A B k
-      only_below zero k p four = absurd (omega arith)
-      only_below (suc n) k p four =
-          let r = times Q (rest B) k in
-          let s : Q k *ℤ B origin ≡ A k -ℤ r =
-          sym (+ℤ-neg_ℤ_cancel (Q k *ℤ B origin) r)
-          ∙ ap (λ (x : ℤ). x -ℤ r) (ap (λ (i : List ℕ). Q k *ℤ B i +ℤ r) (sym (minus_self k four)) ∙ sym (times-rest Q B k) ∙ h k four) in
-          sym (unit-back (Q k) (B origin) unit)
-          ∙ ap (λ (x : ℤ). x *ℤ B origin) (s ∙ ap (λ (x : ℤ). A k -ℤ x)
-          (before Q (quotient A B) B k (λ j w l. only_below n j (omega arith) (within-length w ∙ four))))
-          ∙ *ℤ_comm (A k -ℤ times (quotient A B) (rest B) k) (B origin)
-          ∙ sym (quotient-step k)
-
-      pub quotient-only : (k : List ℕ) → length k ≡ 4 → Q k ≡ quotient A B k
-      quotient-only k = only_below (suc (degree k)) k (omega arith)

@@ -24,7 +24,8 @@ pub times-comm : (A B : Series) (k : List ℕ) → times A B k ≡ times B A k
 unfolding times
 times-comm A B k =
     box_reverse add_z (λ j. A j *ℤ B (index_minus k j)) k
-    ∙ box-same add_z _ _ (up_to k) (λ j u. ap (λ (i : List ℕ). A (index_minus k j) *ℤ B i) (minus_minus (within-up_to j k u)) ∙ *ℤ_comm (A (index_minus k j)) (B j))
+    ∙ box-same add_z _ _ (up_to k) (λ j u. ap (λ (i : List ℕ). A (index_minus k j) *ℤ B i) (minus_minus (within-up_to j k u)) ∙ *ℤ_comm (A
+    (index_minus k j)) (B j))
 
 pub times-plus : (A B C : Series) (k : List ℕ) → times A (plus B C) k ≡ times A B k +ℤ times A C k
 unfolding times plus

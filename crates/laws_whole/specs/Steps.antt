@@ -44,14 +44,6 @@ module _ (g : ℕ → Float) (e : ℕ → ℤ) (n a : ℕ) (known : (j : ℕ) �
   pub whole-adds : Adds (λ i acc. add binary64 acc (g i)) e (λ j. nat_abs (e j)) n a
   whole-adds = record { size = λ j p q. le_refl (nat_abs (e j)); step = λ j p q x c w h. add_step w (known j p q) h }
 
-  pub whole_sum : sum_n (λ j. nat_abs (e j)) n a ≤ 2 ^ 53 → Whole (walk (λ i acc. add binary64 acc (g i)) n a (of_bits binary64 0)) (sum_z e n a)
-  whole_sum h = rw (← +ℤ_idl (sum_z e n a)) (whole-walk whole-adds whole-zero (omega arith))
-
--- the elements of a list, upward from the first
-pub whole_list : (xs : List Float) (e : ℕ → ℤ) (n : ℕ) → ((j : ℕ) → j < n → Whole (get_or xs j nan) (e j)) → sum_n (λ j. nat_abs (e j)) n 0 ≤ 2 ^ 53
-    → Whole (walk (λ i acc. add binary64 acc (get_or xs i nan)) n 0 (of_bits binary64 0)) (sum_z e n 0)
-whole_list xs e n known h = whole_sum (λ i. get_or xs i nan) e n 0 (λ j p q. known j (omega arith)) h
-
 -- the products of two rows of terms
 pub whole_products : (g h : ℕ → Float) (p q : ℕ → ℤ) (n a : ℕ) → ((j : ℕ) → a ≤ j → j < a + n → Whole (g j) (p j))
     → ((j : ℕ) → a ≤ j → j < a + n → Whole (h j) (q j))

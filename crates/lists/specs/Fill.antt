@@ -1,6 +1,7 @@
 -- What a loop over rows has done, and one that changes each place in turn.
 use Rattle.std.specs.Prelude.{ℕ, zero, suc, ◌+◌, ◌-◌, ◌≤◌, ◌<◌, List, [], ◌∷◌, ◌++◌, ◌≡◌, length, get_or, take, drop}
-use Rattle.std.proofs.Common.{append_assoc, append-nil, sym, ap, ◌∙◌, arith, add-suc, add-zero, length-append, length-drop, take_at, take_all, drop_at, drop-drop, get_or-drop}
+use Rattle.std.proofs.Common.{append_assoc, append-nil, sym, ap, ◌∙◌, arith, add-suc, add-zero, length-append}
+use Rattle.std.proofs.Common.{length-drop, take_at, take_all, drop_at, drop-drop, get_or-drop}
 use Rattle.std.proofs.Math.Seq.{drop-length}
 use Rattle.lists.specs.Table.{table, length-table, table_same, table-take, front, Filled}
 

@@ -1,6 +1,8 @@
 -- Parts of a buffer, what stands below a place, and what was kept.
 use Rattle.std.specs.Prelude.{ℕ, zero, suc, ◌+◌, ◌-◌, ◌≤◌, ◌<◌, List, [], ◌∷◌, ◌++◌, ◌≡◌, refl, length, take, drop, set}
-use Rattle.std.proofs.Common.{sym, ap, ◌∙◌, arith, zero-add, suc-add, length-set, length-take, length-drop, length-append, take-take, drop-cons, get_or-set_same, take_at, drop_at, drop-drop, drop-set-lt, length-take-le}
+use Rattle.std.proofs.Common.{sym, ap, ◌∙◌, arith, zero-add, suc-add, length-set, length-take, length-drop}
+use Rattle.std.proofs.Common.{length-append, take-take, drop-cons, get_or-set_same, take_at, drop_at, drop-drop}
+use Rattle.std.proofs.Common.{drop-set-lt, length-take-le}
 use Rattle.std.proofs.lemmas.List.{take-set-le, drop-set-add, set-append_left}
 use Rattle.std.proofs.Math.Seq.{take-nil}
 use Rattle.lists.specs.Table.{Filled, filled_none, filled_more, filled_end, front, table, length-table}
@@ -92,7 +94,8 @@ module _ {A : Type 0} where
       let l : i < length (set w i v) = rw length-set h in
       record {
         below = below_set w i v (omega arith);
-        holds = ap (λ (m : ℕ). take m (drop i (set w i v))) k ∙ (ap (take 1) (drop-cons (set w i v) i v l) ∙ ap (λ (z : A). z ∷ []) (get_or-set_same w i v v h));
+        holds = ap (λ (m : ℕ). take m (drop i (set w i v))) k ∙ (ap (take 1) (drop-cons (set w i v) i v l) ∙ ap (λ (z : A). z ∷ [])
+            (get_or-set_same w i v v h));
         above = drop-set-lt (i + 1) w i v (omega arith);
       }
 

@@ -1,6 +1,6 @@
 -- Document 02, W14, and its reading: every other bit of every kept word stays. The new word is the old one with exactly
 -- the spare bits and the unused fields cleared; no bit is ever set; mending a mended word changes nothing.
-use Rattle.std.specs.Prelude.{ℕ, ◌+◌, ◌-◌, ◌*◌, ◌/◌, ◌%◌, ◌^◌, ◌≤◌, ◌<◌, Bool, true, false, ◌≡◌, refl, leb, eqb}
+use Rattle.std.specs.Prelude.{ℕ, ◌+◌, ◌*◌, ◌/◌, ◌%◌, ◌^◌, ◌≤◌, ◌<◌, Bool, true, false, ◌≡◌, refl, leb, eqb}
 use Rattle.std.proofs.Common.{sym, ◌∙◌, subst, mod-lt, shr-shr, eqb-true, leb-true}
 use Rattle.std.proofs.Math.Path.{ap}
 use native.Mathlib.Omega.{arith}

@@ -2,7 +2,7 @@
 -- to refuse, but for an edition that is not known: its lines, word one's sizes and zeros, its headers, and that nothing
 -- follows the last line; and of its steps those of a kind that there is have zero in their spare bits and in every
 -- field that they do not use.
-use Rattle.std.specs.Prelude.{ℕ, zero, suc, ◌+◌, ◌-◌, ◌/◌, ◌%◌, ◌^◌, ◌<◌, true, ◌≡◌, refl}
+use Rattle.std.specs.Prelude.{ℕ, zero, suc, ◌+◌, ◌/◌, ◌%◌, ◌^◌, ◌<◌, true, ◌≡◌, refl}
 use mathlib.Core.List.{List}
 use Rattle.std.proofs.Math.Path.{sym, ap}
 use Rattle.std.proofs.Common.{◌∙◌, add-zero}

@@ -22,7 +22,7 @@ use Rattle.model_recipes.specs.declared.Step.{Step}
 use Rattle.model_recipes.specs.declared.Uses.{Uses}
 use Rattle.model_recipes.specs.Steps.{step_of, spare_of, uses_of}
 use Rattle.model_recipes.specs.Recipe.{announced_step, input_heads, announced_places, announced_steps, total, largest}
-use Rattle.model_recipes.specs.Check.{ask_at, known_edition, right_sizes, named_before, zero_unless, formed, step_refusal, steps_refusal, check_refusal}
+use Rattle.model_recipes.specs.Check.{ask_at, known_edition, right_sizes, named_before, zero_unless, step_refusal, steps_refusal, check_refusal}
 use Rattle.model_texts.specs.Hex.{byte_at, is_line, word_at}
 use Rattle.model_texts.specs.Sheet.{own_refusal, lined, word_on, input_count, step_count, spare, sheet_headers, coefficient_count, sheet_steps, rest_count}
 use Rattle.model_texts.specs.Sheet.{headers_refusal, read_refusal, sheet_edition, sheet_recipe}

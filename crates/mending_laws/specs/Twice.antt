@@ -7,7 +7,6 @@ use Rattle.std.specs.Prelude.{◌≡◌, refl, ltb, length}
 use Rattle.std.proofs.Math.Path.{sym, ap, subst}
 use Rattle.std.proofs.Common.{◌∙◌, pow-suc, ltb-true, ltb-false}
 use native.Mathlib.Omega.{arith}
-use Rattle.lists.specs.Every.{every}
 use Rattle.lists.specs.Table.{table, table_same}
 use Rattle.lists.specs.Test.{decide, and_right}
 use Rattle.lists.specs.Walk.{walk, walk_more}

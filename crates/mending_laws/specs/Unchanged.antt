@@ -13,7 +13,8 @@ use Rattle.lists.specs.Table.{table, table-take, table_same}
 use Rattle.model_texts.specs.Hex.{byte_at, is_line, word_at, hex_digit, hex_line}
 use Rattle.model_texts.specs.Report.{joined}
 use Rattle.model_mending.specs.Lines.{old_digit}
-use Rattle.model_mending.specs.Mended.{inputs_in, count_in, lines_in, mend_refusal, new_word, is_kept, change_text, new_line, report_text, mended_sheet, mended_text}
+use Rattle.model_mending.specs.Mended.{inputs_in, count_in, lines_in, mend_refusal, new_word, is_kept, change_text}
+use Rattle.model_mending.specs.Mended.{new_line, report_text, mended_sheet, mended_text}
 use Rattle.mending_laws.specs.Plain.{end_is, digit-is, place-plain}
 
 pub every-all : (f : ℕ → Bool) (n p : ℕ) → ((q : ℕ) → p ≤ q → q < p + n → f q ≡ true) → every f n p ≡ true

@@ -52,7 +52,8 @@ fits h lent = leb (stored h) 4096 && leb (stored h) lent
 abbrev pub roomy : Header → ℕ → Bool
 roomy h lent = leb (8 * stored h) lent
 
--- Answers. `answer_by`, `read_by` and `linear_by` say which case of the enum stands for which number and value of document
+-- Answers. `answer_by`, `read_by` and `linear_by` say which case of the enum stands for which number and value of
+-- document
 -- 01.
 
 unfoldable pub answer_by : Refusal → ℕ → Answer

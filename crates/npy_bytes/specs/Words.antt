@@ -1,7 +1,8 @@
 -- Bytes of words, and the loops over them.
 use Prim.Native.Nat.{ℕ, zero, suc, ◌+◌, ◌-◌, ◌*◌, ◌/◌, ◌%◌, ◌^◌, ◌≤◌, ◌<◌}
 use Rattle.std.specs.Prelude.{List, [], ◌∷◌, ◌++◌, Bool, true, false, ◌&&◌, ◌≡◌, refl, leb, eqb, length, get_or, take, drop, set, Float}
-use Rattle.std.proofs.Common.{append_assoc, append-nil, ◌∙◌, add-one, mul_comm, length-append, take-suc, take_all, length-take-le, shr-shr, shl_exact, pow-add, eq-eqb, ne_eqb}
+use Rattle.std.proofs.Common.{append_assoc, append-nil, ◌∙◌, add-one, mul_comm, length-append, take-suc, take_all}
+use Rattle.std.proofs.Common.{length-take-le, shr-shr, shl_exact, pow-add, eq-eqb, ne_eqb}
 use Rattle.std.proofs.Math.Path.{sym, ap}
 use native.Mathlib.Omega.{arith}
 use Rattle.std.proofs.Math.ListN.{drop_of_length-le}
@@ -65,7 +66,8 @@ little-four t p ea eb ec ed =
     let k3 : p + 3 ≡ suc (suc (suc p)) = omega arith in
     omega (arith, ea, eb ∙ ap (byte_at t) k1, ec ∙ ap (byte_at t) k2, ed ∙ ap (byte_at t) k3)
 
-module _ (t : List ℕ) (p : ℕ) {a b c d e f g h : ℕ} (ea : a ≡ byte_at t p) (eb : b ≡ byte_at t (p + 1)) (ec : c ≡ byte_at t (p + 2)) (ed : d ≡ byte_at t (p + 3))
+module _ (t : List ℕ) (p : ℕ) {a b c d e f g h : ℕ} (ea : a ≡ byte_at t p) (eb : b ≡ byte_at t (p + 1)) (ec : c ≡ byte_at t (p + 2)) (ed : d
+    ≡ byte_at t (p + 3))
     (ee : e ≡ byte_at t (p + 4)) (ef : f ≡ byte_at t (p + 5)) (eg : g ≡ byte_at t (p + 6)) (eh : h ≡ byte_at t (p + 7)) where
   pub little-eight : a + 256 * b + 65536 * c + 16777216 * d + 4294967296 * e + 1099511627776 * f + 281474976710656 * g + 72057594037927936 * h ≡ little 8 t p
   unfolding little

@@ -1,5 +1,6 @@
 -- An item is read exactly.
-use Rattle.std.specs.Prelude.{ℕ, zero, suc, ◌+◌, ◌-◌, ◌*◌, ◌≤◌, ◌<◌, min, List, [], ◌∷◌, ◌++◌, map, Bool, true, false, ◌&&◌, ◌||◌, cond, ◌≡◌, refl, leb, eqb, length, get_or}
+use Rattle.std.specs.Prelude.{ℕ, zero, suc, ◌+◌, ◌-◌, ◌*◌, ◌≤◌, ◌<◌, min, List, [], ◌∷◌, ◌++◌, map, Bool, true}
+use Rattle.std.specs.Prelude.{false, ◌&&◌, ◌||◌, cond, ◌≡◌, refl, leb, eqb, length, get_or}
 use Rattle.std.proofs.Common.{append_assoc, append-nil, sym, ap, ◌∙◌, arith, length-append, eqb-true, eq-eqb, ne_eqb, leb-true, le-leb}
 use Rattle.std.proofs.lemmas.Bool.{false≢true, eqb-false}
 use Rattle.lists.specs.Test.{decide, and_left, and_right, or_right}
@@ -256,7 +257,8 @@ record KeyRead (s : Seen) (q : ℕ) (r : List ℕ) (z : Seen) : Type 0 where
   pub fresh : Fresh written s
   pub is : z ≡ noted written s z.rest
 
-key-made : (s : Seen) (q : ℕ) (k : Key) (r : List ℕ) (z : Seen) → Some (past_key q (key_word k) r) → ValueRead k s (past_key q (key_word k) r) z → KeyRead s q r z
+key-made : (s : Seen) (q : ℕ) (k : Key) (r : List ℕ) (z : Seen) → Some (past_key q (key_word k) r) → ValueRead k s (past_key q (key_word k)
+    r) z → KeyRead s q r z
 key-made s q k r z h v =
     let w = key_word k in
     record {
@@ -343,7 +345,8 @@ read_value f descr s r = read_descr s r
 read_value f fortran_order s r = read_order s r
 read_value f shape s r = read_shape f s r
 
-value-complete : (f : ℕ) (s : Seen) (w : Written) (u : List ℕ) → length (value_text w u) ≤ f → Fresh w s → read_value f (key_of w) s (value_text w u) ≡ noted w s u
+value-complete : (f : ℕ) (s : Seen) (w : Written) (u : List ℕ) → length (value_text w u) ≤ f → Fresh w s → read_value f (key_of w) s
+    (value_text w u) ≡ noted w s u
 unfolding read_value key_of value_text Fresh noted read_descr read_order read_shape
 value-complete f s (a_width q w) u l h = rw (h, width-value q w u, width-past q w u)
 value-complete f s (an_order o) u l h = rw (h, order_value o u, order-past o u)

@@ -86,7 +86,8 @@ module _ (s r : List ℕ) where
         value = sym (append-nil s);
       }
 
-  more-next : {u z : List ℕ} → Some (past_number (past_comma r)) → MoreRead (s ++ (number_at (past_comma r) ∷ [])) (past_number (past_comma r)) u z → MoreRead s r u z
+  more-next : {u z : List ℕ} → Some (past_number (past_comma r)) → MoreRead (s ++ (number_at (past_comma r) ∷ [])) (past_number
+      (past_comma r)) u z → MoreRead s r u z
   unfolding nexts_text next_text nexts_value Enough
   more-next q m =
       let x = number_at (past_comma r) in

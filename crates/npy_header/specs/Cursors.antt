@@ -1,18 +1,18 @@
 -- What a cursor has seen, and what each reader does to it.
-use Rattle.std.specs.Prelude.{ℕ, zero, suc, ◌+◌, ◌-◌, ◌*◌, ◌≤◌, ◌<◌, min, List, [], ◌∷◌, ◌++◌, map, Bool, ◌&&◌, ◌||◌, cond, ◌≡◌, refl, leb, length, get_or}
+use Rattle.std.specs.Prelude.{ℕ, ◌-◌, ◌≤◌, List, [], ◌∷◌, map, Bool, ◌&&◌, ◌≡◌, refl, length}
 use Rattle.std.proofs.Math.Bool.{true, false}
 use Rattle.std.proofs.Math.Path.{sym, ap}
 use Rattle.std.proofs.Common.{◌∙◌, arith, length-drop}
 use Rattle.std.proofs.Math.Dec.{eqb}
 use Rattle.std.proofs.Math.ListN.{drop}
-use borrow.Author.Tests.{eqb-true, eqb-false, eq-eqb, ne_eqb}
+use borrow.Author.Tests.{eq-eqb, ne_eqb}
 use Rattle.npy_grammar.specs.Text.{is_blank, is_lead, is_space, Values, Right, order_word, rows, columns, key_word, descr, fortran_order, shape}
-use Rattle.npy_grammar.specs.Reading.{strip, eat, eats, peek, cap, Got, past_comma, read_tuple, is_quote, past_kind}
-use Rattle.npy_grammar.specs.Reading.{past_width, width_at, past_order, order_at, Seen, failed, past_key, read_descr}
+use Rattle.npy_grammar.specs.Reading.{strip, eat, eats, peek, cap, past_comma, read_tuple, is_quote, past_kind}
+use Rattle.npy_grammar.specs.Reading.{past_width, width_at, past_order, order_at, Seen, past_key, read_descr}
 use Rattle.npy_grammar.specs.Reading.{read_order, read_shape, read_key, blanked, read_item, started, comma_past, items}
 use Rattle.npy_grammar.specs.Reading.{past_close, is_last, taken}
 use Rattle.npy_grammar.specs.Items.{width_number, order_number}
-use Rattle.npy_grammar.specs.Headers.{Taken, Means, header-sound, header-complete}
+use Rattle.npy_grammar.specs.Headers.{Means, header-sound, header-complete}
 use Rattle.npy_header.specs.declared.Shape.{Shape}
 use Rattle.npy_header.specs.declared.Listed.{Listed}
 use Rattle.npy_header.specs.declared.Cursor.{Cursor}

@@ -1,17 +1,17 @@
 -- The numbers of a shape as they are kept, and the loop that reads a tuple.
-use Rattle.std.specs.Prelude.{ℕ, zero, suc, ◌+◌, ◌-◌, ◌*◌, ◌≤◌, ◌<◌, min, Bool, ◌&&◌, ◌||◌, cond, ◌≡◌, refl, leb, get_or, drop, set}
+use Rattle.std.specs.Prelude.{ℕ, zero, suc, ◌+◌, ◌-◌, ◌≤◌, ◌<◌, min, ◌≡◌, refl, get_or, drop, set}
 use mathlib.Core.List.{List, [], ◌∷◌, ◌++◌}
 use Rattle.std.proofs.Math.Bool.{true, false}
-use Rattle.std.proofs.Common.{sym, ◌∙◌, add-one, length-append}
+use Rattle.std.proofs.Common.{sym, ◌∙◌}
 use Rattle.std.proofs.Math.Path.{ap}
 use native.Mathlib.Omega.{arith}
 use Rattle.std.proofs.Math.Dec.{eqb}
 use Rattle.std.proofs.Math.ListN.{length, get_or-append, get_or-eq_default}
 use Rattle.std.proofs.lemmas.List.{get_or_at}
-use borrow.Author.Tests.{eqb-true, eqb-false, eq-eqb, ne_eqb, le-leb, lt-leb}
-use Rattle.lists.specs.Four.{four, at, four_same, each}
+use borrow.Author.Tests.{eq-eqb, ne_eqb, le-leb, lt-leb}
+use Rattle.lists.specs.Four.{four, at, four_same}
 use Rattle.lists.specs.Grow.{length_snoc}
-use Rattle.npy_grammar.specs.Text.{is_blank, is_digit}
+use Rattle.npy_grammar.specs.Text.{is_blank}
 use Rattle.npy_grammar.specs.Reading.{strip, eat, peek, past_number, number_at, Got, got, past_comma, more_numbers, inside_tuple, read_tuple}
 use Rattle.npy_header.specs.declared.Shape.{Shape}
 use Rattle.npy_header.specs.declared.Listed.{Listed}

@@ -236,7 +236,8 @@ module _ (newer : Bool) (h : List ℕ) (v : Values) (right : Right h v) (short :
       let full : bytes_of v.width * length ys ≡ bytes_of v.width * product v.shape = ap (λ (n : ℕ). bytes_of v.width * n) (order.many ∙ many) in
       let all : data_fits t v ≡ true = eq-eqb (length t) (data_start t + bytes_of v.width * product v.shape) (omega (arith, file-long, full)) in
       let same : table (product v.shape) (file_value t v) ≡ xs =
-      ap (λ (n : ℕ). table n (file_value t v)) (sym many) ∙ (table_same (file_value t v) (λ k. get_or xs k nan) (length xs) file_value_lem ∙ table-all nan xs) in
+      ap (λ (n : ℕ). table n (file_value t v)) (sym many) ∙ (table_same (file_value t v) (λ k. get_or xs k nan) (length xs) file_value_lem ∙
+      table-all nan xs) in
       subst (λ (z : List Float). Reading t old (Done (word_of (head_of v.shape))) z)
       (ap₂ (λ (a : List Float) (n : ℕ). a ++ drop n old) same (sym many))
       (Reading.done v form-says room all)

@@ -1,8 +1,10 @@
 -- A file whose header has at most 65,535 bytes is judged by its first 98,316 bytes: twelve, that header, 4,096 values,
 -- and one byte that would be too many. So a program may stop reading there. A byte is at most 255, so in version 1.0 no
 -- header is longer; in version 2.0 that is asked for.
-use Rattle.std.specs.Prelude.{ℕ, zero, suc, ◌+◌, ◌-◌, ◌*◌, ◌≤◌, ◌<◌, List, [], ◌∷◌, ◌++◌, Bool, true, false, ◌&&◌, ◌||◌, ◌≡◌, refl, leb, ltb, eqb, length, get_or, take, drop, Float}
-use Rattle.std.proofs.Common.{sym, ap, ap₂, ◌∙◌, subst, arith, length-take, length-take-le, get_or-take, take-take, take_all, leb-true, leb-false, le-leb, ltb-true, ltb-false, ne_eqb}
+use Rattle.std.specs.Prelude.{ℕ, zero, suc, ◌+◌, ◌-◌, ◌*◌, ◌≤◌, ◌<◌, List, [], ◌∷◌, ◌++◌, Bool, true, false, ◌&&◌}
+use Rattle.std.specs.Prelude.{◌||◌, ◌≡◌, refl, leb, ltb, eqb, length, get_or, take, drop, Float}
+use Rattle.std.proofs.Common.{sym, ap, ap₂, ◌∙◌, subst, arith, length-take, length-take-le, get_or-take, take-take}
+use Rattle.std.proofs.Common.{take_all, leb-true, leb-false, le-leb, ltb-true, ltb-false, ne_eqb}
 use Rattle.std.proofs.lemmas.Bool.{lt-leb}
 use Rattle.lists.specs.Test.{and_left, and_right, decide}
 use Rattle.model.specs.declared.Answer.{Answer}

@@ -1,6 +1,7 @@
 -- Two files whose headers say the same, whatever their blanks, order of keys, quotes and closing commas, and whose data
 -- are the same, read the same; limits are the shape; and every byte of a file that is read is accounted for.
-use Rattle.std.specs.Prelude.{ℕ, zero, suc, ◌+◌, ◌-◌, ◌*◌, ◌≤◌, ◌<◌, List, [], ◌∷◌, ◌++◌, Bool, true, false, ◌&&◌, ◌||◌, ◌≡◌, refl, leb, eqb, length, get_or, take, drop, Float}
+use Rattle.std.specs.Prelude.{ℕ, zero, suc, ◌+◌, ◌-◌, ◌*◌, ◌≤◌, ◌<◌, List, [], ◌∷◌, ◌++◌, Bool, true, false, ◌&&◌}
+use Rattle.std.specs.Prelude.{◌||◌, ◌≡◌, refl, leb, eqb, length, get_or, take, drop, Float}
 use Rattle.std.proofs.Common.{sym, ap, ap₂, ◌∙◌, subst, arith, length-drop, take-append-drop, get_or-drop, drop-drop, eqb-true, eq-eqb, ne_eqb, leb-true}
 use Rattle.std.specs.Float.Ieee.{of_bits}
 use Rattle.std.specs.Float.{binary32, binary64}

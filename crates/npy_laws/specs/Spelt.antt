@@ -187,7 +187,8 @@ module _ (s : List ℕ) (h : all_in_range s ≡ true) (n : ℕ) where
       }
 
   pub written-right : Right (head_out n s) (record { width = text.eight; order = text.rows; shape = s })
-  unfolding written header_text item_text quoted quote_byte key_word key_of value_text width_word order_word close_text head_out dict_out bytes Agrees no-blanks one-space
+  unfolding written header_text item_text quoted quote_byte key_word key_of value_text width_word order_word close_text head_out dict_out
+      bytes Agrees no-blanks one-space
   written-right =
       record {
         header = written;

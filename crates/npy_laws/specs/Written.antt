@@ -94,7 +94,8 @@ module _ (newer : Bool) (w : ℕ) (a : List Float) (file : List ℕ) (good : goo
   written_is =
       rw open-gate
       (take-over (file_out newer s xs) file (file_length w)
-      (file-long s (shape-good (header_of w) (good_word_lem w good)) newer xs many ∙ ap (λ (k : ℕ). 128 + 8 * k) (length-take-le (stored (header_of w)) a full)))
+      (file-long s (shape-good (header_of w) (good_word_lem w good)) newer xs many ∙ ap (λ (k : ℕ). 128 + 8 * k) (length-take-le
+      (stored (header_of w)) a full)))
 
   pub written_back : all_fit xs → (out : List Float) → length xs ≤ length out
       → Reading (take (file_length w) (write_file newer w a file)) out (Done (word_of (head_of s))) (xs ++ drop (length xs) out)

@@ -1,9 +1,8 @@
 -- Places of a text and what is left of it there.
-use Rattle.std.specs.Prelude.{ℕ, zero, suc, ◌+◌, ◌-◌, ◌*◌, ◌≤◌, ◌<◌, min, List, [], ◌∷◌, ◌++◌, Bool, true, false, ◌&&◌, ◌||◌, cond, ◌≡◌, refl, leb, eqb, length, get_or, drop}
+use Rattle.std.specs.Prelude.{ℕ, ◌+◌, ◌-◌, ◌*◌, ◌≤◌, ◌<◌, List, [], ◌∷◌, Bool, true, false, cond, ◌≡◌, eqb, length, get_or, drop}
 use Rattle.std.proofs.Math.Path.{sym, ap}
-use Rattle.std.proofs.Common.{◌∙◌, arith, add-one, drop_of_length-le, drop-cons, eqb-true, eq-eqb, ne_eqb}
+use Rattle.std.proofs.Common.{◌∙◌, arith, add-one, drop_of_length-le, drop-cons, eq-eqb, ne_eqb}
 use Rattle.std.proofs.Math.Seq.{drop-length}
-use Rattle.std.proofs.lemmas.Bool.{eqb-false}
 use Rattle.npy_grammar.specs.Text.{is_blank, is_lead, is_space, is_digit}
 use Rattle.npy_grammar.specs.Reading.{strip, eat, eats, peek, past_number, cap, digits_at, number_at}
 
@@ -89,7 +88,8 @@ module _ (t : List ℕ) where
     pub small : n ≤ 255
     pub left : x ≡ digits_at n (drop k t)
 
-  pub counting_more : {x k n m : ℕ} → Counting x k n → k < length t → is_digit (get_or t k 0) ≡ true → m ≡ cap (10 * n + (get_or t k 0 - 48)) → Counting x (k + 1) m
+  pub counting_more : {x k n m : ℕ} → Counting x k n → k < length t → is_digit (get_or t k 0) ≡ true → m ≡ cap (10 * n +
+      (get_or t k 0 - 48)) → Counting x (k + 1) m
   unfolding digits_at
   counting_more {x} {k} {n} c h d e =
       record { inside = omega arith; small = omega (arith, e); left = c.left ∙ (ap (digits_at n) (here k h) ∙ rw (d, e)) }
@@ -106,7 +106,8 @@ module _ (t : List ℕ) where
   unfolding number_at
   value-nought p h e = sym (ap number_at (here p h) ∙ rw (eq-eqb (get_or t p 0) 48 e))
 
-  pub value-digits : (p : ℕ) {r b : ℕ} → p < length t → (get_or t p 0 ≡ 48 → ⊥) → b ≡ get_or t p 0 - 48 → r ≡ digits_at b (drop (p + 1) t) → r ≡ number_at (drop p t)
+  pub value-digits : (p : ℕ) {r b : ℕ} → p < length t → (get_or t p 0 ≡ 48 → ⊥) → b ≡ get_or t p 0 - 48 → r ≡ digits_at b (drop (p + 1) t) →
+      r ≡ number_at (drop p t)
   unfolding number_at
   value-digits p {r} {b} h e q d = d ∙ (ap (λ (y : ℕ). digits_at y (drop (p + 1) t)) q ∙ sym (ap number_at (here p h) ∙ rw (ne_eqb (get_or t p 0) 48 e)))
 

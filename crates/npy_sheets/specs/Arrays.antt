@@ -12,7 +12,8 @@ use Rattle.sheet_text.specs.Put.{Put}
 
 -- all that is printed for a text
 unfoldable pub array_text : Bool → List ℕ → List ℕ
-array_text newer t = cond (is_answer t) (file_out newer (shape_of (header_of (head_word t))) (answer_values t)) (cond (is_refusal t) t (refused_text (refused_by 8)))
+array_text newer t = cond (is_answer t) (file_out newer (shape_of (header_of (head_word t))) (answer_values t)) (cond (is_refusal t) t
+    (refused_text (refused_by 8)))
 
 -- the memory for the coefficients, afterwards
 unfoldable pub array_memory : List ℕ → List Float → List Float

@@ -92,4 +92,5 @@ array-front newer t =
     (λ a. ap (array_text newer) (take_all answer_at_most t (leb-true (length t) answer_at_most a)))
     (λ a.
     let l = leb-false (length t) answer_at_most a in
-    other_text (take answer_at_most t) newer (omega (arith, l, length-take-le answer_at_most t (omega (arith, l)))) ∙ sym (other_text t newer (omega (arith, l))))
+    other_text (take answer_at_most t) newer (omega (arith, l, length-take-le answer_at_most t (omega (arith, l)))) ∙ sym (other_text t
+    newer (omega (arith, l))))

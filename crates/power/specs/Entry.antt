@@ -15,7 +15,7 @@ use Rattle.shape_words.specs.Rules.{Ruled, Regular, ruled-at}
 use Rattle.shape_words.specs.Lengths.{lengths_of_lem}
 use Rattle.shape.specs.Announced.{single-limits}
 use Rattle.gates.specs.Gate.{WorkReady}
-use Rattle.laws_keeps.specs.PowerKeeps.{power-keeps}
+use Rattle.laws_keeps.proofs.PowerKeeps.{power-keeps}
 use Rattle.product.specs.Room.{Under}
 use Rattle.power.specs.Room.{power_block, power_shape, Powers}
 
@@ -36,7 +36,8 @@ limits-under e g h =
 
 module _ {e w ma mo ms : ℕ} (g : WorkReady (Power e) w ma mo ms) where
   -- what the kernel is lent
-  pub entry-powers : {x h : Header} {n : ℕ} → x ≡ header_of w → h ≡ announced (Power e) (header_of w) no_header → n ≡ stored h → {kw ko : ℕ} → kw ≡ 8 * n → ko ≡ n
+  pub entry-powers : {x h : Header} {n : ℕ} → x ≡ header_of w → h ≡ announced (Power e) (header_of w) no_header → n ≡ stored h → {kw ko : ℕ}
+      → kw ≡ 8 * n → ko ≡ n
       → Powers x.lengths h.limits e n kw ko
   entry-powers {x} {h} ex eh en pw po =
       let r = g.one.good.regular in

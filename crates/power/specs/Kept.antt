@@ -15,7 +15,7 @@ use Rattle.model.specs.Product.{constant_block, multiplied}
 use Rattle.model.specs.Power.{squared}
 use Rattle.shape_words.specs.Lengths.{Lengths, count-pos, count_most}
 use Rattle.laws_keeps.specs.Sits.{Sits}
-use Rattle.laws_keeps.specs.Running.{multiplied-fits}
+use Rattle.laws_keeps.proofs.Running.{multiplied-fits}
 use Rattle.product.specs.Room.{Under, Room, Stands, Made}
 use Rattle.product.specs.Ways.{under-lengths, under-sits, sits-under, count_less, shape-under, shape-left, shape-right}
 use Rattle.product.specs.Times.{cut-none}

@@ -13,7 +13,8 @@ use Rattle.model.specs.Product.{constant_block, multiplied}
 use Rattle.model.specs.Power.{squared}
 use Rattle.laws_keeps.specs.Sits.{Sits, sum_at_lem}
 use Rattle.laws_keeps.specs.Running.{Most, constant-most}
-use Rattle.laws_keeps.specs.PowerKeeps.{halves, product-most, bit-most, squared-most}
+use Rattle.laws_keeps.specs.PowerKeeps.{halves}
+use Rattle.laws_keeps.proofs.PowerKeeps.{product-most, bit-most, squared-most}
 use Rattle.product.specs.Room.{Under}
 use Rattle.product.specs.Ways.{count_less, sits-under, shape-left, shape-right}
 use Rattle.power.specs.Room.{power_block, power_shape, taken}

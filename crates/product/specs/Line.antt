@@ -20,7 +20,8 @@ use Rattle.product.specs.Chosen.{chosen, plain_product}
 use Rattle.shape_words.specs.Lengths.{Lengths, count-pos}
 use Rattle.laws_keeps.specs.Sits.{Sits, sits-more, sum_at_lem, max-at}
 use Rattle.laws_keeps.specs.Ways.{linear-is, line_two_lem}
-use Rattle.laws_keeps.specs.ProductKeeps.{product-sits, constant-sits}
+use Rattle.laws_keeps.proofs.ProductKeeps.{product-sits}
+use Rattle.laws_keeps.specs.ProductKeeps.{constant-sits}
 use Rattle.product.specs.Room.{Caps, Under, RaisesTo, Plain, Joins, Lies, Room, LineRoom, Whole, LineWhole, Put, Stands, Made}
 use Rattle.product.specs.Ways.{under-lengths, count_less, under-sits, sits-under, shape-under, shape-left}
 use Rattle.product.specs.Ways.{shape-right, grown-under, grown_in, grown-fits, ones-under, shape_one, put-stands}

@@ -140,7 +140,8 @@ module _ (w ma u mb mo ms : ℕ) where
       let t3 = and_left ((ltb 1 n && leb m 2) && leb n ma) (leb m mb) t4 in
       let t2 = and_left (ltb 1 n && leb m 2) (leb n ma) t3 in
       let o =
-      owns-it w ma u mb mo ms refl refl good (keeps_header_lem _ _ keep) (and_right (good_word w && keeps_header (header_of w) (header_of u)) (eqb (u % 2 ^ 5) 0) f)
+      owns-it w ma u mb mo ms refl refl good (keeps_header_lem _ _ keep) (and_right
+      (good_word w && keeps_header (header_of w) (header_of u)) (eqb (u % 2 ^ 5) 0) f)
       refl refl
       (ltb-true _ _ (and_left (ltb 1 n) (leb m 2) t2)) (leb-true _ _ (and_right (ltb 1 n) (leb m 2) t2))
       (leb-true _ _ (and_right (ltb 1 n && leb m 2) (leb n ma) t3))

@@ -27,8 +27,8 @@ use Rattle.blocks.specs.Rows.{Inner, inner_of}
 use Rattle.blocks.specs.Same.{same_lengths, same-is, same_count, cut_all}
 use Rattle.blocks.specs.Two.{Two, Holds, cut_places, cut-is}
 use Rattle.laws_keeps.specs.Sits.{Sits}
-use Rattle.laws_keeps.specs.Running.{multiplied-fits}
-use Rattle.laws_keeps.specs.ProductKeeps.{product-keeps}
+use Rattle.laws_keeps.proofs.Running.{multiplied-fits}
+use Rattle.laws_keeps.proofs.ProductKeeps.{product-keeps}
 use Rattle.product.specs.Room.{Under, Room, Times, Whole, Put, Stands, Made}
 use Rattle.product.specs.Ways.{under-lengths, count_less, shape-under, shape-left, shape-right}
 
@@ -49,7 +49,8 @@ pub zero_is : (a b : Block) {x y : Bool} → x ≡ is_zero a → y ≡ is_zero b
 zero_is a b ex ey = rw (ex, ey)
 
 module _ (limits : List ℕ) (a b : Block) where
-  pub zero_put_lem : {d out : List Float} {r : List ℕ} → (is_zero a || is_zero b) ≡ true → Put (constant_block zero_f) d out r → Put (multiplied limits a b) d out r
+  pub zero_put_lem : {d out : List Float} {r : List ℕ} → (is_zero a || is_zero b) ≡ true → Put (constant_block zero_f) d out r → Put
+      (multiplied limits a b) d out r
   unfolding multiplied
   zero_put_lem t p = rw t p
 
@@ -225,7 +226,8 @@ product_lengths_lem a b = refl
 
 module _ {w u ma mb mo ms : ℕ} (g : PairReady Product w ma u mb mo ms) where
   -- what the kernel is lent
-  pub entry-times : {x y h : Header} {na nb n : ℕ} → x ≡ header_of w → y ≡ header_of u → h ≡ announced Product x y → na ≡ stored x → nb ≡ stored y → n ≡ stored h
+  pub entry-times : {x y h : Header} {na nb n : ℕ} → x ≡ header_of w → y ≡ header_of u → h ≡ announced Product x y → na ≡ stored x → nb ≡
+      stored y → n ≡ stored h
       → {ka kb ko kw : ℕ} → ka ≡ na → kb ≡ nb → ko ≡ n → kw ≡ 8 * n → Times x.lengths y.lengths h.limits n ka kb ko kw
   entry-times {x} {y} {h} ex ey eh ea eb en pa pb po pw =
       let gx : Ruled x = rw ex g.good_a.regular.rules in

@@ -2,7 +2,8 @@
 -- line; ys rows of ty, and ny.
 use Rattle.std.specs.Prelude.{ℕ, suc, ◌+◌, ◌-◌, ◌*◌, ◌/◌, ◌%◌, ◌≤◌, ◌<◌, min, true, ◌≡◌, take, drop, Float}
 use mathlib.Core.List.{List, ◌++◌}
-use Rattle.std.proofs.Common.{sym, ap, ◌∙◌, arith, mul-one, suc-mul, mul-le-mul_right, le_refl, div-add-mod', mod-lt, div-lt_iff_lt-mul, length-take, length-drop, drop-drop}
+use Rattle.std.proofs.Common.{sym, ap, ◌∙◌, arith, mul-one, suc-mul, mul-le-mul_right, le_refl, div-add-mod', mod-lt}
+use Rattle.std.proofs.Common.{div-lt_iff_lt-mul, length-take, length-drop, drop-drop}
 use Rattle.std.proofs.Math.Nat.{mod-eq_of_lt, div-eq_of_lt}
 use Rattle.std.proofs.Math.ListN.{length, get_or}
 use Rattle.std.proofs.Math.Seq.{get_or-drop, get_or-take}
@@ -174,7 +175,8 @@ module _ (lx ly r : List ℕ) (g : Lengths r) {v : ℕ} (m : Several r v) (z : T
       (steps (at lx v) (at ly v) (at i v)) (lo (at ly v) (at i v)) acc
       (λ j a c y. product-line lx ly r i (v + 1) _ _ y w t) ∙ rw (h, b)))
 
-  pub rows-plane : (xs ys old : List Float) {tx ty s : ℕ} {new : List Float} → tx ≡ in_row lx v → ty ≡ in_row ly v → s ≡ in_row r v → length old ≡ span r (4 - v) v
+  pub rows-plane : (xs ys old : List Float) {tx ty s : ℕ} {new : List Float} → tx ≡ in_row lx v → ty ≡ in_row ly v → s ≡ in_row r v → length
+      old ≡ span r (4 - v) v
       → new ≡ plane_of xs (at lx v) tx (at lx (v + 1)) ys (at ly v) ty (at ly (v + 1)) s old → new ≡ rows_of lx ly r v xs ys old
   unfolding rows_of plane_of
   rows-plane xs ys old ex ey es n e =

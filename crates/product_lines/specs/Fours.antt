@@ -152,10 +152,14 @@ module _ {xs ys : List Float} {k a j : ℕ} {o0 o1 o2 o3 s0 s1 s2 s3 : Float} (w
       }
 
   pub walking-two : j + 1 ≤ k → Walking xs ys k a (j + 2) o0 o1 o2 o3
-      (add binary64 (add binary64 s0 (mul binary64 (get_or xs j nan) (get_or ys (k - j) nan))) (mul binary64 (get_or xs (j + 1) nan) (get_or ys (k - j - 1) nan)))
-      (add binary64 (add binary64 s1 (mul binary64 (get_or xs j nan) (get_or ys (k - j + 1) nan))) (mul binary64 (get_or xs (j + 1) nan) (get_or ys (k - j) nan)))
-      (add binary64 (add binary64 s2 (mul binary64 (get_or xs j nan) (get_or ys (k - j + 2) nan))) (mul binary64 (get_or xs (j + 1) nan) (get_or ys (k - j + 1) nan)))
-      (add binary64 (add binary64 s3 (mul binary64 (get_or xs j nan) (get_or ys (k - j + 3) nan))) (mul binary64 (get_or xs (j + 1) nan) (get_or ys (k - j + 2) nan)))
+      (add binary64 (add binary64 s0 (mul binary64 (get_or xs j nan) (get_or ys (k - j) nan))) (mul binary64 (get_or xs (j + 1) nan)
+      (get_or ys (k - j - 1) nan)))
+      (add binary64 (add binary64 s1 (mul binary64 (get_or xs j nan) (get_or ys (k - j + 1) nan))) (mul binary64 (get_or xs (j + 1) nan)
+      (get_or ys (k - j) nan)))
+      (add binary64 (add binary64 s2 (mul binary64 (get_or xs j nan) (get_or ys (k - j + 2) nan))) (mul binary64 (get_or xs (j + 1) nan)
+      (get_or ys (k - j + 1) nan)))
+      (add binary64 (add binary64 s3 (mul binary64 (get_or xs j nan) (get_or ys (k - j + 3) nan))) (mul binary64 (get_or xs (j + 1) nan)
+      (get_or ys (k - j + 2) nan)))
   walking-two h =
       record {
         w0 = term-two xs ys k w.w0 refl refl refl (omega arith);

@@ -112,7 +112,8 @@ index-row r i = refl
 module _ {lx r : List ℕ} {k mr : ℕ} (xs : List Float) (t : Adding lx r k (length xs) mr) where
   -- a place of the row that the dividend reaches
   row-joined : k < at lx 0 → (i : ℕ) (z : Float) → i < in_row r 0
-      → join_at false z (block (row_lengths lx) (drop (k * in_row lx 0) xs)) (index (row_lengths r) i) ≡ join_at false z (block lx xs) (index r (k * in_row r 0 + i))
+      → join_at false z (block (row_lengths lx) (drop (k * in_row lx 0) xs)) (index (row_lengths r) i) ≡ join_at false z (block lx xs)
+      (index r (k * in_row r 0 + i))
   unfolding join_at
   row-joined h i z l =
       let o = split_at r t.result k i 0 (omega arith) t.turn l in

@@ -49,7 +49,8 @@ module _ {lx ly sy r sr : List ℕ} (g : Dividing ly sy r sr) {nx k p q b f mr :
       → row1 ≡ table (in_row r 0) (taken_at ly r 0 k (part q (q + k * at sr 0) w) (part b f w)) → row2 ≡ table (length row1) (negated_at row1)
       → row3 ≡ table (in_row r 0) (λ i. join_at false (get_or row2 i nan) (block lx (take nx w))
       (index r (k * in_row r 0 + i))) → row4 ≡ take (length (part p (p + at sr 0) w)) row3
-      → Laid p (table (in_row r 0) (first_at lx (take nx w) ly r k (part q (q + k * in_row r 0) w) (part b f w))) (length w) w (put_mid p (p + at sr 0 - p) w row4)
+      → Laid p (table (in_row r 0) (first_at lx (take nx w) ly r k (part q (q + k * in_row r 0) w) (part b f w))) (length w) w (put_mid p
+      (p + at sr 0 - p) w row4)
   first-gathered {row1} {row2} {row3} {row4} e1 e2 e3 e4 =
       let s : ℕ = in_row r 0 in
       let done : ℕ → List Float = λ x. part q (q + k * x) w in
@@ -59,7 +60,8 @@ module _ {lx ly sy r sr : List ℕ} (g : Dividing ly sy r sr) {nx k p q b f mr :
       λ i l.
       ap (λ (z : List Float). get_or z i nan) e2
       ∙ (table_at nan (negated_at row1) (length row1) i (omega arith)
-      ∙ ap neg (ap (λ (z : List Float). get_or z i nan) e1 ∙ (table_at nan _ s i l ∙ ap (λ (z : ℕ). taken_at ly r 0 k (done z) (part b f w) i) first_stride))) in
+      ∙ ap neg (ap (λ (z : List Float). get_or z i nan) e1 ∙ (table_at nan _ s i l ∙ ap (λ (z : ℕ). taken_at ly r 0 k (done z) (part b f w)
+      i) first_stride))) in
       let x3 : row3 ≡ table s (first_at lx (take nx w) ly r k (done s) (part b f w)) =
       e3 ∙ table_same _ _ s (λ i l. ap (λ (z : Float). join_at false z (block lx (take nx w)) (index r (k * s + i))) (x2 i l)) in
       let m : ℕ = p + at sr 0 - p in

@@ -1,6 +1,8 @@
 -- A list laid into a buffer: from q on it holds xs, and every other place below e is as it was.
 use Rattle.std.specs.Prelude.{ℕ, ◌+◌, ◌-◌, ◌≤◌, ◌<◌, List, [], ◌∷◌, ◌++◌, ◌≡◌, refl, ltb, length, get_or, take, drop, set, Float}
-use Rattle.std.proofs.Common.{sym, ap, ◌∙◌, arith, add-zero, le_refl, add-one, length-append, length-drop, length-set, get_or-append-add, get_or-set_same, get_or-set_other, get_or-take, get_or-drop, length-take-le, ltb-true, ltb-false}
+use Rattle.std.proofs.Common.{sym, ap, ◌∙◌, arith, add-zero, le_refl, add-one, length-append, length-drop}
+use Rattle.std.proofs.Common.{length-set, get_or-append-add, get_or-set_same, get_or-set_other, get_or-take}
+use Rattle.std.proofs.Common.{get_or-drop, length-take-le, ltb-true, ltb-false}
 use Rattle.std.proofs.Math.ListN.{get_or-append}
 use Rattle.std.specs.Float.{nan}
 use borrow.Rule.Slice.PartMut.{put_mid}

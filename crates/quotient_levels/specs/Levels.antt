@@ -141,7 +141,8 @@ module _ {ly sy r sr : List ℕ} (g : Dividing ly sy r sr) {v p e q b f mr : ℕ
   rows_none = let z : 0 * in_row r v ≡ 0 = omega arith in rw z laid_none
 
   -- all of them
-  pub rows_all : {k : ℕ} {w' : List Float} → k ≡ at r v → Laid q (rows_laid ly r v p e b f w k) e w w' → Laid q (level_of ly r (part b f w) v (part p e w)) e w w'
+  pub rows_all : {k : ℕ} {w' : List Float} → k ≡ at r v → Laid q (rows_laid ly r v p e b f w k) e w w' → Laid q (level_of ly r (part b f w)
+      v (part p e w)) e w w'
   unfolding level_of
   rows_all {k} ek a =
       let z : k * in_row r v ≡ span r (4 - v) v = rw ek (sym (span_more r t.some)) in

@@ -28,7 +28,8 @@ use Rattle.quotient_levels.specs.Gather.{span_in, part_at}
 -- a place from those before it, done; c0 is its c
 abbrev line_at : List ℕ → ℕ → List Float → List Float → Float → ℕ → Float
 line_at ly v done ys c0 k =
-    div binary64 (walk passed (4 - (v + 1)) (v + 1) (add binary64 (neg (walk (term done ys k) (k - lo (at ly v) k) (lo (at ly v) k) zero_f)) c0)) (get_or ys 0 nan)
+    div binary64 (walk passed (4 - (v + 1)) (v + 1) (add binary64 (neg (walk (term done ys k) (k - lo (at ly v) k) (lo (at ly v) k) zero_f))
+    c0)) (get_or ys 0 nan)
 
 line_at_lem : {ly r : List ℕ} {v k : ℕ} (g : Single ly r v) → k < at r v → (done ys : List Float) → length done ≡ k
     → (c : List Float) → level_at ly r ys v c done ≡ line_at ly v done ys (get_or c k nan) k
@@ -91,13 +92,15 @@ module _ {ly r : List ℕ} {v p e q b f : ℕ} (w : List Float) (t : Line ly r v
         let e1 : part q (q + k) w1 ≡ done = laid-part a (q + k) (omega arith) (omega arith) in
         let e2 : part b f w1 ≡ ys = laid-under a b f (omega arith) (omega arith) (omega arith) in
         let e3 : get_or w1 (p + k) nan ≡ get_or c k nan = a.high (p + k) (omega arith) (omega arith) ∙ sym (part_at p e w k (omega arith)) in
-        let e4 : get_or w1 b nan ≡ get_or ys 0 nan = a.low b (omega arith) ∙ sym (part_at b f w 0 (omega arith) ∙ ap (λ (x : ℕ). get_or w x nan) (add-zero b)) in
+        let e4 : get_or w1 b nan ≡ get_or ys 0 nan = a.low b (omega arith) ∙ sym (part_at b f w 0 (omega arith) ∙ ap
+        (λ (x : ℕ). get_or w x nan) (add-zero b)) in
         let ev : div binary64 y (get_or w1 b nan) ≡ level_at ly r ys v c done = rw (ey, ez, e1, e2, e3, e4, ei) (sym (line_at_lem t.single l done ys nd c)) in
         rw (grow-more k (level_at ly r ys v c) [], ← ev)
         (laid_append a (omega arith) (laid-set w1 (q + k) (div binary64 y (get_or w1 b nan)) e (omega arith))
         (le_refl e))
 
-  pub line-all : {k : ℕ} {w' : List Float} → k ≡ at r v → Laid q (line_laid ly r v p e b f w k) e w w' → Laid q (level_of ly r (part b f w) v (part p e w)) e w w'
+  pub line-all : {k : ℕ} {w' : List Float} → k ≡ at r v → Laid q (line_laid ly r v p e b f w k) e w w' → Laid q (level_of ly r (part b f w)
+      v (part p e w)) e w w'
   unfolding level_of
   line-all {k} ek a =
       let z : k ≡ span r (4 - v) v = ek ∙ sym (span_more r t.single.some ∙ rw t.single.one (mul-one (at r v))) in

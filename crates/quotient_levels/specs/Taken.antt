@@ -57,7 +57,8 @@ pub taken_end : (ly r : List ℕ) (v k : ℕ) (done ys : List Float) {tx ty a j 
     → tx ≡ in_row r v → ty ≡ in_row ly v → a ≡ lo (at ly v) k → j ≡ a + (k - a)
     → row ≡ table (in_row r v) (taken_at ly r v k done ys)
 taken_end ly r v k done ys {tx} {ty} {a} {j} {n} {old} {row} p z m ex ey ea e =
-    let o : (q : ℕ) → q < in_row r v → get_or old q nan ≡ zero_f = λ q l. ap (λ (x : List Float). get_or x q nan) z ∙ table_at nan (λ i. zero_f) n q (omega arith) in
+    let o : (q : ℕ) → q < in_row r v → get_or old q nan ≡ zero_f = λ q l. ap (λ (x : List Float). get_or x q nan) z ∙ table_at nan (λ i.
+    zero_f) n q (omega arith) in
     paired_end (k - a) p e ∙ table_same _ _ (in_row r v) (λ q l. rw (o q l, ex, ey, ea))
 
 -- ---- a row of one place

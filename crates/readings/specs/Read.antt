@@ -24,7 +24,8 @@ module _ (w : ℕ) (a : List Float) (i : List ℕ) where
 
   pub coefficient-stored : inside (header_of w).lengths i ≡ true → get_or a (place (header_of w).lengths i) nan ≡ coefficient_at (block_of (held w a)) i
   unfolding coefficient_at
-  coefficient-stored t = rw t (sym (get_or-take (stored (header_of w)) a (place (header_of w).lengths i) nan (place-lt (header_of w).lengths i (inside_is _ i t))))
+  coefficient-stored t = rw t (sym (get_or-take (stored (header_of w)) a (place (header_of w).lengths i) nan (place-lt (header_of w).lengths
+      i (inside_is _ i t))))
 
   pub coefficient-past : inside (header_of w).lengths i ≡ false → zero_f ≡ coefficient_at (block_of (held w a)) i
   unfolding coefficient_at

@@ -8,7 +8,8 @@ use Rattle.model.specs.Word.{word_of}
 use Rattle.model.specs.Refusals.{cleared}
 use Rattle.model_recipes.specs.Recipe.{Recipe, announced_steps, total, largest}
 use Rattle.model_recipes.specs.Check.{check_refusal}
-use Rattle.model_recipes.specs.Run.{step_values, laid, zero_pool, zero_words, lent_refusal, run_stop, run_refusal, run_end, run_answer, run_pool, run_words, run_scratch}
+use Rattle.model_recipes.specs.Run.{step_values, laid, zero_pool, zero_words, lent_refusal, run_stop, run_refusal}
+use Rattle.model_recipes.specs.Run.{run_end, run_answer, run_pool, run_words, run_scratch}
 use Rattle.recipes_check.specs.Asks.{or-none}
 use Rattle.recipes_laws.specs.Ends.{end_refused, end-stopped, end-done}
 use Rattle.recipes_laws.specs.Refuses.{Lent, lent-enough}

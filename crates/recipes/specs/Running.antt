@@ -3,7 +3,9 @@ use Prim.Native.Nat.{ℕ, zero, suc, ◌+◌, ◌-◌, ◌*◌, ◌≤◌, ◌<�
 use Rattle.std.specs.Prelude.{Bool, true, false, ◌≡◌, ltb, leb, eqb, get_or, set, Float}
 use mathlib.Core.List.{List, [], ◌∷◌, ◌++◌, map, append_assoc, append-nil}
 use Rattle.std.proofs.Math.Path.{refl, sym, ap}
-use Rattle.std.proofs.Common.{◌∙◌, arith, add-one, length-set, take-append-drop, take-suc, take-add, take-take, drop-drop, get_or-set_same, get_or-set_other, eqb-true, le-leb, ltb-true, le-ltb, lt-ltb, leb-true, leb-false}
+use Rattle.std.proofs.Common.{◌∙◌, arith, add-one, length-set, take-append-drop, take-suc, take-add, take-take}
+use Rattle.std.proofs.Common.{drop-drop, get_or-set_same, get_or-set_other, eqb-true, le-leb, ltb-true, le-ltb}
+use Rattle.std.proofs.Common.{lt-ltb, leb-true, leb-false}
 use Rattle.std.proofs.Math.ListN.{length, take, drop, length-drop, length-map, get_or-append}
 use Rattle.std.proofs.Math.Seq.{take_all, length-take-le, get_or-drop, get_or-take, ext_get_or}
 use Rattle.std.proofs.lemmas.List.{drop-append-le, get_or_at}

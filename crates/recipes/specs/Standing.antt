@@ -1,7 +1,10 @@
 -- Where the values of a run's places stand: an input's among the coefficients, a step's in the pool, each from its
 -- start on.
-use Rattle.std.specs.Prelude.{ℕ, zero, suc, ◌+◌, ◌-◌, ◌*◌, ◌^◌, ◌≤◌, ◌<◌, Bool, true, false, List, [], ◌∷◌, ◌++◌, map, ◌≡◌, refl, ltb, eqb, length, get_or, set, take, drop, Float}
-use Rattle.std.proofs.Common.{sym, ap, ◌∙◌, arith, add-one, length-append, length-drop, length-set, take_at, take-take, drop_at, drop-drop, length-take-le, get_or-drop, get_or-take, get_or-set_same, get_or-set_other, take-suc, eqb-true}
+use Rattle.std.specs.Prelude.{ℕ, zero, suc, ◌+◌, ◌-◌, ◌*◌, ◌^◌, ◌≤◌, ◌<◌, Bool, true, false, List, [], ◌∷◌, ◌++◌}
+use Rattle.std.specs.Prelude.{map, ◌≡◌, refl, ltb, eqb, length, get_or, set, take, drop, Float}
+use Rattle.std.proofs.Common.{sym, ap, ◌∙◌, arith, add-one, length-append, length-drop, length-set, take_at}
+use Rattle.std.proofs.Common.{take-take, drop_at, drop-drop, length-take-le, get_or-drop, get_or-take}
+use Rattle.std.proofs.Common.{get_or-set_same, get_or-set_other, take-suc, eqb-true}
 use Rattle.std.proofs.lemmas.List.{length-map}
 use Rattle.std.proofs.Math.ListN.{get_or-append}
 use Rattle.std.specs.Float.Ieee.{of_int, of_bits}
@@ -124,7 +127,8 @@ pub starting-none : {hs old : List ℕ} → Starting hs old old 0 0
 unfolding total
 starting-none = record { begun = begun-none; is = refl; most = omega arith; small = omega arith }
 
-module _ {hs old starts : List ℕ} {f i : ℕ} (s : Starting hs old starts f i) (g : Known (input_heads hs)) {n : ℕ} (e : n ≡ stored (header_of (get_or hs i 0))) where
+module _ {hs old starts : List ℕ} {f i : ℕ} (s : Starting hs old starts f i) (g : Known (input_heads hs)) {n : ℕ} (e : n ≡ stored
+    (header_of (get_or hs i 0))) where
   pub starting-fits : length hs ≤ 64 → f + n < 2 ^ 64
   starting-fits m = omega (arith, s.small, s.most, count_most (lengths_of_lem (word_ruled hs g i)))
 

@@ -1,6 +1,6 @@
 -- The check's refusal, and the words that all places announce where there is none.
 use Rattle.std.specs.Prelude.{ℕ, ◌+◌, ◌≤◌, true, false, ◌&&◌, ◌≡◌, refl, take}
-use mathlib.Core.List.{List, [], ◌∷◌, map}
+use mathlib.Core.List.{List, [], ◌∷◌, ◌++◌, map}
 use Rattle.std.proofs.Math.Path.{sym, ap}
 use Rattle.std.proofs.Common.{◌∙◌, arith}
 use Rattle.std.proofs.Math.Dec.{leb}
@@ -117,8 +117,9 @@ accepts it e =
 -- what the places announce keeps the rules
 pub chain-known : (ed : ℕ) {known : List Header} → Known known → (ss : List ℕ) → Known (chain (announced_step ed) known ss)
 unfolding chain
-chain-known ed g [] = g
-chain-known ed g (w ∷ ss) = chain-known ed (all_snoc Regular no_header none-regular g (step-regular ed w g)) ss
+chain-known ed {known = known} g [] = g
+chain-known ed {known = known} g (w ∷ ss) = chain-known ed {known = known ++ (announced_step ed w known ∷ [])} (all_snoc Regular no_header
+    none-regular g (step-regular ed w g)) ss
 
 pub places-known : (it : Recipe) → (inputs_refusal 0 it.headers).number ≡ 0 → Known (announced_places it)
 unfolding announced_places

@@ -92,7 +92,8 @@ pub ahead_after : {ed m : ℕ} {known : List Header} {vs : List Poly} (ws : List
 unfolding chain
 ahead_after ws a zero = a
 ahead_after [] a (suc i) = a
-ahead_after (w ∷ ws) a (suc i) = ahead_after ws (ahead-next w ws a) i
+ahead_after {ed = ed} {known = known} {vs = vs} (w ∷ ws) a (suc i) =
+    ahead_after {known = known ++ (announced_step ed w known ∷ [])} {vs = vs ++ (step_value ed w vs ∷ [])} ws (ahead-next w ws a) i
 
 -- ---- a recipe, cs its inputs' coefficients
 

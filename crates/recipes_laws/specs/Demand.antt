@@ -3,8 +3,8 @@
 -- each value is the operation's value (demand 2's definition) of its operands' values.'
 -- Document 02, W13: 'Demand 3 then reads: the run finishes, or stops at the first kind 11 step whose constant is
 -- outside the range or NaN.' A stop 'leaves the announced pool and the used scratch at +0.0 and the step headers at 0'.
--- Said of definitions of the room model alone, for all words, coefficients and buffers. The theorem is `demand-3`,
--- Demanded.antt.
+-- Said of definitions of the room model alone, for all words, coefficients and buffers. The theorem is `demand_3`,
+-- proofs/Demanded.antt.
 use Rattle.std.specs.Prelude.{ℕ, ◌+◌, ◌*◌, ◌≤◌, ◌<◌, true, false, List, ◌≡◌, length, take, drop, get_or, Float}
 use Rattle.model.specs.declared.Header.{Header}
 use Rattle.model_recipes.specs.declared.Step.{Step}

@@ -37,27 +37,27 @@ module _ (it : Recipe) (cs : List Float) (pool : List Float) (words : List ℕ) 
   r = run_refusal it cs pool words scratch
 
   -- what the premises say
-  record Enough : Type 0 where
+  pub record Enough : Type 0 where
     none : (check_refusal it).number ≡ 0
     lent : Lent it (length cs) (length pool) (length words) (length scratch)
 
-  enough : Provided it cs pool words scratch → Enough
+  pub enough : Provided it cs pool words scratch → Enough
   enough p =
       let n = numbers it p.places p.most p.inputs p.accepted in
       record {
         none = n.none;
         lent = record {
           coeffs = omega (arith, n.inputs_are, p.coefficients);
-          pool = omega (arith, n.pool_is, p.pool-long);
+          pool = omega (arith, n.pool_is, p.pool_long);
           words = p.words_long;
-          scratch = omega (arith, n.most_is, p.scratch-long);
+          scratch = omega (arith, n.most_is, p.scratch_long);
         };
       }
 
   not_refused : Enough → r.number ≡ 0
   not_refused n = ap (λ (x : Refusal). x.number) (run_none it cs pool words scratch n.none n.lent)
 
-  finished : Enough → run_stop it cs ≡ no_refusal → Finished it cs pool words scratch
+  pub finished : Enough → run_stop it cs ≡ no_refusal → Finished it cs pool words scratch
   unfolding run_answer run_end
   finished n e =
       let none = n.none in
@@ -77,17 +77,9 @@ module _ (it : Recipe) (cs : List Float) (pool : List Float) (words : List ℕ) 
             };
       }
 
-  stopped-at : Enough → (i : ℕ) → FirstStop it cs i → StoppedAt it cs pool words scratch i
+  pub stopped-at : Enough → (i : ℕ) → FirstStop it cs i → StoppedAt it cs pool words scratch i
   unfolding run_answer run_pool run_words run_scratch run_end
   stopped-at n i s =
       let e = stop-at it cs i s in
       let d = end-stopped r (run_stop it cs) (not_refused n) (λ z. let k = ap (λ (x : Refusal). x.number) e in omega (arith, z, k)) in
       record { answer = rw (d, e); pool_zero = rw d; words_zero = rw d; scratch_zero = rw d }
-
-  pub demand_3 : Demand3 it cs pool words scratch
-  demand_3 =
-      record {
-        finishes = λ p f. finished (enough p) (stop-none it cs f);
-        finishes_plain = λ p f. finished (enough p) (stop-none it cs (λ i s. f i s.among s.stops.of_kind));
-        stops = λ p. stopped-at (enough p);
-      }

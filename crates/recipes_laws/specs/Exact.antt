@@ -34,7 +34,7 @@ turn_one p q e =
     (λ t. decide (eqb q 64) (λ u. absurd (omega (arith, rw (t, u) at e))) (λ u. omega (arith, rw (t, u) at e)))
 
 -- there is one first reason
-first_one : {it : Recipe} {r q : Refusal} → FirstReason it r → FirstReason it q → r ≡ q
+pub first_one : {it : Recipe} {r q : Refusal} → FirstReason it r → FirstReason it q → r ≡ q
 first_one {it} {r} {q} a b =
     let t : turn r.place ≡ turn q.place = le_antisymm (a.first _ _ b.reason) (b.first _ _ a.reason) in
     let p : r.place ≡ q.place = turn_one r.place q.place t in
@@ -83,7 +83,7 @@ module _ (it : Recipe) where
   at_none (input i v d l m b) e = absurd (omega (arith, e))
   at_none (step i n l m x) e = absurd (omega (arith, e))
 
-  first-sizes : WrongSizes it → FirstReason it (refused_at 7 64)
+  pub first-sizes : WrongSizes it → FirstReason it (refused_at 7 64)
   first-sizes x =
       record {
         reason = sizes x;
@@ -108,7 +108,7 @@ module _ (it : Recipe) where
         (decide (ltb j i) (λ t. absurd (good_none _ (g j (ltb-true j i t)) b)) (λ t. omega (arith, ltb-false j i t)))
     input-first i g l (step j n k m x) = rw (turn-place (length it.headers + j) m) (omega arith)
 
-    first-input : (i : ℕ) → i < length it.headers → GoodInputs it.headers i → good_word (get_or it.headers i 0) ≡ false
+    pub first-input : (i : ℕ) → i < length it.headers → GoodInputs it.headers i → good_word (get_or it.headers i 0) ≡ false
         → FirstReason it (bad_word (get_or it.headers i 0) i)
     first-input i l g b =
         let m : i < 64 = omega (arith, s.few) in
@@ -144,7 +144,7 @@ module _ (it : Recipe) where
       its_own (input j v d k m b) e = absurd (good_none _ (g j k) b)
       its_own (step j n k m x) e = let f : j ≡ i = omega (arith, e) in rw f at x
 
-      first_step : {r : Refusal} → r ≡ refusal_of it.edition (input_heads it.headers) it.steps i → (r.number ≡ 0 → ⊥) → FirstReason it r
+      pub first_step : {r : Refusal} → r ≡ refusal_of it.edition (input_heads it.headers) it.steps i → (r.number ≡ 0 → ⊥) → FirstReason it r
       unfolding announced_places
       first_step {r} e n =
           let t : Stopped it.edition (get_or it.steps i 0) (known i) r =
@@ -160,26 +160,20 @@ module _ (it : Recipe) where
 
   -- ---- the law
 
-  accepted-none : {r : Refusal} → Outcome it r → r.number ≡ 0 → {p n : ℕ} → Reason it p n → ⊥
+  pub accepted-none : {r : Refusal} → Outcome it r → r.number ≡ 0 → {p n : ℕ} → Reason it p n → ⊥
   accepted-none (by_sizes x) e y = omega (arith, e)
   accepted-none (at_input i s l g b) e y = omega (arith, e)
   accepted-none (at_step i r s g q l c n) e y = n e
   accepted-none (not_refused s g c) e y = none s g c y
 
-  refused-first : {r : Refusal} → Outcome it r → (r.number ≡ 0 → ⊥) → FirstReason it r
-  refused-first (by_sizes x) n = first-sizes x
-  refused-first (at_input i s l g b) n = first-input s i l g b
-  refused-first (at_step i r s g q l c m) n = first_step s g i l c q n
-  refused-first (not_refused s g c) n = absurd (n refl)
-
-  abbrev r : Refusal
+  abbrev pub r : Refusal
   r = check_refusal it
 
   -- the answer, by whether the check's refusal is none
-  yes : r.number ≡ 0 → Accepted (total (announced_steps it)) (largest (announced_steps it)) (total (input_heads it.headers)) ≡ check_answer it
+  pub yes : r.number ≡ 0 → Accepted (total (announced_steps it)) (largest (announced_steps it)) (total (input_heads it.headers)) ≡ check_answer it
   yes z = answer-yes it {r = r} refl z refl refl refl
 
-  no : (r.number ≡ 0 → ⊥) → Refused r ≡ check_answer it
+  pub no : (r.number ≡ 0 → ⊥) → Refused r ≡ check_answer it
   no n = answer_no it {r = r} refl n
 
 -- any words, any number of them
@@ -194,19 +188,3 @@ pub record Exact (it : Recipe) : Type 0 where
   pub refuses : (r : Refusal) → FirstReason it r → check_answer it ≡ Refused r
   -- and for nothing else
   pub refused : (r : Refusal) → check_answer it ≡ Refused r → FirstReason it r
-
-pub check-exact : (it : Recipe) → Exact it
-check-exact it =
-    let q = check_refusal it in
-    let o = outcome it in
-    record {
-      accepts = λ f. by-refusal q (λ z. sym (yes it z)) (λ n. absurd (f _ _ (refused-first it o n).reason));
-      accepted =
-          λ x y z e p n w. by-refusal q (λ a. accepted-none it o a w) (λ b. let c = no it b in let f : ◌≡◌ {A = ℕ} 0 1 = cc in omega (arith, f));
-      refuses =
-          λ r f. by-refusal q (λ z. absurd (accepted-none it o z f.reason))
-          (λ n. sym (no it n) ∙ ap Refused (first_one (refused-first it o n) f));
-      refused =
-          λ r e. by-refusal q (λ a. let c = yes it a in let f : ◌≡◌ {A = ℕ} 0 1 = cc in absurd (omega (arith, f)))
-          (λ n. let c = no it n in let f : q ≡ r = cc in rw f at (refused-first it o n));
-    }

@@ -28,12 +28,12 @@ use Rattle.shape.specs.Under.{Under, under_same, under_then, announced-under}
 use Rattle.shape.specs.Keeps.{Keeps, none-keeps, one-keeps}
 use Rattle.recipes_kinds.specs.Known.{Known, step-regular}
 use Rattle.laws_keeps.specs.Keeps.{negated-keeps, combined-keeps}
-use Rattle.laws_keeps.specs.ProductKeeps.{product-keeps}
+use Rattle.laws_keeps.proofs.ProductKeeps.{product-keeps}
 use Rattle.laws_keeps.specs.QuotientKeeps.{quotient-keeps}
-use Rattle.laws_keeps.specs.PowerKeeps.{power-keeps}
+use Rattle.laws_keeps.proofs.PowerKeeps.{power-keeps}
 use Rattle.laws_keeps.specs.SeriesKeeps.{exp-keeps}
 use Rattle.laws_keeps.specs.ShiftKeeps.{derivative-keeps, expansion-keeps, shift_down-keeps}
-use Rattle.laws_keeps.specs.SubstituteKeeps.{substitute-keeps}
+use Rattle.laws_keeps.proofs.SubstituteKeeps.{substitute-keeps}
 use Rattle.recipes_check.specs.Inputs.{none-good, inputs-good, first_good}
 use Rattle.recipes_laws.specs.EachKind.{by_kind}
 

@@ -39,7 +39,7 @@ use Rattle.quotient.specs.Room.{Recurring, Divides, loaded_quotient}
 use Rattle.quotient.specs.Entry.{entry-divides}
 use Rattle.quotient.specs.Into.{into-two, into-recur, same_count, loaded-is, loaded-lengths}
 use Rattle.laws_keeps.specs.Keeps.{combined-keeps}
-use Rattle.laws_keeps.specs.ProductKeeps.{product-keeps}
+use Rattle.laws_keeps.proofs.ProductKeeps.{product-keeps}
 use Rattle.laws_keeps.specs.QuotientKeeps.{quotient-keeps}
 use Rattle.shape_operands.specs.Lent.{kept_as, kept-over}
 

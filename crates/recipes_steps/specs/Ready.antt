@@ -26,12 +26,12 @@ use Rattle.shape.specs.Keeps.{Keeps}
 use Rattle.shape.specs.Under.{count_under}
 use Rattle.shape.specs.Announced.{announced-regular}
 use Rattle.laws_keeps.specs.Keeps.{negated-keeps, combined-keeps}
-use Rattle.laws_keeps.specs.ProductKeeps.{product-keeps}
+use Rattle.laws_keeps.proofs.ProductKeeps.{product-keeps}
 use Rattle.laws_keeps.specs.QuotientKeeps.{quotient-keeps}
-use Rattle.laws_keeps.specs.PowerKeeps.{power-keeps}
+use Rattle.laws_keeps.proofs.PowerKeeps.{power-keeps}
 use Rattle.laws_keeps.specs.SeriesKeeps.{exp-keeps}
 use Rattle.laws_keeps.specs.ShiftKeeps.{derivative-keeps, expansion-keeps, shift_down-keeps}
-use Rattle.laws_keeps.specs.SubstituteKeeps.{substitute-keeps}
+use Rattle.laws_keeps.proofs.SubstituteKeeps.{substitute-keeps}
 use Rattle.shape_operands.specs.Lent.{Lies, Lent, kept_as, kept_then, padded_on}
 use Rattle.recipes_singles.specs.Change.{change_family, changed_poly, Changing}
 use Rattle.recipes_pairs.specs.Pair.{pair_family, pair_poly, Pairing, pair-sum, pair-product, pair-quotient}

@@ -15,7 +15,8 @@ use Rattle.model_texts.specs.Trace.{step_word, limit_at, decider, furthest}
 use Rattle.shape_words.specs.Rules.{ruled-at}
 use Rattle.recipes_kinds.specs.Known.{small-variable}
 use Rattle.recipes_check.specs.Asks.{or-none}
-use Rattle.recipes_laws.specs.Exact.{check-exact, length-known}
+use Rattle.recipes_laws.proofs.Exact.{check-exact}
+use Rattle.recipes_laws.specs.Exact.{length-known}
 use Rattle.recipes_check.specs.Judged.{accepts, places-known}
 use Rattle.sheet_solving.specs.Opened.{headers-many, steps-many}
 use Rattle.report_trace.specs.Laws.{Operand, first, second}

@@ -9,7 +9,8 @@ use Rattle.model_texts.specs.Hex.{digit_for, hex_digit}
 use Rattle.model_texts.specs.Number.{exponent_of, hex_text}
 use Rattle.model_texts.specs.Printed.{last_digit, decimal}
 use Rattle.model_decimals.specs.Value.{minus_of, units_of}
-use Rattle.model_decimals.specs.Text.{billionths, is_exact, places, trimmed_places, point_text, rounded_text, endless_text, bits_text, float_word_text, float_text}
+use Rattle.model_decimals.specs.Text.{billionths, is_exact, places, trimmed_places, point_text, rounded_text}
+use Rattle.model_decimals.specs.Text.{endless_text, bits_text, float_word_text, float_text}
 use Rattle.decimals.specs.Long.{float-length}
 use Rattle.report_lines.specs.Columns.{Piece, piece, piece_up, piece_then, piece-either, piece_if, piece-table, number_piece}
 
@@ -50,7 +51,8 @@ unfolding float_word_text endless_text bits_text bytes hex_text
 word_piece w =
     piece-either (eqb (exponent_of w) 2047)
     (piece_up
-    (piece-either (eqb (w % 2 ^ 52) 0) (piece_then (piece_if (minus_of w) (piece 1 (bytes "-") refl)) (piece 3 (bytes "inf") refl)) (piece 4 (bytes "nan") refl))
+    (piece-either (eqb (w % 2 ^ 52) 0) (piece_then (piece_if (minus_of w) (piece 1 (bytes "-") refl)) (piece 3 (bytes "inf") refl)) (piece 4
+    (bytes "nan") refl))
     (omega arith))
     (piece-either (ltb (exponent_of w) 1086)
     (rounded_piece (minus_of w) (billionths (units_of w) (2 ^ 1074)) (is_exact (units_of w) (2 ^ 1074)))

@@ -83,4 +83,5 @@ pub inputs-lines : (hs : List ℕ) (cs : List Float) → length hs ≤ 16 → Li
 unfolding inputs_text input_text bytes in_columns column_after
 inputs-lines hs cs f =
     lines-up (lines_then (lines_if (ltb 0 (length hs)) (written 80 (bytes "What was put in: of each input its sum, and its first coefficients.\n") refl refl))
-    (lines-joined (input_text hs cs) 480 (length hs) (λ i l. input_lines_lem i (input_header hs cs i) (input_coefficients hs cs i) (omega arith)))) (omega arith)
+    (lines-joined (input_text hs cs) 480 (length hs) (λ i l. input_lines_lem i (input_header hs cs i) (input_coefficients hs cs i) (omega
+    arith)))) (omega arith)

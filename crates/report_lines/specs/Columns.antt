@@ -1,5 +1,6 @@
 -- Texts that keep to 80 columns, and how long they are: pieces of a line, the rest of a line, and lines.
-use Rattle.std.specs.Prelude.{ℕ, zero, suc, ◌+◌, ◌-◌, ◌*◌, ◌/◌, ◌^◌, ◌≤◌, ◌<◌, Bool, true, false, ◌&&◌, not, cond, List, [], ◌∷◌, ◌++◌, ◌≡◌, refl, leb, ltb, eqb, length, get_or}
+use Rattle.std.specs.Prelude.{ℕ, zero, suc, ◌+◌, ◌*◌, ◌/◌, ◌^◌, ◌≤◌, ◌<◌, Bool, true, false, ◌&&◌, not, cond, List}
+use Rattle.std.specs.Prelude.{[], ◌∷◌, ◌++◌, ◌≡◌, refl, leb, ltb, eqb, length, get_or}
 use Prim.Native.String.{String}
 use Rattle.std.proofs.Common.{append_assoc, ◌∙◌, arith, suc-mul, length-append, leb-true, le-leb, ne_eqb}
 use Rattle.lists.specs.Bytes.{bytes}

@@ -23,7 +23,8 @@ use Rattle.model_texts.specs.Trace.{uses_in, step_word, has, limit_at, is_cut, c
 use Rattle.model_texts.specs.Full.{many, endless, full_at}
 use Rattle.model_texts.specs.Whole.{passes, first_out, is_whole}
 use Rattle.model_texts.specs.Report.{pair_text, shape_text, kind_names, kind_text, fields_text, step_text, what_text, place_kind_text, variable_text}
-use Rattle.model_texts.specs.Report.{falls_text, fills_text, need_text, lowered_text, break_text, needs_front, fills_line, falls_line, needs_line, cut_text, cuts_text}
+use Rattle.model_texts.specs.Report.{falls_text, fills_text, need_text, lowered_text, break_text, needs_front}
+use Rattle.model_texts.specs.Report.{fills_line, falls_line, needs_line, cut_text, cuts_text}
 use Rattle.model_texts.specs.Report.{place_text, source, is_lowered, limit_text, decider_text, limit_has, further_text}
 use Rattle.model_texts.specs.Report.{end_front, end_line, end_text, verdict_text}
 use Rattle.shape_words.specs.Rules.{Regular, ruled-at}

@@ -1,8 +1,7 @@
 -- Printing one text after the other into lent memory, as far as it reaches. What was printed so far is a text of its
 -- own; each function appends to it.
-use Rattle.std.specs.Prelude.{ℕ, zero, suc, ◌+◌, ◌-◌, ◌≤◌, ◌<◌, min, Bool, true, false, cond, List, [], ◌∷◌, ◌++◌, ◌≡◌, refl, leb, length, take, drop}
+use Rattle.std.specs.Prelude.{ℕ, zero, suc, ◌+◌, ◌-◌, ◌≤◌, ◌<◌, min, List, [], ◌∷◌, ◌++◌, ◌≡◌, refl, leb, length, take}
 use Rattle.std.proofs.Common.{append_assoc, append-nil, sym, ap, ◌∙◌, arith, add-one, length-append, length-take, take_all, length-take-le, leb-true, leb-false}
-use Rattle.std.proofs.lemmas.List.{take-append-le}
 use Rattle.lists.specs.Grow.{over, length_over, take-over, over-over}
 use Rattle.lists.specs.Test.{decide}
 use Rattle.sheet_text.specs.Put.{Put, put_front_lem}

@@ -1,8 +1,7 @@
 -- Full lengths are counted up to 2^32, so that no sum or product of them passes 64 bits.
-use Rattle.std.specs.Prelude.{ℕ, ◌+◌, ◌-◌, ◌*◌, ◌≤◌, ◌<◌, ◌^◌, min, Bool, true, false, ◌||◌, cond, List, ◌≡◌, refl, ltb, eqb, length, get_or}
-use Rattle.std.proofs.Common.{sym, ap, ◌∙◌, arith, mul-le-mul, lt-ltb, le-ltb}
+use Rattle.std.specs.Prelude.{ℕ, ◌+◌, ◌-◌, ◌*◌, ◌≤◌, ◌<◌, ◌^◌, min, Bool, true, false, ◌||◌, cond, List, ◌≡◌, refl, eqb, length, get_or}
+use Rattle.std.proofs.Common.{ap, arith, mul-le-mul, lt-ltb, le-ltb}
 use Rattle.std.proofs.lemmas.Bool.{eqb-false}
-use Rattle.lists.specs.Test.{of-both}
 use Rattle.model.specs.declared.Header.{Header}
 use Rattle.model.specs.declared.Family.{Family}
 use Rattle.model_recipes.specs.declared.Step.{Step}

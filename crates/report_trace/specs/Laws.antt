@@ -3,7 +3,7 @@
 use Rattle.std.specs.Prelude.{ℕ, ◌<◌, ◌&&◌, ◌||◌, cond, List, ◌≡◌, ltb}
 use Rattle.std.proofs.Math.Bool.{Bool, true, false, not}
 use Rattle.std.proofs.Math.Path.{refl, sym}
-use Rattle.std.proofs.Common.{ap, ◌∙◌, arith, ltb-true, lt-ltb}
+use Rattle.std.proofs.Common.{ap, arith, ltb-true, lt-ltb}
 use Rattle.lists.specs.Test.{decide, and_left, and_right}
 use Rattle.model.specs.declared.Header.{Header}
 use Rattle.model_recipes.specs.Steps.{step_of}

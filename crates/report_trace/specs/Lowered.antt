@@ -3,7 +3,7 @@
 -- off.
 use Prim.Native.Nat.{ℕ, zero, suc, ◌+◌, ◌≤◌, ◌<◌}
 use Rattle.std.proofs.Math.Bool.{Bool}
-use Rattle.std.specs.Prelude.{true, false, ◌&&◌, not, cond, List, ◌≡◌, ltb, eqb}
+use Rattle.std.specs.Prelude.{true, false, ◌&&◌, cond, List, ◌≡◌, ltb, eqb}
 use Rattle.std.proofs.Math.Path.{refl, sym, ap}
 use Rattle.std.proofs.Common.{◌∙◌, add-zero}
 use native.Mathlib.Omega.{arith}

@@ -180,7 +180,8 @@ module _ (head : Float) (lx r : List ℕ) {v : ℕ} (xs : List Float) where
 
   -- row 0, then the others
   pub block_more : (w w' : List Float) → v < 4 → span lx (4 - v) v ≤ length xs → take (in_row r v) w ≡ exp_rows head lx r (4 - (v + 1)) (v + 1) xs
-      → take (span r (4 - v) v) w' ≡ stack (at r v - 1) (next_row lx r v xs) (take (in_row r v) w) → take (span r (4 - v) v) w' ≡ exp_rows head lx r (4 - v) v xs
+      → take (span r (4 - v) v) w' ≡ stack (at r v - 1) (next_row lx r v xs) (take (in_row r v) w) → take (span r (4 - v) v) w' ≡ exp_rows
+      head lx r (4 - v) v xs
   unfolding exp_rows
   block_more w w' h l e f =
       let n : ℕ = 4 - (v + 1) in

@@ -86,7 +86,8 @@ pub gather_end : (back : Bool) (lx r : List ℕ) (v k a b : ℕ) (xs done : List
     → row ≡ gathered back lx r v k a b xs done
 unfolding gathered
 gather_end back lx r v k a b xs done {j} {n} {old} {row} p z m e =
-    let o : (q : ℕ) → q < in_row r v → get_or old q nan ≡ zero_f = λ q l. ap (λ (x : List Float). get_or x q nan) z ∙ table_at nan (λ i. zero_f) n q (omega arith) in
+    let o : (q : ℕ) → q < in_row r v → get_or old q nan ≡ zero_f = λ q l. ap (λ (x : List Float). get_or x q nan) z ∙ table_at nan (λ i.
+    zero_f) n q (omega arith) in
     paired_end (b - a) p e ∙ table_same _ _ (in_row r v) (λ q l. rw (o q l))
 
 -- ---- a row of one place

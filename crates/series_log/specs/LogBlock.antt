@@ -132,7 +132,8 @@ module _ (lx r : List ℕ) {v : ℕ} (h : v < 4) (xs : List Float) (l : span lx 
       λ w i. neg (walk (λ j acc. product_at lx r r (index r i) rest w
       (take (span lx rest w) (drop ((k - j) * span lx rest w) xs))
       (times_whole j (take (span r rest w) (drop (j * span r rest w) q))) acc) (k - lo) lo zero_f) in
-      let x : ℕ → List Float = λ w. table (span lx rest w) (λ i. mul binary64 (whole_f k) (get_or (take (span lx rest w) (drop (k * span lx rest w) xs)) i nan)) in
+      let x : ℕ → List Float = λ w. table (span lx rest w) (λ i. mul binary64 (whole_f k) (get_or
+      (take (span lx rest w) (drop (k * span lx rest w) xs)) i nan)) in
       let row_by : ℕ → List Float =
       λ w. table (span r rest w) (λ i. cond (ltb k (at lx v))
       (join_at false (given w i) (block (after v lx) (x w)) (index r i)) (given w i)) in
@@ -148,7 +149,8 @@ module _ (lx r : List ℕ) {v : ℕ} (h : v < 4) (xs : List Float) (l : span lx 
   step_is head n =
       let c = count_after_lem lx v h in
       let first : (w : ℕ) → List Float = λ w. take (span lx rest w) (drop (0 * span lx rest w) xs) in
-      λ i k q. (ap (λ (a : List Float). over_whole k (recurred (block (after v r) a) (block (after v lx) (row_at lx v 0 xs)) (after v r))) (gathered-is head k q)
+      λ i k q. (ap (λ (a : List Float). over_whole k (recurred (block (after v r) a) (block (after v lx) (row_at lx v 0 xs)) (after v r)))
+      (gathered-is head k q)
       ∙ (ap (over_whole k) (sym (quotient_is v lx r (log_gathered head lx r rest v xs k q) (row_at lx v 0 xs) (λ e. n (sym c ∙ e))))
       ∙ ap (λ (w : ℕ). over_whole k (quotient_of (after v r) (block (after v r) (log_gathered head lx r rest v xs k q))
       (block (after v lx) (first w))).places) (add-one v))) i
@@ -179,7 +181,8 @@ module _ (head : Float) (lx r : List ℕ) {v : ℕ} (xs : List Float) where
   -- row 0, then the others
   pub log_others : (w w' : List Float) → v < 4 → alone r (4 - (v + 1)) v ≡ false → span lx (4 - v) v ≤ length xs
       → ((at r v ≡ 1 → ⊥) → in_row lx v ≡ 1 → ⊥) → take (in_row r v) w ≡ log_rows head lx r (4 - (v + 1)) (v + 1) xs
-      → take (span r (4 - v) v) w' ≡ stack (at r v - 1) (log_step lx r v xs) (take (in_row r v) w) → take (span r (4 - v) v) w' ≡ log_rows head lx r (4 - v) v xs
+      → take (span r (4 - v) v) w' ≡ stack (at r v - 1) (log_step lx r v xs) (take (in_row r v) w) → take (span r (4 - v) v) w' ≡ log_rows
+      head lx r (4 - v) v xs
   unfolding log_rows
   log_others w w' h t l long e f =
       let n : ℕ = 4 - (v + 1) in

@@ -161,7 +161,8 @@ module _ {lx sx r sr : List ℕ} (g : Shaped lx sx r sr) {v k n mx mw mr : ℕ} 
       let l : length one ≡ in_row r v = ap length a ∙ length-table _ _ in
       let f : ℕ → ℕ → Float = λ j i. walk (pair_at true lx r v k xs ys i) (k - j) j zero_f in
       b ∙ (ap (λ (m : ℕ). table m (negated_at one)) l
-      ∙ table_same _ _ (in_row r v) (λ i h. ap neg (ap (λ (z : List Float). get_or z i nan) a ∙ (table_at nan (f lo) (in_row r v) i h ∙ ap (λ (j : ℕ). f j i) e))))
+      ∙ table_same _ _ (in_row r v) (λ i h. ap neg (ap (λ (z : List Float). get_or z i nan) a ∙ (table_at nan (f lo) (in_row r v) i h ∙ ap
+      (λ (j : ℕ). f j i) e))))
 
   ys-is : (w : List Float) → part n (n + k * at sr v) w ≡ part n (n + k * in_row r v) w
   ys-is w = ap (λ (s : ℕ). part n (n + k * s) w) width

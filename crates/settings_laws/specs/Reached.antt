@@ -1,6 +1,7 @@
 -- Sound lists are those that calls from a fresh store make; so the test is exact, and decoding undoes encoding.
 use Rattle.std.specs.Prelude.{ℕ, zero, suc, ◌+◌, ◌-◌, ◌≤◌, ◌<◌, true, List, [], ◌∷◌, ◌++◌, ◌≡◌, refl, replicate, length, get_or, set, take, drop}
-use Rattle.std.proofs.Common.{append-nil, sym, ap, subst, ◌∙◌, arith, add-one, drop_of_length-le, take-suc, take_all, set-set, length-take-le, get_or-append-add, get_or-drop}
+use Rattle.std.proofs.Common.{append-nil, sym, ap, subst, ◌∙◌, arith, add-one, drop_of_length-le, take-suc, take_all}
+use Rattle.std.proofs.Common.{set-set, length-take-le, get_or-append-add, get_or-drop}
 use Rattle.std.proofs.lemmas.List.{length-replicate, set-get_or}
 use Rattle.lists.specs.Table.{table, front, length-table, length_front, front-none, front-more, table-all}
 use Rattle.model_settings.specs.declared.Content.{Content}

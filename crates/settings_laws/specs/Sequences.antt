@@ -132,14 +132,14 @@ pub all-answers :
 unfolding answers_on answers
 all-answers t [] = refl
 all-answers {rest} {s} {w} t (c ∷ cs) = ap (λ a. a ∷ answers_on cs (words_after c w)) (one_answer t c) ∙ ap
-    (λ l. answer c s ∷ l) (all-answers (one-step t c) cs)
+    (λ l. answer c s ∷ l) (all-answers {s = after c s} {w = words_after c w} (one-step t c) cs)
 
 pub all-steps :
     {rest : List ℕ} {s : State} {w : List ℕ} → Stands rest s w → (cs : List Call) → Stands rest (after_all cs s)
     (words_after_all cs w)
 unfolding words_after_all after_all
 all-steps t [] = t
-all-steps t (c ∷ cs) = all-steps (one-step t c) cs
+all-steps {rest} {s} {w} t (c ∷ cs) = all-steps {s = after c s} {w = words_after c w} (one-step t c) cs
 
 -- a fresh store, then any calls: the answers, and the words
 pub sequence-answers :

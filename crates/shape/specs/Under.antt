@@ -72,7 +72,8 @@ length_rises (Order v n) k r = of-each ◌≤◌ (eqb k v) (omega arith) r.ta
 length_rises One k r = le_refl 1
 
 -- a shift's length does not ask whether it is under the lowered limit
-single_rises : (f : Family) (k : ℕ) {l t a : ℕ} → 1 ≤ t → t ≤ l → t ≤ a → length_after f k (limit_after f k l) 1 t 1 ≤ length_after f k (limit_after f k l) 1 a 1
+single_rises : (f : Family) (k : ℕ) {l t a : ℕ} → 1 ≤ t → t ≤ l → t ≤ a → length_after f k (limit_after f k l) 1 t 1 ≤ length_after f k
+    (limit_after f k l) 1 a 1
 single_rises Constant k p m h = le_refl 1
 single_rises Same k p m h = h
 single_rises Sum k p m h = omega arith
@@ -123,7 +124,8 @@ paired-under f {q} {p} {t} {a} {u} {b} le g h x y =
           λ k lt. rw (
             at-four (λ k. length_after f k (at (min_degrees_p1 t u) k) q
                 (min (at (min_degrees_p1 t u) k) (len t k)) (min (at (min_degrees_p1 t u) k) (len u k))) k lt,
-            at-four (λ k. length_after f k (at (min_degrees_p1 a b) k) p (min (at (min_degrees_p1 a b) k) (len a k)) (min (at (min_degrees_p1 a b) k) (len b k))) k lt,
+            at-four (λ k. length_after f k (at (min_degrees_p1 a b) k) p (min (at (min_degrees_p1 a b) k) (len a k)) (min
+                (at (min_degrees_p1 a b) k) (len b k))) k lt,
           )
           (rw (← e) (length_rises f k (cut_rise (min_degrees-range t u g h k lt).lo (ruled-at g k lt).pos
           (ruled-at h k lt).pos le (x.most k lt) (y.most k lt))));

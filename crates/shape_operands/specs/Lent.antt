@@ -1,7 +1,8 @@
 -- What a step is lent: where an operand lies, and a part of the pool that is written piece by piece. The m.. are the
 -- lengths of buffers.
 use Rattle.std.specs.Prelude.{ℕ, zero, suc, ◌+◌, ◌-◌, ◌*◌, ◌≤◌, List, [], ◌∷◌, ◌++◌, Bool, true, false, cond, ◌≡◌, refl, length, take, drop, Float}
-use Rattle.std.proofs.Common.{append_assoc, append-nil, sym, ap, ◌∙◌, inr, arith, add-zero, add-suc, length-take, length-drop, take-add, take_all, take_at, take-take, drop-drop}
+use Rattle.std.proofs.Common.{append_assoc, append-nil, sym, ap, ◌∙◌, inr, arith, add-zero, add-suc, length-take}
+use Rattle.std.proofs.Common.{length-drop, take-add, take_all, take_at, take-take, drop-drop}
 use borrow.Rule.Slice.PartMut.{put_mid}
 use Rattle.lists.specs.Table.{table, length-table}
 use Rattle.lists.specs.Part.{part, below_less, below_then, below-part, drop-take, Kept, kept-mid}

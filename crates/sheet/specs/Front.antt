@@ -122,7 +122,8 @@ module _ (t : List ℕ) where
     unfolding sheet_coefficients
     coefficients-same =
         rw (count_same, inputs-same)
-        (table_same (λ j. of_bits binary64 (word_on u (1 + input_count t + j))) (λ j. of_bits binary64 (word_on t (1 + input_count t + j))) (coefficient_count t)
+        (table_same (λ j. of_bits binary64 (word_on u (1 + input_count t + j))) (λ j. of_bits binary64 (word_on t (1 + input_count t + j)))
+        (coefficient_count t)
         (λ j l. ap (of_bits binary64) (word_same (1 + input_count t + j) (omega (arith, lines-few o)))))
 
     step_words-same : sheet_steps u ≡ sheet_steps t

@@ -1,5 +1,5 @@
 -- Reading a sheet in order: which refusal each test leads to, and what is known where there is none.
-use Rattle.std.specs.Prelude.{ℕ, ◌+◌, ◌-◌, ◌*◌, ◌≤◌, ◌<◌, Bool, true, false, ◌&&◌, ◌≡◌, leb, eqb, length, take, drop}
+use Rattle.std.specs.Prelude.{ℕ, ◌+◌, ◌*◌, ◌≤◌, ◌<◌, Bool, true, false, ◌&&◌, ◌≡◌, leb, eqb, length, take, drop}
 use mathlib.Core.List.{List, ◌++◌}
 use Rattle.std.proofs.Math.Path.{refl, sym, ap}
 use Rattle.std.proofs.Common.{◌∙◌, arith, length-append, length-drop, length-take-le, leb-true, le-leb}
@@ -14,7 +14,8 @@ use Rattle.model.specs.Word.{header_of}
 use Rattle.model.specs.Refusals.{refused_by, no_refusal}
 use Rattle.model_recipes.specs.Recipe.{input_heads, total}
 use Rattle.model_recipes.specs.Check.{ask_at, or_else, known_edition, right_sizes}
-use Rattle.model_texts.specs.Sheet.{lined, input_count, step_count, sheet_edition, spare, sheet_headers, coefficient_count, rest_count, headers_refusal, read_refusal}
+use Rattle.model_texts.specs.Sheet.{lined, input_count, step_count, sheet_edition, spare, sheet_headers}
+use Rattle.model_texts.specs.Sheet.{coefficient_count, rest_count, headers_refusal, read_refusal}
 use Rattle.recipes_check.specs.Asks.{or-first, or-next}
 use Rattle.sheet_reading.specs.Headers.{HeadersRead, header_on, GoodHeads, heads-good, total-most}
 

@@ -6,7 +6,8 @@ use Rattle.lists.specs.Table.{length-table}
 use Rattle.model.specs.declared.Refusal.{Refusal}
 use Rattle.model.specs.Word.{header_of}
 use Rattle.model_recipes.specs.Recipe.{input_heads}
-use Rattle.model_texts.specs.Sheet.{lined, word_on, input_count, step_count, sheet_headers, coefficient_count, sheet_steps, rest_count, headers_refusal, read_refusal}
+use Rattle.model_texts.specs.Sheet.{lined, word_on, input_count, step_count, sheet_headers, coefficient_count}
+use Rattle.model_texts.specs.Sheet.{sheet_steps, rest_count, headers_refusal, read_refusal}
 use Rattle.recipes_check.specs.Asks.{or-none, ask-none}
 use Rattle.sheet_reading.specs.Headers.{header_on, GoodHeads, heads-good, total-most}
 use Rattle.sheet_reading.specs.Reading.{Sized, sized, sizes_test, rest_refusal}

@@ -1,5 +1,5 @@
 -- Numbers in decimal: how long they are, and what the last digit is put behind.
-use Rattle.std.specs.Prelude.{ℕ, zero, suc, ◌+◌, ◌-◌, ◌/◌, ◌^◌, ◌≤◌, ◌<◌, List, [], ◌∷◌, ◌++◌, map, ◌≡◌, refl, ltb, length}
+use Rattle.std.specs.Prelude.{ℕ, zero, suc, ◌+◌, ◌/◌, ◌^◌, ◌≤◌, ◌<◌, List, [], ◌∷◌, ◌++◌, map, ◌≡◌, refl, ltb, length}
 use Rattle.std.proofs.Common.{ap, ◌∙◌, arith, pow-suc, lt-ltb, le-ltb}
 use Rattle.lists.specs.Grow.{length_snoc}
 use Rattle.lists.specs.Test.{decide}

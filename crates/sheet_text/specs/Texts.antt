@@ -28,7 +28,8 @@ float_lines xs = hex_lines (map (to_bits binary64) xs)
 pub length-floats : (xs : List Float) → length (float_lines xs) ≡ 17 * length xs
 length-floats xs = length-lines (map (to_bits binary64) xs) ∙ ap (λ (n : ℕ). 17 * n) (length-map xs (to_bits binary64))
 
-floats-more : (xs : List Float) (k : ℕ) → k < length xs → float_lines (take (k + 1) xs) ≡ float_lines (take k xs) ++ hex_line (to_bits binary64 (get_or xs k nan))
+floats-more : (xs : List Float) (k : ℕ) → k < length xs → float_lines (take (k + 1) xs) ≡ float_lines (take k xs) ++ hex_line (to_bits
+    binary64 (get_or xs k nan))
 floats-more xs k l =
     rw (add-one k, take-suc xs k nan l)
     (ap hex_lines (map-append (to_bits binary64) (take k xs) (get_or xs k nan ∷ []))

@@ -20,7 +20,8 @@ use Rattle.shape.specs.Announced.{announced-regular}
 use Rattle.shape.specs.Keeps.{Keeps}
 use Rattle.gates.specs.Gate.{PairReady}
 use Rattle.laws_keeps.specs.Sits.{Sits}
-use Rattle.laws_keeps.specs.SubstituteKeeps.{lengths-fit, substitute-keeps}
+use Rattle.laws_keeps.specs.SubstituteKeeps.{lengths-fit}
+use Rattle.laws_keeps.proofs.SubstituteKeeps.{substitute-keeps}
 use Rattle.product.specs.Room.{Stands}
 use Rattle.product.specs.Ways.{count_less}
 use Rattle.substitution_way.specs.Way.{put_for}

@@ -28,7 +28,7 @@ use Rattle.readings_row.specs.Rows.{Picking}
 use Rattle.laws_keeps.specs.Sits.{Sits, sum_at_lem, max-at, sits-more}
 use Rattle.laws_keeps.specs.Keeps.{joined-sits, joined-under}
 use Rattle.laws_keeps.specs.ProductKeeps.{constant-sits, shape-under}
-use Rattle.laws_keeps.specs.Running.{multiplied-sits}
+use Rattle.laws_keeps.proofs.Running.{multiplied-sits}
 use Rattle.laws_keeps.specs.SubstituteKeeps.{row-sits, zero-first}
 use Rattle.product.specs.Room.{Stands}
 use Rattle.product.specs.Ways.{under-lengths, count_less, under-sits, sits-under}

@@ -15,7 +15,8 @@ use Rattle.shape.specs.Cut.{cut_at}
 use Rattle.blocks.specs.Rows.{Cutting, inner_of}
 use Rattle.readings_row.specs.Rows.{Picking}
 use Rattle.laws_keeps.specs.Sits.{cut-sits}
-use Rattle.laws_keeps.specs.SubstituteKeeps.{row-sits, substituted-most}
+use Rattle.laws_keeps.specs.SubstituteKeeps.{row-sits}
+use Rattle.laws_keeps.proofs.SubstituteKeeps.{substituted-most}
 use Rattle.product.specs.Room.{Under}
 use Rattle.product.specs.Ways.{under-lengths, count_less, sits-under, ones-under}
 use Rattle.substitution.specs.Room.{row_of, Puts, Cuts}

@@ -19,7 +19,8 @@ use Rattle.model.specs.Product.{is_zero, constant_block, product_of}
 use Rattle.shape_words.specs.Lengths.{Lengths, count-pos}
 use Rattle.laws_keeps.specs.Sits.{Sits, max-at}
 use Rattle.laws_keeps.specs.Keeps.{joined-sits}
-use Rattle.laws_keeps.specs.ProductKeeps.{product-sits, constant-sits, left-fits}
+use Rattle.laws_keeps.proofs.ProductKeeps.{product-sits}
+use Rattle.laws_keeps.specs.ProductKeeps.{constant-sits, left-fits}
 use Rattle.product.specs.Room.{Under, Joins, Room, Put, Stands, Made}
 use Rattle.product.specs.Ways.{under-lengths, count_less, under-sits, sits-under, under_more, shape-under, shape-left}
 use Rattle.product.specs.Ways.{shape-right, put-stands, put-made}

@@ -145,7 +145,8 @@ read-few w m = by_word w (asked (full w m) 2 (omega arith) none)
 index-few : (w m : ℕ) (i : List ℕ) → Few (index_gate w m i)
 unfolding index_gate
 index-few w m i =
-    by_word w (asked (full w m) 2 (omega arith) (asked (no_missing (header_of w) i) 3 (omega arith) (asked (inside (header_of w).limits i) 4 (omega arith) none)))
+    by_word w (asked (full w m) 2 (omega arith) (asked (no_missing (header_of w) i) 3 (omega arith) (asked (inside (header_of w).limits i) 4
+    (omega arith) none)))
 
 tail-few : (w m k : ℕ) (total : Float) → Few (tail_gate w m k total)
 unfolding tail_gate

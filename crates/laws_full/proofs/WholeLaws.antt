@@ -1,6 +1,4 @@
--- Where the verdict is WHOLE. Of an accepted recipe, at a place that is a polynomial: with no limits anywhere, every
--- coefficient outside the limits that the place announces is zero (`nothing-outside`); and cutting each step to its
--- limits changes nothing (`limits-change-nothing`).
+-- What rests on laws of specs/ (WholeLaws).
 use Prim.Native.Nat.{ℕ, zero, suc, ◌≤◌, ◌<◌}
 use Rattle.std.specs.Prelude.{false, List, ◌≡◌, ltb, length, take, ℤ, pos}
 use Rattle.std.proofs.Math.Path.{sym, ap}
@@ -17,23 +15,23 @@ use Rattle.laws_full.specs.Unlimited.{Value, no_value, value_at, step_result, in
 use Rattle.laws_full.specs.Limited.{cut_to, limited}
 use Rattle.laws_full.specs.Made.{itself, by_first, by_second}
 use Rattle.laws_full.specs.Counts.{counts-is}
-use Rattle.laws_full.specs.Same.{result-same, outside-zero, cut-none}
+use Rattle.laws_full.specs.Same.{result-same, outside-zero}
+use Rattle.laws_full.proofs.SameLaws.{cut-none}
 use Rattle.laws_full.specs.Setting.{size, head, lengths, step, out, Takes-a, Takes-b, IsPolynomial, Clear, Whole}
 use Rattle.laws_full.specs.Verdict.{whole_exactly}
 use Rattle.laws_full.specs.Chained.{head-input, unlimited-input, limited-input, limited_step_lem}
 use Rattle.laws_full.specs.Lacking.{good}
-use Rattle.laws_full.specs.Fits.{out-fits}
+use Rattle.laws_full.proofs.Fits.{out-fits}
 use Rattle.laws_full.specs.Polynomials.{a_polynomial, b_polynomial, a-before, b-before, value_of, Described}
-use Rattle.laws_full.specs.Polynomials.{operand, in_variable, a-is, b-is, result-is, one-row, described}
+use Rattle.laws_full.specs.Polynomials.{operand, in_variable, a-is, b-is, result-is, one-row}
+use Rattle.laws_full.proofs.Polynomials.{described}
 
 module _ (it : Recipe) (z : (check_refusal it).number ≡ 0) where
-  not-out : (p : ℕ) → length it.headers ≤ p → Clear it p → out it p ≡ false
+  pub not-out : (p : ℕ) → length it.headers ≤ p → Clear it p → out it p ≡ false
   not-out p i c = decide (out it p) (λ t. absurd (c p itself (record { step = i; out = t }))) (λ t. t)
 
   module _ (cs : ℕ → ℕ → ℤ) where
-    -- ---- lengths keep to the limits
-
-    fits : (p : ℕ) → p < size it → IsPolynomial it p → Clear it p → (w : ℕ) → w < 4
+    pub fits : (p : ℕ) → p < size it → IsPolynomial it p → Clear it p → (w : ℕ) → w < 4
         → at (value_of it z cs p).lengths w ≤ limit (head it p) w
     unfolding input_value
     fits p l o c w m =
@@ -52,39 +50,37 @@ module _ (it : Recipe) (z : (check_refusal it).number ≡ 0) where
         outside-zero (head it p) (value_of it z cs p) (described it z cs p l o).bounded
         (fits p l o ((whole_exactly it z p l).0 e))
 
-    -- ---- cutting every step to its limits changes nothing
-
-    Same : ℕ → Type 0
+    pub Same : ℕ → Type 0
     Same p = value_at (limited it cs) p ≡ value_of it z cs p
 
     -- a step, from the operands that it needs
     module _ (p : ℕ) (i : length it.headers ≤ p) (l : p < size it) (o : IsPolynomial it p) (c : Clear it p)
         (same-a : Takes-a it p → Same (step it p).a) (same-b : Takes-b it p → Same (step it p).b) where
-      abbrev cut_at : ℕ → Value
+      abbrev pub cut_at : ℕ → Value
       cut_at x = value_at (take p (limited it cs)) x
 
-      of-a : Takes-a it p → Described it z cs (step it p).a
+      pub of-a : Takes-a it p → Described it z cs (step it p).a
       of-a u = let b = a-before it i z l u in described it z cs _ (omega arith) (a_polynomial it i o u)
 
-      of-b : Takes-b it p → Described it z cs (step it p).b
+      pub of-b : Takes-b it p → Described it z cs (step it p).b
       of-b u = let b = b-before it i z l u in described it z cs _ (omega arith) (b_polynomial it i o u)
 
-      abbrev whole : ℕ → Value
+      abbrev pub whole : ℕ → Value
       whole = operand it z cs p i l of-a of-b
 
-      a-same : Takes-a it p → cut_at (step it p).a ≡ whole (step it p).a
+      pub a-same : Takes-a it p → cut_at (step it p).a ≡ whole (step it p).a
       unfolding Same
       a-same u =
           get_or-take p (limited it cs) (step it p).a no_value (a-before it i z l u) ∙ same-a u
           ∙ sym (a-is it z cs p i l of-a of-b u)
 
-      b-same : Takes-b it p → cut_at (step it p).b ≡ whole (step it p).b
+      pub b-same : Takes-b it p → cut_at (step it p).b ≡ whole (step it p).b
       unfolding Same
       b-same u =
           get_or-take p (limited it cs) (step it p).b no_value (b-before it i z l u) ∙ same-b u
           ∙ sym (b-is it z cs p i l of-a of-b u)
 
-      step_same : Same p
+      pub step_same : Same p
       unfolding Same step_result
       step_same =
           let s = step it p in
@@ -97,7 +93,7 @@ module _ (it : Recipe) (z : (check_refusal it).number ≡ 0) where
           ∙ sym (result-is it z cs p i l of-a of-b))
           ∙ cut-none (head it p) (value_of it z cs p) d.bounded (fits p l o c) d.four
 
-    below : (n p : ℕ) → p < n → p < size it → IsPolynomial it p → Clear it p → Same p
+    pub below : (n p : ℕ) → p < n → p < size it → IsPolynomial it p → Clear it p → Same p
     unfolding Same
     below zero p h l o c = absurd (omega arith)
     below (suc n) p h l o c =

@@ -1,0 +1,9 @@
+pub mod Factors
+pub mod Stages
+pub mod ProductLaws
+pub mod Products
+pub mod Results
+pub mod Multiplied
+pub mod SumLaws
+pub mod Sums
+pub mod Lines

@@ -1,0 +1,4 @@
+pub mod Lessened
+pub mod Quotients
+pub mod Recurred
+pub mod Divided

@@ -1,0 +1,4 @@
+pub mod ProductKeeps
+pub mod SubstituteKeeps
+pub mod Running
+pub mod PowerKeeps

@@ -1,0 +1,5 @@
+pub mod KindTotals
+pub mod AnswerLaws
+pub mod TotalLaws
+pub mod Totals
+pub mod Parts

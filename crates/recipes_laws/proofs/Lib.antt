@@ -1,0 +1,3 @@
+pub mod RunExact
+pub mod Exact
+pub mod Demanded
