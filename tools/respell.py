@@ -171,6 +171,8 @@ def main():
     FIELDS.update(fields())
     to, told = table()
     camel = {a: b for a, b in to.items() if is_camel(a)}
+    # A name in code that is spelled like a lemma is a function's, and stays.
+    spelled = {a: b for a, b in to.items() if is_camel(a) or "-" in a}
     for path in list(below("crates", (".antt", ".rt", ".edit"))) + list(below(".", ".md")):
         old = read(path)
         if path.endswith(".antt"):
@@ -178,7 +180,8 @@ def main():
         elif path.endswith(".md"):
             new = re.sub(r"`[^`\n]+`", lambda m: turned(m.group(0), to), old)
         else:
-            new = turned(old, to)
+            in_code = path.endswith(".rt") or "file: src/" in old
+            new = turned(old, spelled if in_code else to)
         if new != old:
             with open(path, "w", encoding="utf-8") as it:
                 it.write(new)
