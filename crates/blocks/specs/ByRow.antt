@@ -1,5 +1,5 @@
 -- A loop that fills a block with f row by row; and the rows that `load_rows` and `join_rows` make.
-use Rattle.std.specs.Prelude.{ℕ, ◌+◌, ◌-◌, ◌≤◌, ◌<◌, List, ◌++◌, Bool, true, false, ◌≡◌, ltb, take, drop, Float}
+use Rattle.std.specs.Prelude.{ℕ, ◌+◌, ◌≤◌, ◌<◌, List, ◌++◌, Bool, true, false, ◌≡◌, ltb, take, drop, Float}
 use Rattle.std.proofs.Math.Path.{sym, ap}
 use Rattle.std.proofs.Common.{◌∙◌, arith, le_refl, length-take, length-drop, get_or-drop, drop-drop}
 use Rattle.std.proofs.Math.ListN.{length, get_or}

@@ -1,5 +1,5 @@
 -- The sum of two blocks by its three ways.
-use Rattle.std.specs.Prelude.{ℕ, ◌+◌, ◌<◌, max, List, Bool, true, false, ◌≡◌, length, get_or, set, take, Float}
+use Rattle.std.specs.Prelude.{ℕ, ◌<◌, max, List, Bool, true, false, ◌≡◌, length, get_or, set, take, Float}
 use Rattle.std.proofs.Common.{sym, ap, ◌∙◌, arith, lit<}
 use Rattle.std.proofs.Math.Seq.{take-length}
 use Rattle.std.specs.Float.{nan}
@@ -12,7 +12,6 @@ use Rattle.model.specs.Places.{index, inside}
 use Rattle.model.specs.Poly.{Block, block}
 use Rattle.model.specs.Refusals.{zeros, zero_f}
 use Rattle.model.specs.Negate.{negated_at}
-use Rattle.model.specs.Readings.{first}
 use Rattle.model.specs.Add.{join, join_at, first_joined, turned, joined, place_joined}
 use Rattle.shape_words.specs.Lengths.{Lengths, count-is, count-pos, lengths-pos, is_inside_lem}
 use Rattle.shape_words.specs.Places.{index-inside}

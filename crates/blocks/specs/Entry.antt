@@ -1,6 +1,6 @@
 -- What an entry shows at its two returns, whatever the operation: refused, and done with the front of each buffer
 -- written.
-use Rattle.std.specs.Prelude.{ℕ, ◌+◌, ◌-◌, ◌*◌, List, ◌++◌, ◌≡◌, Float}
+use Rattle.std.specs.Prelude.{Ok, Err, ℕ, ◌+◌, ◌-◌, ◌*◌, List, ◌++◌, ◌≡◌, Float}
 use Rattle.std.proofs.Common.{append-nil, sym, ◌∙◌, arith, eq-eqb, ne_eqb}
 use Rattle.std.proofs.Math.Path.{ap}
 use Rattle.std.proofs.Math.ListN.{length, drop}
@@ -8,7 +8,6 @@ use Rattle.std.proofs.Math.Seq.{drop_at}
 use Rattle.lists.specs.Table.{table}
 use Rattle.model.specs.declared.Header.{Header}
 use Rattle.model.specs.declared.Refusal.{Refusal}
-use Rattle.model.specs.declared.Answer.TheVariants.{Done, Refused}
 use Rattle.model.specs.Header.{stored}
 use Rattle.model.specs.Word.{word_of}
 use Rattle.model.specs.Refusals.{answer_by, leaves, written, cleared, zeros}
@@ -18,7 +17,7 @@ use Rattle.model.specs.Answers.{answered, out_after, scratch_after}
 -- r what the gate answered, g its definition, h the announced header, p the value
 module _ {r g : Refusal} (e : r ≡ g) (h : Header) (p : Poly) where
   module _ (n : r.number ≡ 0 → ⊥) where
-    pub refused-answer : Refused r ≡ answered g p
+    pub refused-answer : Err r ≡ answered g p
     unfolding answer_by
     refused-answer = rw (← e) (simp (ne_eqb _ _ n))
 
@@ -34,9 +33,9 @@ module _ {r g : Refusal} (e : r ≡ g) (h : Header) (p : Poly) where
     pub passes : g.number ≡ 0
     passes = ap (λ (x : Refusal). x.number) (sym e) ∙ z
 
-    pub done-answer : {w : ℕ} → w ≡ word_of p.head → Done w ≡ answered g p
+    pub done-answer : {w : ℕ} → w ≡ word_of p.head → Ok w ≡ answered g p
     unfolding answer_by
-    done-answer k = simp (eq-eqb _ _ passes) (ap Done k)
+    done-answer k = simp (eq-eqb _ _ passes) (ap Ok k)
 
     -- the announced places were written
     pub done-out : (old : List Float) {n : ℕ} {front : List Float} → n ≡ stored h

@@ -1,6 +1,6 @@
 -- Two blocks whose last variable is as long in both, with their last two variables taken as one: the same places, in
 -- longer rows.
-use Rattle.std.specs.Prelude.{ℕ, ◌+◌, ◌*◌, ◌≤◌, ◌<◌, List, [], ◌∷◌, Bool, true, false, ◌≡◌, refl, Float, get_or, ltb}
+use Rattle.std.specs.Prelude.{ℕ, ◌+◌, ◌*◌, ◌≤◌, ◌<◌, List, [], ◌∷◌, Bool, ◌≡◌, refl, Float, get_or, ltb}
 use Rattle.std.proofs.Common.{true≢false, sym, ◌∙◌, arith, one-mul, mul-pos, mul_assoc, add-mul, mul-le-mul}
 use Rattle.std.proofs.Common.{mul-le-mul_right, le_refl, lit<, ltb-true, ltb-false}
 use Rattle.std.proofs.Math.Path.{ap}

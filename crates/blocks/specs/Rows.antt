@@ -8,8 +8,7 @@ use Rattle.std.proofs.Math.Arith.{digits_mod, digits_div}
 use Rattle.std.specs.Float.{nan}
 use Rattle.lists.specs.Four.{at, four}
 use Rattle.model.specs.Header.{count}
-use Rattle.model.specs.Places.{place, index, inside}
-use Rattle.model.specs.Poly.{block}
+use Rattle.model.specs.Places.{place, index}
 use Rattle.model.specs.Add.{join}
 use Rattle.shape_words.specs.Lengths.{Lengths, Sizes, Inside, RowAt, count-is}
 use Rattle.shape_words.specs.Places.{place-lt, index-within, place-index, horner}

@@ -1,10 +1,11 @@
 -- Blocks with the same lengths: each place of one is the same place of the other.
-use Rattle.std.specs.Prelude.{ℕ, ◌≤◌, List, Bool, true, ◌&&◌, ◌≡◌, eqb, length, get_or, take, Float}
+use Rattle.std.specs.Prelude.{ℕ, ◌≤◌, List, [], ◌∷◌, Bool, true, false, ◌&&◌, ◌≡◌, refl, eqb, length, get_or, take, Float}
 use Rattle.std.proofs.Common.{sym, ap, ◌∙◌, arith, eqb-true}
 use Rattle.std.proofs.Math.Seq.{take-length}
 use Rattle.std.specs.Float.{nan}
 use Rattle.lists.specs.Test.{and_left, and_right}
-use Rattle.lists.specs.Four.{at}
+use Rattle.std.specs.Cmp.Lexicographic.{pointwise}
+use Rattle.lists.specs.Four.{at, four}
 use Rattle.lists.specs.Table.{table, table_same, table-take}
 use Rattle.model.specs.Header.{count}
 use Rattle.model.specs.Places.{place, index}
@@ -14,6 +15,30 @@ use Rattle.shape_words.specs.Places.{horner, place-index}
 
 unfoldable pub same_lengths : List ℕ → List ℕ → Bool
 same_lengths n m = ((eqb (at n 0) (at m 0) && eqb (at n 1) (at m 1)) && eqb (at n 2) (at m 2)) && eqb (at n 3) (at m 3)
+
+-- four numbers are all of such a list
+all_four : (l : List ℕ) → length l ≡ 4 → l ≡ four (at l)
+all_four (a ∷ b ∷ c ∷ d ∷ []) h = refl
+all_four [] h = absurd (omega (arith, h))
+all_four (a ∷ []) h = absurd (omega (arith, h))
+all_four (a ∷ b ∷ []) h = absurd (omega (arith, h))
+all_four (a ∷ b ∷ c ∷ []) h = absurd (omega (arith, h))
+all_four (a ∷ b ∷ c ∷ d ∷ e ∷ l) h = absurd (omega (arith, h))
+
+all-and : (a b c d : Bool) → (a && (b && (c && (d && true)))) ≡ (((a && b) && c) && d)
+all-and true true true true = refl
+all-and true true true false = refl
+all-and true true false d = refl
+all-and true false c d = refl
+all-and false b c d = refl
+
+-- `==` of such lists
+pub same-pointwise : (n m : List ℕ) → length n ≡ 4 → length m ≡ 4 → pointwise eqb n m ≡ same_lengths n m
+unfolding same_lengths
+same-pointwise n m p q =
+    let t : ℕ → Bool = λ k. eqb (at n k) (at m k) in
+    ap (λ (l : List ℕ). pointwise eqb l m) (all_four n p)
+    ∙ (ap (λ (l : List ℕ). pointwise eqb (four (at n)) l) (all_four m q) ∙ all-and (t 0) (t 1) (t 2) (t 3))
 
 pub record Same (n m : List ℕ) : Type 0 where
   pub s0 : at n 0 ≡ at m 0

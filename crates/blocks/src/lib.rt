@@ -32,34 +32,22 @@ pub fn copy(from: &[f64], to: &mut [f64])
     ensures { to.new ≡ take (length to.old) from.now }
 {
     let n = to.len();
-    let mut k = 0;
-    while k < n {
-        to[k] = from[k];
-        k += 1;
-    }
+    to.copy_from_slice(&from[..n]);
 }
 
 // Every place at +0.0.
 pub fn clear(to: &mut [f64])
     ensures { to.new ≡ zeros (length to.old) }
 {
-    let n = to.len();
-    let mut i = 0;
-    while i < n {
-        to[i] = 0.0;
-        i += 1;
-    }
+    to.fill(0.0);
 }
 
 // Every place negated.
 pub fn turn(to: &mut [f64])
     ensures { to.new ≡ table (length to.old) (negated_at to.old) }
 {
-    let n = to.len();
-    let mut k = 0;
-    while k < n {
-        to[k] = -to[k];
-        k += 1;
+    for x in to.iter_mut() {
+        *x = -*x;
     }
 }
 
@@ -75,11 +63,8 @@ fn join_line(minus: bool, with: &[f64], to: &mut [f64])
     requires { length with.now ≤ length to.old }
     ensures { to.new ≡ table (length to.old) (line_joined minus with.now to.old) }
 {
-    let n = with.len();
-    let mut k = 0;
-    while k < n {
-        to[k] = joined(minus, to[k], with[k]);
-        k += 1;
+    for (k, x) in with.iter().enumerate() {
+        to[k] = joined(minus, to[k], *x);
     }
 }
 
@@ -87,7 +72,7 @@ fn join_line(minus: bool, with: &[f64], to: &mut [f64])
 pub fn is_same(n: [usize; 4], m: [usize; 4]) -> bool
     ensures { result ≡ same_lengths n m }
 {
-    (n[0] == m[0]) & (n[1] == m[1]) & (n[2] == m[2]) & (n[3] == m[3])
+    n == m
 }
 
 // The last two variables taken as one.
@@ -104,17 +89,17 @@ fn longest_rows(n: [usize; 4], c: [usize; 4]) -> Nested
     requires fact_2 { Sizes c }
     ensures { Merged n c result.of result.to }
 {
-    let mut m = n;
-    let mut d = c;
-    let mut left = 3usize;
-    while (0 < left) & (m[3] == d[3]) {
-        let x = merged(m);
-        let y = merged(d);
-        m = x;
-        d = y;
-        left -= 1;
+    let mut rows = Nested { of: n, to: c };
+    for _ in 0..3 {
+        if rows.of[3] != rows.to[3] {
+            break;
+        }
+        rows = Nested {
+            of: merged(rows.of),
+            to: merged(rows.to),
+        };
     }
-    Nested { of: m, to: d }
+    rows
 }
 
 // Row by row, the places of a block with the lengths n that lie inside the lengths c.
@@ -143,10 +128,8 @@ pub fn load(a: &[f64], n: [usize; 4], c: [usize; 4], to: &mut [f64])
         copy(a, to);
         return;
     }
-    let r = longest_rows(n, c);
-    let m = r.of;
-    let d = r.to;
-    load_rows(a, m, d, to);
+    let rows = longest_rows(n, c);
+    load_rows(a, rows.of, rows.to, to);
 }
 
 // One row of a block with greater lengths, from the index i on, joined with what a block with the lengths n stores
@@ -186,10 +169,8 @@ pub fn join_block(minus: bool, a: &[f64], n: [usize; 4], r: [usize; 4], to: &mut
     requires { Joining n r (length a.now) (length to.old) }
     ensures { to.new ≡ table (count r) (λ k. join_at minus (get_or to.old k nan) (block n a.now) (index r k)) }
 {
-    let x = longest_rows(n, r);
-    let m = x.of;
-    let d = x.to;
-    join_rows(minus, a, m, d, to);
+    let rows = longest_rows(n, r);
+    join_rows(minus, a, rows.of, rows.to, to);
 }
 
 // a with its first place joined with b's.
@@ -219,12 +200,9 @@ fn join_lines(minus: bool, a: &[f64], b: &[f64], to: &mut [f64])
     requires { (length a.now ≡ length to.old) × (length b.now ≡ length to.old) }
     ensures { to.new ≡ table (length to.old) (line_sum minus a.now b.now) }
 {
-    let n = to.len();
-    let mut k = 0;
-    while k < n {
+    for (k, y) in to.iter_mut().enumerate() {
         let x = joined(false, 0.0, a[k]);
-        to[k] = joined(minus, x, b[k]);
-        k += 1;
+        *y = joined(minus, x, b[k]);
     }
 }
 

@@ -1,16 +1,17 @@
 -- Rows of a block under a cap on total degree (document 02, W10).
-use Rattle.std.specs.Prelude.{ℕ, ◌+◌, ◌-◌, ◌≤◌, ◌<◌, List, ◌++◌, cond, ◌≡◌, refl, ltb, length, get_or, take, drop, Float}
-use Rattle.std.proofs.Common.{sym, ap, ◌∙◌, arith, take-append-drop, get_or-take, get_or-drop, lt-ltb}
+use Rattle.std.specs.Prelude.{ℕ, ◌+◌, ◌-◌, ◌≤◌, ◌<◌, min, List, ◌++◌, cond, ◌≡◌, refl, ltb, length, get_or, take, drop, Float}
+use Rattle.std.proofs.Common.{sym, ap, ◌∙◌, arith, take-append-drop, get_or-take, get_or-drop, drop-drop, lt-ltb, le-ltb}
 use Rattle.std.specs.Float.{nan}
+use borrow.Rule.Slice.PartMut.{put_mid}
 use Rattle.lists.specs.Four.{at}
-use Rattle.lists.specs.Table.{table, table_same, table-take, Filled, front}
+use Rattle.lists.specs.Table.{table, table_same, table-take, Filled}
 use Rattle.model.specs.Header.{count}
 use Rattle.model.specs.Places.{index}
 use Rattle.model_textbook.specs.Box.{degree}
-use Rattle.model.specs.Refusals.{zero_f}
+use Rattle.model.specs.Refusals.{zero_f, zeros}
 use Rattle.model_caps.specs.Cap.{capped_at}
 use Rattle.shape_words.specs.Lengths.{Lengths, RowAt, sizes-of}
-use Rattle.lists.specs.Fill.{filled-rest}
+use Rattle.lists.specs.Fill.{filled-all, filled-rest, filled_row}
 use Rattle.blocks.specs.Rows.{AtRow, at_row, index-row}
 use Rattle.blocks.specs.ByRow.{ByRow}
 
@@ -31,6 +32,14 @@ masked-from d c k old h l = record {
       ∙ ap (λ (x : List Float). x ++ drop k old)
       (sym (table_same (masked_at d c old) (λ i. get_or old i nan) k (λ i m. rw (lt-ltb (d + i) c (omega arith))) ∙ table-take nan old k l));
 }
+
+-- the rest of it is cleared
+pub masked-rest : (d c k w : ℕ) (old : List Float) {row : List Float} → k ≡ min (c - d) (length old) → k + w ≡ length old → row ≡ zeros w
+    → put_mid k w old row ≡ table (length old) (masked_at d c old)
+masked-rest d c k w old e g r =
+    rw (drop-drop w k old) (filled-all
+    (filled_row w (masked-from d c k old (omega arith) (omega arith))
+    (r ∙ table_same _ _ w (λ j l. sym (rw (le-ltb (d + (k + j)) c (omega arith))))) (omega arith)) (omega arith) (omega arith))
 
 -- what the numbers of a place in a row add up to
 pub row-degree : (n : List ℕ) {p : ℕ} {i : List ℕ} → AtRow n p i → (k : ℕ) → k < at n 3 → degree (index n (p + k)) ≡ at i 0 + at i 1 + at i 2 + k

@@ -14,10 +14,7 @@ ghost use Rattle.blocks_mask.specs.Cleans.{clean_along};
 fn reach(d: usize, cap: usize, n: usize) -> usize
     ensures { result ≡ min (cap - d) n }
 {
-    if cap <= d {
-        return 0;
-    }
-    if cap - d < n { cap - d } else { n }
+    cap.saturating_sub(d).min(n)
 }
 
 // One row, whose numbers before the last add up to d.
@@ -25,12 +22,8 @@ fn mask_row(d: usize, cap: usize, to: &mut [f64])
     requires { d ≤ 16777216 }
     ensures { to.new ≡ table (length to.old) (masked_at d cap to.old) }
 {
-    let n = to.len();
-    let mut k = reach(d, cap, n);
-    while k < n {
-        to[k] = 0.0;
-        k += 1;
-    }
+    let from = reach(d, cap, to.len());
+    blocks::clear(&mut to[from..]);
 }
 
 // Row by row, a block with the lengths n.
@@ -66,12 +59,10 @@ fn row_is_clean(d: usize, cap: usize, of: &[f64]) -> bool
     ensures { result ≡ every (clean_along d cap of.now) (length of.now) 0 }
 {
     let n = of.len();
-    let mut k = reach(d, cap, n);
-    while k < n {
+    for k in reach(d, cap, n)..n {
         if sheet_bits::word_of(of[k]) != 0 {
             return false;
         }
-        k += 1;
     }
     true
 }

@@ -1,5 +1,5 @@
 -- `shift_down`, part by part: s the places of a row, m how many rows are summed, xs the places of a part.
-use Rattle.std.specs.Prelude.{ℕ, ◌+◌, ◌-◌, ◌*◌, ◌/◌, ◌%◌, ◌≤◌, ◌<◌, List, ◌++◌, Bool, true, false, cond, ◌≡◌, refl, ltb, length, get_or, take, drop, Float}
+use Rattle.std.specs.Prelude.{ℕ, ◌+◌, ◌*◌, ◌/◌, ◌%◌, ◌≤◌, ◌<◌, List, ◌++◌, Bool, true, false, cond, ◌≡◌, refl, ltb, length, get_or, take, drop, Float}
 use Rattle.std.proofs.Common.{sym, ap, ◌∙◌, arith, le_refl, get_or-take, take-take, lt-ltb, le-ltb, ltb-true}
 use Rattle.std.proofs.Math.Arith.{digits_lt, digits_div, digits_mod}
 use Rattle.std.specs.Float.{nan, binary64}

@@ -1,7 +1,7 @@
 -- `derivative` and `taylor_expansion_of_coeff`: what they write, and that it keeps what an operation owes of its
 -- result.
-use Rattle.std.specs.Prelude.{ℕ, zero, suc, ◌+◌, ◌-◌, ◌*◌, ◌/◌, ◌%◌, ◌≤◌, ◌<◌, List, [], ◌∷◌, Bool, true, false}
-use Rattle.std.specs.Prelude.{cond, ◌≡◌, refl, leb, eqb, length, get_or, Float}
+use Rattle.std.specs.Prelude.{ℕ, zero, suc, ◌+◌, ◌*◌, ◌/◌, ◌%◌, ◌≤◌, ◌<◌, List, [], ◌∷◌, Bool, true, false}
+use Rattle.std.specs.Prelude.{cond, ◌≡◌, refl, leb, eqb, get_or, Float}
 use Rattle.std.proofs.Common.{sym, ap, ◌∙◌, arith, add-one, mul-le-mul_right, get_or-drop}
 use Rattle.std.proofs.Math.Arith.{digits_div}
 use Rattle.std.specs.Float.{nan, binary64}

@@ -111,15 +111,11 @@ pub fn scaled(plain: bool, head: u64, a: &[f64], v: usize, n: usize, out: &mut [
     ensures written { out.new ≡ out_after (shift_gate head a.now v n out.old)
         (announced_one (Shift v n) head) (scaled_poly plain v n (held head a.now)) out.old }
 {
-    let o = gates::open_in(Family::Shift(v, n), v, n, head, a.len(), out.len());
-    let refusal = o.refusal;
-    if refusal.number != 0 {
-        return Answer::Refused(refusal);
-    }
+    let o = gates::open_in(Family::Shift(v, n), v, n, head, a.len(), out.len())?;
     let h = o.a;
     let r = o.told;
     let given = o.na;
     let count = o.n;
     let x = take_rows(plain, &a[..given], h, r, v, n, &mut out[..count]);
-    Answer::Done(pack(x))
+    Ok(pack(x))
 }

@@ -32,15 +32,11 @@ pub fn taylor_expansion_of_coeff(
 pub fn shift_down(head: u64, a: &[f64], v: usize, n: usize, out: &mut [f64]) -> Answer
     ensures { ShiftDownPromise head a.now v n out.old result out.new }
 {
-    let o = gates::open_in(Family::Shift(v, n), v, n, head, a.len(), out.len());
-    let refusal = o.refusal;
-    if refusal.number != 0 {
-        return Answer::Refused(refusal);
-    }
+    let o = gates::open_in(Family::Shift(v, n), v, n, head, a.len(), out.len())?;
     let h = o.a;
     let r = o.told;
     let given = o.na;
     let count = o.n;
     kernel::shift_rows(&a[..given], h, r, v, n, &mut out[..count]);
-    Answer::Done(pack(r))
+    Ok(pack(r))
 }

@@ -14,10 +14,8 @@ fn factorial(n: usize) -> f64
     ensures { result ≡ factorial_f n }
 {
     let mut product = 1.0;
-    let mut i = 0;
-    while i < n {
-        i += 1;
-        product = product * (i as f64);
+    for i in 1..n + 1 {
+        product *= i as f64;
     }
     product
 }
@@ -38,11 +36,8 @@ fn scale_row(a: &[f64], factor: f64, to: &mut [f64])
     requires { length to.old ≤ length a.now }
     ensures { to.new ≡ table (length to.old) (λ k. mul binary64 (get_or a.now k nan) factor) }
 {
-    let n = to.len();
-    let mut k = 0;
-    while k < n {
-        to[k] = a[k] * factor;
-        k += 1;
+    for (k, x) in to.iter_mut().enumerate() {
+        *x = a[k] * factor;
     }
 }
 

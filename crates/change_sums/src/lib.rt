@@ -12,11 +12,8 @@ fn add_row(row: &[f64], to: &mut [f64])
     requires { length to.old ≤ length row.now }
     ensures { to.new ≡ table (length to.old) (λ k. add binary64 (get_or to.old k nan) (get_or row.now k nan)) }
 {
-    let n = to.len();
-    let mut k = 0;
-    while k < n {
-        to[k] = to[k] + row[k];
-        k += 1;
+    for (k, x) in to.iter_mut().enumerate() {
+        *x = *x + row[k];
     }
 }
 
@@ -25,12 +22,8 @@ fn add_to_row(row: &[f64], to: &mut [f64])
     requires { length to.old ≤ length row.now }
     ensures { to.new ≡ table (length to.old) (λ k. add binary64 (get_or row.now k nan) (get_or to.old k nan)) }
 {
-    let n = to.len();
-    let mut k = 0;
-    while k < n {
-        let x = row[k];
-        to[k] = x + to[k];
-        k += 1;
+    for (k, x) in to.iter_mut().enumerate() {
+        *x = row[k] + *x;
     }
 }
 
@@ -42,14 +35,11 @@ pub fn sum_rows(a: &[f64], m: usize, to: &mut [f64]) -> usize
 {
     blocks::clear(to);
     let s = to.len();
-    let mut j = 0;
-    let mut at = 0;
-    while j < m {
+    for j in 0..m {
+        let at = j * s;
         add_row(&a[at..at + s], to);
-        at += s;
-        j += 1;
     }
-    at
+    m * s
 }
 
 // The row m plus the sum of those before it; answers how many places they all have.

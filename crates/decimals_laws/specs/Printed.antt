@@ -1,6 +1,6 @@
 -- What was printed of a float without a mark, and with no minus, is read as that float, where it has at most 15 digits.
 use Prim.Native.Nat.{ℕ, zero, suc, ◌+◌, ◌-◌, ◌*◌, ◌/◌, ◌%◌, ◌^◌, ◌≤◌, ◌<◌}
-use Rattle.std.specs.Prelude.{Bool, true, ◌&&◌, ◌≡◌, refl, T, ltb, eqb, Float}
+use Rattle.std.specs.Prelude.{Some, Bool, true, ◌&&◌, ◌≡◌, refl, T, ltb, eqb, Float}
 use Rattle.std.proofs.Math.Bool.{false}
 use Rattle.std.proofs.Common.{true≢false, ◌∙◌, pow-suc}
 use mathlib.Core.List.{List, [], ◌∷◌, ◌++◌, append-nil}
@@ -19,7 +19,6 @@ use Rattle.decimals.specs.Long.{places-length, trimmed-length}
 use Rattle.decimals_values.specs.Values.{has_same}
 use Rattle.decimals_values.specs.Back.{read_back}
 use Rattle.decimals.specs.Says.{Says}
-use Rattle.model_decimals.specs.declared.Read.TheVariants.{Number}
 use Rattle.model_decimals.specs.Typed.{is_digit, all_digits, some_digits, significant, digits_value, read_text}
 use Rattle.decimals_reading.specs.Significant.{value-least, value_append, significant-few}
 use Rattle.decimals_reading.specs.Exactly.{digits_append, some-all}
@@ -119,21 +118,21 @@ few-digits : (t : List ℕ) → all_digits t ≡ true → digits_value 0 t < 100
 few-digits t d l = leb-true _ _ (sym (significant-few t d) ∙ lt-ltb _ _ l)
 
 read-digits : (t : List ℕ) → some_digits t ≡ true → digits_value 0 t < 1000000000000000
-    → read_text (t ++ []) ≡ Number (round binary64 false (digits_value 0 t) 1)
+    → read_text (t ++ []) ≡ Some (round binary64 false (digits_value 0 t) 1)
 unfolding all_digits pointed
 read-digits t d l =
     let e = append-nil t in
     let f : length (significant (t ++ [])) ≤ 15 = rw e (few-digits t (some-all t d) l) in
-    read-joined t [] d refl f (omega arith) ∙ ap (λ (u : List ℕ). Number (round binary64 false (digits_value 0 u) 1)) e
+    read-joined t [] d refl f (omega arith) ∙ ap (λ (u : List ℕ). Some (round binary64 false (digits_value 0 u) 1)) e
 
 read-both : (t u : List ℕ) → some_digits t ≡ true → some_digits u ≡ true → digits_value (digits_value 0 t) u < 1000000000000000 → length u ≤ 22
-    → read_text (t ++ (46 ∷ u)) ≡ Number (round binary64 false (digits_value (digits_value 0 t) u) (10 ^ length u))
+    → read_text (t ++ (46 ∷ u)) ≡ Some (round binary64 false (digits_value (digits_value 0 t) u) (10 ^ length u))
 unfolding some_digits pointed
 read-both t [] d e l k = absurd (true≢false (sym e))
 read-both t (b ∷ u) d e l k =
     let a = value_append t (b ∷ u) 0 in
     let f = few-digits (t ++ (b ∷ u)) (digits_append t (b ∷ u) (some-all t d) e) (rw a l) in
-    read-joined t (b ∷ u) d e f k ∙ ap (λ (n : ℕ). Number (round binary64 false n (10 ^ length (b ∷ u)))) a
+    read-joined t (b ∷ u) d e f k ∙ ap (λ (n : ℕ). Some (round binary64 false n (10 ^ length (b ∷ u)))) a
 
 all-some : (t : List ℕ) → 0 < length t → all_digits t ≡ true → some_digits t ≡ true
 unfolding some_digits
@@ -165,19 +164,19 @@ module _ (x : Float) (m : ℕ) (f : T (fits binary64 x)) (v : HasValue x false m
   whole_part : a * 10 ^ 9 + p ≡ m
   whole_part = omega arith
 
-  no_part : p ≡ 0 → read_text (decimal a ++ []) ≡ Number x
+  no_part : p ≡ 0 → read_text (decimal a ++ []) ≡ Some x
   unfolding decimal
   no_part z =
       let q : m * 1 ≡ a * 1000000000 = omega arith in
       let w : HasValue x false a 1 = has_same x false m 1000000000 a 1 (omega arith) q v in
       let b : a ≤ shown m = least (trimmed_places 9 p) a in
       read-digits (decimal a) (all-some (decimal a) (whole-some 19 a) (whole-digits 20 a)) (rw whole_is (omega arith))
-      ∙ ap Number (ap (λ (n : ℕ). round binary64 false n 1) whole_is ∙ read_back x false a 1 f (omega arith) w)
+      ∙ ap Some (ap (λ (n : ℕ). round binary64 false n 1) whole_is ∙ read_back x false a 1 f (omega arith) w)
     where
       least : (t : List ℕ) (n : ℕ) → n ≤ digits_value n t
       least t n = value-least t n
 
-  some-part : 0 < p → read_text (decimal a ++ (46 ∷ trimmed_places 9 p)) ≡ Number x
+  some-part : 0 < p → read_text (decimal a ++ (46 ∷ trimmed_places 9 p)) ≡ Some x
   unfolding decimal
   some-part z =
       let L : ℕ = length (trimmed_places 9 p) in
@@ -186,16 +185,16 @@ module _ (x : Float) (m : ℕ) (f : T (fits binary64 x)) (v : HasValue x false m
       read-both (decimal a) (trimmed_places 9 p) (all-some (decimal a) (whole-some 19 a) (whole-digits 20 a))
       (all-some (trimmed_places 9 p) (trimmed-length_pos 9 p z (omega arith)) (trimmed-digits 9 p)) (rw whole_is s)
       (omega (arith, trimmed-length 9 p))
-      ∙ ap Number (ap (λ (n : ℕ). round binary64 false (digits_value n (trimmed_places 9 p)) (10 ^ L)) whole_is
+      ∙ ap Some (ap (λ (n : ℕ). round binary64 false (digits_value n (trimmed_places 9 p)) (10 ^ L)) whole_is
       ∙ read_back x false (shown m) (10 ^ L) f (ten-pos L) w)
 
-  pub read_printed : read_text (decimal a ++ point_text p) ≡ Number x
+  pub read_printed : read_text (decimal a ++ point_text p) ≡ Some x
   unfolding point_text
   read_printed = decide (eqb p 0) (λ t. rw t (no_part (eqb-true p 0 t))) (λ t. rw t (let z = eqb-false p 0 t in some-part (omega arith)))
 
 -- a text that says x without a mark or a minus is read as x
 pub printed-back : (x : Float) (text : List ℕ) → T (fits binary64 x) → (r : Says x text) → r.minus ≡ false → r.exact ≡ true
-    → shown r.m < 1000000000000000 → read_text text ≡ Number x
+    → shown r.m < 1000000000000000 → read_text text ≡ Some x
 unfolding rounded_text bytes
 printed-back x text f r n e s =
     let v : HasValue x false r.m 1000000000 = rw n at (r.unmarked e) in

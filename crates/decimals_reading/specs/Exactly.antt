@@ -1,13 +1,12 @@
 -- The reader takes exactly what the definition takes: from each stage, what it says of the rest of a text.
-use Rattle.std.specs.Prelude.{ℕ, suc, ◌+◌, ◌-◌, ◌*◌, ◌^◌, ◌≤◌, ◌<◌, Bool, true, false, not, ◌&&◌, ◌||◌, cond, List}
+use Rattle.std.specs.Prelude.{Some, None, ℕ, suc, ◌+◌, ◌-◌, ◌*◌, ◌^◌, ◌≤◌, ◌<◌, Bool, true, false, not, ◌&&◌, ◌||◌, cond, List}
 use Rattle.std.specs.Prelude.{[], ◌∷◌, ◌++◌, ◌≡◌, refl, leb, ltb, eqb, length, Float}
 use Rattle.std.proofs.Common.{true≢false, sym, ap, ◌∙◌, arith, eqb-true, leb-true, leb-false, le-leb, lt-ltb, le-ltb}
 use Rattle.std.specs.Float.{binary64}
 use Rattle.std.specs.Float.Ieee.{round}
 use Rattle.std.proofs.lemmas.Bool.{lt-leb}
 use Rattle.lists.specs.Test.{decide, and_left, and_right}
-use Rattle.model_decimals.specs.declared.Read.{Read}
-use Rattle.model_decimals.specs.declared.Read.TheVariants.{Number, Refused}
+use Rattle.model_decimals.specs.Results.{Read}
 use Rattle.model_decimals.specs.Typed.{before, has_point, behind, is_digit, all_digits, some_digits, significant, digits_value, is_typed, read_text}
 use Rattle.decimals_reading.specs.declared.scanning.Scan.{Scan}
 use Rattle.decimals_reading.specs.Scanned.{at, none, pushed, scanned, said, Scanning, scanning_end}
@@ -50,10 +49,10 @@ unfolding scanned
 scanned-none [] = refl
 scanned-none (b ∷ t) = ap (λ (s : Scan). scanned s t) (push-none b) ∙ scanned-none t
 
-refuses : (t : List ℕ) (s : Scan) → s ≡ none → said (scanned s t) ≡ Refused
+refuses : (t : List ℕ) (s : Scan) → s ≡ none → said (scanned s t) ≡ None
 refuses t s e = ap (λ (y : Scan). said (scanned y t)) e ∙ ap said (scanned-none t)
 
-fails : (t : List ℕ) (s : Scan) (c : Bool) (r : Read) → s ≡ none → c ≡ false → said (scanned s t) ≡ cond c r Refused
+fails : (t : List ℕ) (s : Scan) (c : Bool) (r : Read) → s ≡ none → c ≡ false → said (scanned s t) ≡ cond c r None
 fails t s c r e f = rw f (refuses t s e)
 
 -- and where the byte b is taken, as s
@@ -70,7 +69,7 @@ below n t = ltb (digits_value n t) 1000000000000000
 
 -- the number v with j digits behind the point, where the test c is passed
 abbrev answer : Bool → ℕ → ℕ → Read
-answer c v j = cond c (Number (round binary64 false v (10 ^ j))) Refused
+answer c v j = cond c (Some (round binary64 false v (10 ^ j))) None
 
 module _ (t : List ℕ) (n b : ℕ) (h : 100000000000000 ≤ n) where
   too_large : below (10 * n + (b - 48)) t ≡ false
@@ -232,8 +231,8 @@ module _ (text : List ℕ) {s : Scan} {k : ℕ} (c : Scanning text s k) (l : len
   ended : read_text text ≡ said s
   ended = sym (scanned-reads text) ∙ scanning_end text c l
 
-  pub read_number : {x : Float} → (eqb s.stage 1 || eqb s.stage 3) ≡ true → x ≡ round binary64 false s.size (10 ^ s.places) → Number x ≡ read_text text
+  pub read_number : {x : Float} → (eqb s.stage 1 || eqb s.stage 3) ≡ true → x ≡ round binary64 false s.size (10 ^ s.places) → Some x ≡ read_text text
   read_number {x} t e = rw (ended, t, e)
 
-  pub read-refused : (eqb s.stage 1 || eqb s.stage 3) ≡ false → Refused ≡ read_text text
+  pub read-refused : (eqb s.stage 1 || eqb s.stage 3) ≡ false → None ≡ read_text text
   read-refused t = rw (ended, t)

@@ -1,7 +1,7 @@
 -- What `read` promises, and that it admits one outcome (document 01, 'What each answer owes').
 use Rattle.std.specs.Prelude.{ℕ, List, ◌≡◌}
 use Rattle.std.proofs.Common.{sym, ◌∙◌}
-use Rattle.model_decimals.specs.declared.Read.{Read}
+use Rattle.model_decimals.specs.Results.{Read}
 use Rattle.model_decimals.specs.Typed.{read_text}
 
 -- t the text, r the answer

@@ -1,11 +1,10 @@
 -- Which texts are read, and as what: some digits, or some digits, a point and some digits, in their number as the
 -- definition has it; and no others.
-use Rattle.std.specs.Prelude.{ℕ, ◌^◌, ◌≤◌, Bool, true, false, not, ◌&&◌, ◌||◌, cond, List, [], ◌∷◌, ◌++◌, ◌≡◌, refl, leb, eqb, length, Float}
+use Rattle.std.specs.Prelude.{Some, None, ℕ, ◌^◌, ◌≤◌, Bool, true, false, not, ◌&&◌, ◌||◌, cond, List, [], ◌∷◌, ◌++◌, ◌≡◌, refl, leb, eqb, length, Float}
 use Rattle.std.proofs.Common.{true≢false, sym, ap, ◌∙◌, arith, eqb-true, ne_eqb, leb-true, le-leb}
 use Rattle.std.specs.Float.{binary64}
 use Rattle.std.specs.Float.Ieee.{round}
 use Rattle.lists.specs.Test.{decide, and_left, and_right}
-use Rattle.model_decimals.specs.declared.Read.TheVariants.{Number, Refused}
 use Rattle.model_decimals.specs.Typed.{before, has_point, behind, is_digit, all_digits, some_digits, significant, digits_value, is_typed, read_text}
 use Rattle.decimals_reading.specs.Significant.{digit-most}
 use Rattle.decimals_reading.specs.Exactly.{no-point-behind, some-all, behind-digits}
@@ -54,18 +53,18 @@ cut-point (b ∷ ds) es d =
 -- ---- every right text is read
 cut-read : (t ds es : List ℕ) (p : Bool) → Cut t ds es p → some_digits ds ≡ true → (not p || some_digits es) ≡ true
     → leb (length (significant (ds ++ es))) 15 ≡ true → leb (length es) 22 ≡ true
-    → read_text t ≡ Number (round binary64 false (digits_value 0 (ds ++ es)) (10 ^ length es))
+    → read_text t ≡ Some (round binary64 false (digits_value 0 (ds ++ es)) (10 ^ length es))
 unfolding read_text is_typed
 cut-read t ds es p c s q f l = rw (c.front, c.point, c.back, s, q, f, l)
 
 pub read-joined : (ds es : List ℕ) → some_digits ds ≡ true → all_digits es ≡ true → length (significant (ds ++ es)) ≤ 15 → length es ≤ 22
-    → read_text (ds ++ pointed es) ≡ Number (round binary64 false (digits_value 0 (ds ++ es)) (10 ^ length es))
+    → read_text (ds ++ pointed es) ≡ Some (round binary64 false (digits_value 0 (ds ++ es)) (10 ^ length es))
 unfolding pointed some_digits
 read-joined ds [] s e f l = cut-read (ds ++ []) ds [] false (cut-none ds (some-all ds s)) s refl (le-leb _ _ f) refl
 read-joined ds (b ∷ es) s e f l =
     cut-read (ds ++ (46 ∷ (b ∷ es))) ds (b ∷ es) true (cut-point ds (b ∷ es) (some-all ds s)) s e (le-leb _ _ f) (le-leb _ _ l)
 
-pub read_right : (t : List ℕ) (r : Right t) → read_text t ≡ Number (round binary64 false (digits_value 0 (r.whole ++ r.part)) (10 ^ length r.part))
+pub read_right : (t : List ℕ) (r : Right t) → read_text t ≡ Some (round binary64 false (digits_value 0 (r.whole ++ r.part)) (10 ^ length r.part))
 read_right t r = ap read_text r.is ∙ read-joined r.whole r.part r.some r.digits r.few r.places
 
 -- ---- and nothing else is
@@ -99,13 +98,13 @@ typed-right t h =
       places = leb-true _ _ (and_right (leb (length (significant (before t ++ behind t))) 15) (leb (length (behind t)) 22) counts);
     }
 
-pub only-right : (t : List ℕ) (x : Float) → read_text t ≡ Number x → Right t
+pub only-right : (t : List ℕ) (x : Float) → read_text t ≡ Some x → Right t
 unfolding read_text
 only-right t x e =
     decide (is_typed t)
     (typed-right t)
-    (λ n. let h : Refused ≡ Number x = rw n at e in let y : ◌≡◌ {A = ℕ} 0 1 = cc in absurd (omega (arith, y)))
+    (λ n. let h : None ≡ Some x = rw n at e in let y : ◌≡◌ {A = ℕ} 0 1 = cc in absurd (omega (arith, y)))
 
-pub refused_else : (t : List ℕ) → (Right t → ⊥) → read_text t ≡ Refused
+pub refused_else : (t : List ℕ) → (Right t → ⊥) → read_text t ≡ None
 unfolding read_text
 refused_else t h = decide (is_typed t) (λ y. absurd (h (typed-right t y))) (λ n. rw n)

@@ -1,5 +1,5 @@
 -- A text byte by byte: what was seen of it so far, and the loop that goes over it.
-use Rattle.std.specs.Prelude.{ℕ, ◌+◌, ◌-◌, ◌*◌, ◌^◌, ◌≤◌, ◌<◌, false, ◌&&◌, ◌||◌, cond, List, [], ◌∷◌, ◌≡◌, refl, leb, ltb, eqb, get_or}
+use Rattle.std.specs.Prelude.{Some, None, ℕ, ◌+◌, ◌-◌, ◌*◌, ◌^◌, ◌≤◌, ◌<◌, false, ◌&&◌, ◌||◌, cond, List, [], ◌∷◌, ◌≡◌, refl, leb, ltb, eqb, get_or}
 use Rattle.std.proofs.Math.Path.{ap}
 use Rattle.std.proofs.Common.{◌∙◌, arith, drop-cons, leb-true, leb-false, ltb-true}
 use Rattle.std.proofs.Math.Numerals.{add-one}
@@ -8,8 +8,7 @@ use Rattle.std.proofs.Math.Seq.{drop-length}
 use Rattle.std.specs.Float.{binary64}
 use Rattle.std.specs.Float.Ieee.{round}
 use Rattle.lists.specs.Test.{decide, and_right}
-use Rattle.model_decimals.specs.declared.Read.{Read}
-use Rattle.model_decimals.specs.declared.Read.TheVariants.{Number, Refused}
+use Rattle.model_decimals.specs.Results.{Read}
 use Rattle.model_decimals.specs.Typed.{is_digit}
 use Rattle.decimals_reading.specs.declared.scanning.Scan.{Scan}
 
@@ -37,7 +36,7 @@ scanned s (b ∷ t) = scanned (pushed s b) t
 
 -- the float nearest to size / 10 ^ places
 abbrev pub said : Scan → Read
-said s = cond (eqb s.stage 1 || eqb s.stage 3) (Number (round binary64 false s.size (10 ^ s.places))) Refused
+said s = cond (eqb s.stage 1 || eqb s.stage 3) (Some (round binary64 false s.size (10 ^ s.places))) None
 
 -- what never grows past a division of two floats that hold their numbers
 pub record Bounded (s : Scan) : Type 0 where

@@ -20,16 +20,14 @@ pub fn read(text: &[u8]) -> Read
         size: 0,
         places: 0,
     };
-    let mut k = 0;
-    while k < text.len() {
-        s = push(s, text[k]);
-        k += 1;
+    for b in text {
+        s = push(s, *b);
     }
     let stage = s.stage;
     let size = s.size;
     let places = s.places;
     if (stage == 1) | (stage == 3) {
-        return Read::Number(quotient(size, places));
+        return Some(quotient(size, places));
     }
-    Read::Refused
+    None
 }

@@ -3,7 +3,8 @@ ghost use Rattle.std.specs.Prelude.{◌≡◌, ◌≤◌};
 ghost use Rattle.decimals_reading.specs.Scanned.{none, pushed_digit, pushed};
 
 // What was seen of a text so far. Stage 0: nothing; 1: digits; 2: a point behind them; 3: digits behind the point; 4:
-// no number. `size` is what all the digits make, `places` how many stand behind the point.
+// no number (by number, and no enum: the contract of `push` names the stage so). `size` is what all the digits make,
+// `places` how many stand behind the point.
 #[derive(Clone, Copy)]
 pub struct Scan {
     pub stage: u64,

@@ -11,8 +11,8 @@ pub fn exp_constant(x: f64) -> Reading
     ensures { ExpConstantPromise x result }
 {
     if in_range(x) {
-        Reading::Done(exp_head(x))
+        Ok(exp_head(x))
     } else {
-        Reading::Refused(Refusal::by(12))
+        Err(Refusal::by(12))
     }
 }

@@ -20,10 +20,8 @@ pub fn exp_head(x: f64) -> f64
 {
     let t = x + 9.0;
     let mut h = 1.0;
-    let mut m: u32 = 0;
-    while m < 71 {
+    for m in 0..71_u32 {
         h = 1.0 + t / ((71 - m) as f64) * h;
-        m += 1;
     }
     h / 8103.083927575384
 }

@@ -1,15 +1,12 @@
 -- Laws of gates: what follows from a gate that lets a call pass, and what a refusal leaves.
-use Rattle.std.specs.Prelude.{ℕ, ◌-◌, ◌*◌, ◌≤◌, ◌<◌, List, ◌++◌, Bool, true, false, ◌&&◌, cond, ◌≡◌, refl, leb, ltb, eqb, length, drop, Float}
-use Rattle.std.proofs.Common.{append-nil, sym, ap, ◌∙◌, arith, leb-true, ltb-true, eqb-true, eq-eqb, ne_eqb}
+use Rattle.std.specs.Prelude.{Ok, Err, ℕ, ◌-◌, ◌*◌, ◌≤◌, ◌<◌, List, ◌++◌, Bool, true, false, ◌&&◌, cond, ◌≡◌, refl, leb, ltb, length, drop, Float}
+use Rattle.std.proofs.Common.{append-nil, sym, ap, ◌∙◌, arith, leb-true, ltb-true, eq-eqb, ne_eqb}
 use Rattle.lists.specs.Test.{and_left, and_right}
 use Rattle.lists.specs.Table.{table}
 use Rattle.model.specs.declared.Header.{Header}
 use Rattle.model.specs.declared.Refusal.{Refusal}
-use Rattle.model.specs.declared.Answer.{Answer}
-use Rattle.model.specs.declared.Answer.TheVariants.{Done, Refused}
-use Rattle.model.specs.declared.Reading.TheVariants as reading
+use Rattle.model.specs.Results.{Answer}
 use Rattle.model.specs.declared.Linear.{Linear}
-use Rattle.model.specs.declared.LinearReading.TheVariants as linear-reading
 use Rattle.model.specs.declared.Family.{Family}
 use Rattle.model.specs.Header.{limit, stored, zero_with, var_with}
 use Rattle.model.specs.Places.{inside}
@@ -21,7 +18,7 @@ use Rattle.model.specs.Gates.{bad_word, ask_word, full, read_gate, no_missing, i
 use Rattle.model.specs.Faults.{fault, good_limit, limits_fault}
 use Rattle.model.specs.Gates.{good_limits, ask_limits, with_gate, var_with_gate, var_header, var_gate, announced_one}
 use Rattle.model.specs.Gates.{announced_pair}
-use Rattle.shape_words.specs.Rules.{Good, Regular, none-regular}
+use Rattle.shape_words.specs.Rules.{Good, Regular, Ruled, none-regular}
 use Rattle.shape_words.specs.Words.{good_word_lem}
 use Rattle.shape_words.specs.Lengths.{Inside, inside_is}
 use Rattle.gates.specs.Given.{good_limit_lem, good_limits_lem, given-same, zero-regular, var-regular}
@@ -125,11 +122,11 @@ module _ (w m : ℕ) (next : Refusal) {r : Refusal} (e : r ≡ read_gate w m) wh
 
 -- answers and buffers, by whether the gate refused
 module _ (r : Refusal) where
-  pub answer_no : (w : ℕ) → (r.number ≡ 0 → ⊥) → Refused r ≡ answer_by r w
+  pub answer_no : (w : ℕ) → (r.number ≡ 0 → ⊥) → Err r ≡ answer_by r w
   unfolding answer_by
   answer_no w n = simp (ne_eqb _ _ n)
 
-  pub answer-yes : (w : ℕ) → r.number ≡ 0 → Done w ≡ answer_by r w
+  pub answer-yes : (w : ℕ) → r.number ≡ 0 → Ok w ≡ answer_by r w
   unfolding answer_by
   answer-yes w e = simp (eq-eqb _ _ e)
 
@@ -144,28 +141,28 @@ module _ (r : Refusal) where
 -- the same of an entry: g its gate, as it answered
 module _ {r g : Refusal} (e : r ≡ g) where
   module _ (n : r.number ≡ 0 → ⊥) where
-    pub entry-refused : (h : Header) (p : Poly) (old : List Float) → (Refused r ≡ answered g p) × (old ≡ out_after g h p old)
+    pub entry-refused : (h : Header) (p : Poly) (old : List Float) → (Err r ≡ answered g p) × (old ≡ out_after g h p old)
     entry-refused h p old = (rw (← e) (answer_no r _ n), rw (← e) (leaves_no r _ old n))
 
-    pub read-refused : (x : Float) → reading.Refused r ≡ read_by g x
+    pub read-refused : (x : Float) → Err r ≡ read_by g x
     unfolding read_by
     read-refused x = rw (← e) (simp (ne_eqb _ _ n))
 
-    pub line_refused : (x : Linear) → linear-reading.Refused r ≡ linear_by g x
+    pub line_refused : (x : Linear) → Err r ≡ linear_by g x
     unfolding linear_by
     line_refused x = rw (← e) (simp (ne_eqb _ _ n))
 
   module _ (z : r.number ≡ 0) where
     pub entry_done : (h : Header) (p : Poly) (old : List Float) {a : Answer} {new : List Float}
-        → a ≡ Done (word_of p.head) → new ≡ written (stored h) p.coeffs old
+        → a ≡ Ok (word_of p.head) → new ≡ written (stored h) p.coeffs old
         → (a ≡ answered g p) × (new ≡ out_after g h p old)
     entry_done h p old k l = (rw (← e) (k ∙ answer-yes r _ z), rw (← e) (l ∙ leaves-yes r _ old z))
 
-    pub read_done : {x y : Float} → x ≡ y → reading.Done x ≡ read_by g y
+    pub read_done : {x y : Float} → x ≡ y → Ok x ≡ read_by g y
     unfolding read_by
     read_done k = rw (← e, k) (simp (eq-eqb _ _ z))
 
-    pub line-done : {x y : Linear} → x ≡ y → linear-reading.Done x ≡ linear_by g y
+    pub line-done : {x y : Linear} → x ≡ y → Ok x ≡ linear_by g y
     unfolding linear_by
     line-done k = rw (← e, k) (simp (eq-eqb _ _ z))
 
@@ -327,3 +324,16 @@ var-ready v l n e =
     let p = passed-by (refused_for (fault 0 6) 64) refl (good_limit l) true (leb v 3) true (fits (var_header v l) n) true e in
     let k = leb-true _ _ p.t3 in
     record { header = header-ready n (var-regular (given-same k (good_limit_lem l p.t1)) v) p.t5; known = k }
+
+-- What stands of the headers where the first tests hold.
+pub word-good : (w : ℕ) → (ask_word w no_refusal).number ≡ 0 → good_word w ≡ true
+word-good w z = (word-passed w true true true true true z).t1
+
+pub word-ruled : {h : Header} (w : ℕ) → (ask_word w no_refusal).number ≡ 0 → h ≡ header_of w → Ruled h
+word-ruled w z e = rw e (good_word_lem w (word-good w z)).regular.rules
+
+pub limits-good : (vars : ℕ) (l : List ℕ) → (ask_limits vars l no_refusal).number ≡ 0 → good_limits vars l ≡ true
+limits-good vars l z = (limits-passed vars l true true true true true z).t1
+
+pub words-good : (w u : ℕ) (b c : Bool) → (ask_word w (ask_word u (ask b 2 (ask c 2 no_refusal)))).number ≡ 0 → (good_word w ≡ true) × (good_word u ≡ true)
+words-good w u b c z = let p = words-passed w u b c true true z in (p.t1, p.t2)

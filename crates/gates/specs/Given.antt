@@ -5,7 +5,7 @@ use Rattle.std.proofs.Common.{arith, leb-true, le-ltb, ltb-true, eqb-true}
 use Rattle.std.proofs.lemmas.Bool.{lt-leb}
 use Rattle.lists.specs.Test.{and_left, and_right, or_right, decide, of-both}
 use Rattle.lists.specs.Four.{at, four, at-four, each}
-use Rattle.model.specs.Header.{header, limit, limit_or_one, zero_with, two_at_most, var_with}
+use Rattle.model.specs.Header.{limit, limit_or_one, zero_with, two_at_most, var_with}
 use Rattle.model.specs.Faults.{good_limit, sound_limit, limits_fault}
 use Rattle.model.specs.Gates.{good_limits}
 use Rattle.shape_words.specs.Sound.{unless-none}

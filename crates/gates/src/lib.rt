@@ -5,13 +5,15 @@
 ghost use Rattle.std.specs.Prelude.{◌≡◌, ◌*◌, ◌||◌, leb, ltb};
 ghost use Rattle.model.specs.Header.{limit, stored};
 ghost use Rattle.model.specs.Word.{header_of};
-ghost use Rattle.model.specs.Gates.{read_gate, no_missing, index_gate, sole_gate, good_total, tail_gate, one_gate, work_gate, in_gate};
+ghost use Rattle.model.specs.Gates.{ask_word, full, read_gate, no_missing, index_gate, sole_gate, good_total, tail_gate, one_gate, work_gate, in_gate};
 ghost use Rattle.model.specs.Faults.{good_limit, limits_fault};
-ghost use Rattle.model.specs.Gates.{with_gate, var_with_gate, var_gate};
+ghost use Rattle.model.specs.Gates.{ask_limits, with_gate, var_with_gate, var_gate, var_header};
+ghost use Rattle.model.specs.Header.{zero_with, var_with};
 ghost use Rattle.model.specs.Refusals.{ask, no_refusal, fits, roomy};
 ghost use Rattle.model.specs.declared.Family.TheVariants.{Product};
 ghost use Rattle.shape_words.specs.Rules.{Ruled};
-ghost use Rattle.gates.specs.Open.{shut, telling, OpensOne, words_gate, Opens};
+ghost use Rattle.model.specs.Passes.{Passes, Nothing, Is};
+ghost use Rattle.gates.specs.Open.{telling, AreHeaders, OpensOne, Opens};
 
 use model::{Family, Fault, Header, Refusal};
 use shape::announce::{announced_of, product_header};
@@ -45,15 +47,14 @@ fn is_fitting(h: Header, lent: usize) -> bool
 }
 
 // Test 5, where it is the last.
-fn fits_gate(h: Header, lent: usize) -> Refusal
+fn fits_gate(h: Header, lent: usize) -> Result<(), Refusal>
     requires { Ruled h }
-    ensures { result ≡ ask (fits h lent) 5 no_refusal }
+    ensures { Passes (ask (fits h lent) 5 no_refusal) Nothing result }
 {
-    if is_fitting(h, lent) {
-        Refusal::none()
-    } else {
-        Refusal::by(5)
+    if !is_fitting(h, lent) {
+        return Err(Refusal::by(5));
     }
+    Ok(())
 }
 
 // Test 6: scratch for eight times the announced count.
@@ -65,77 +66,53 @@ fn is_roomy(h: Header, lent: usize) -> bool
 }
 
 // Tests 5 and 6.
-fn room_gate(told: Header, lent: usize, scratch: usize) -> Refusal
+fn room_gate(told: Header, lent: usize, scratch: usize) -> Result<(), Refusal>
     requires { Ruled told }
-    ensures { result ≡ ask (fits told lent) 5 (ask (roomy told scratch) 6 no_refusal) }
+    ensures { Passes (ask (fits told lent) 5 (ask (roomy told scratch) 6 no_refusal)) Nothing result }
 {
-    if !is_fitting(told, lent) {
-        return Refusal::by(5);
-    }
+    fits_gate(told, lent)?;
     if !is_roomy(told, scratch) {
-        return Refusal::by(6);
+        return Err(Refusal::by(6));
     }
-    Refusal::none()
+    Ok(())
 }
 
 // Tests 3, 4 and 5: a variable v of the operand, a number d below its limit.
-fn below_gate(a: Header, v: usize, d: usize, told: Header, lent: usize) -> Refusal
-    requires fact_1 { Ruled a }
-    requires fact_2 { Ruled told }
-    ensures { result ≡ ask (ltb v a.vars) 3 (ask (ltb d (limit a v)) 4 (ask (fits told lent) 5 no_refusal)) }
+fn below_gate(a: Header, v: usize, d: usize, told: Header, lent: usize) -> Result<(), Refusal>
+    requires operand { Ruled a }
+    requires announced { Ruled told }
+    ensures { Passes (ask (ltb v a.vars) 3 (ask (ltb d (limit a v)) 4 (ask (fits told lent) 5 no_refusal))) Nothing result }
 {
     if a.vars <= v {
-        return Refusal::by(3);
+        return Err(Refusal::by(3));
     }
     let l = a.limits;
     if l[v] <= d {
-        return Refusal::by(4);
+        return Err(Refusal::by(4));
     }
     fits_gate(told, lent)
 }
 
-// One operand to read: why it is refused, and its header.
-#[derive(Clone, Copy)]
-pub struct Read {
-    pub refusal: Refusal,
-    pub head: Header,
-}
-
-// `given` coefficients under the header word: refusals 1, 2.
-pub fn open_read(word: u64, given: usize) -> Read
-    ensures refusal { result.refusal ≡ read_gate word given }
-    ensures head { result.head ≡ header_of word }
-{
-    let head = header_of(word);
-    if !is_good(word) {
-        return Read {
-            refusal: bad_word(word, Refusal::NOWHERE),
-            head,
-        };
-    }
-    if !is_full(head, given) {
-        return Read {
-            refusal: Refusal::by(2),
-            head,
-        };
-    }
-    Read {
-        refusal: Refusal::none(),
-        head,
-    }
-}
-
-// A number read off a polynomial: refusals 1, 2.
-pub fn read_gate(word: u64, given: usize) -> Refusal
-    ensures { result ≡ read_gate word given }
+// The header of a word: refusal 1.
+fn word_gate(word: u64) -> Result<Header, Refusal>
+    ensures { Passes (ask_word word no_refusal) (Is (header_of word)) result }
 {
     if !is_good(word) {
-        return bad_word(word, Refusal::NOWHERE);
+        return Err(bad_word(word, Refusal::NOWHERE));
     }
-    if !is_full(header_of(word), given) {
-        return Refusal::by(2);
+    Ok(header_of(word))
+}
+
+// The header of a word, under which `given` coefficients are lent: refusals 1, 2.
+#[tactic(auto, unfolding(model::specs::Gates::read_gate))]
+pub fn read_gate(word: u64, given: usize) -> Result<Header, Refusal>
+    ensures { Passes (read_gate word given) (Is (header_of word)) result }
+{
+    let h = word_gate(word)?;
+    if !is_full(h, given) {
+        return Err(Refusal::by(2));
     }
-    Refusal::none()
+    Ok(h)
 }
 
 // Whether the index of every missing variable is 0.
@@ -150,37 +127,31 @@ fn no_missing(h: Header, i: [usize; 4]) -> bool
 }
 
 // A coefficient at an index: refusals 1, 2, 3, 4.
-pub fn index_gate(word: u64, given: usize, i: [usize; 4]) -> Refusal
-    ensures { result ≡ index_gate word given i }
+#[tactic(auto, unfolding(model::specs::Gates::index_gate, model::specs::Gates::read_gate))]
+pub fn index_gate(word: u64, given: usize, i: [usize; 4]) -> Result<Header, Refusal>
+    ensures { Passes (index_gate word given i) (Is (header_of word)) result }
 {
-    let first = read_gate(word, given);
-    if first.number != 0 {
-        return first;
-    }
-    let h = header_of(word);
+    let h = read_gate(word, given)?;
     if !no_missing(h, i) {
-        return Refusal::by(3);
+        return Err(Refusal::by(3));
     }
     let l = h.limits;
     if !is_inside(l, i) {
-        return Refusal::by(4);
+        return Err(Refusal::by(4));
     }
-    Refusal::none()
+    Ok(h)
 }
 
 // A number read off a polynomial of one variable: refusals 1, 2, 3.
-pub fn sole_gate(word: u64, given: usize) -> Refusal
-    ensures { result ≡ sole_gate word given }
+#[tactic(auto, unfolding(model::specs::Gates::sole_gate, model::specs::Gates::read_gate))]
+pub fn sole_gate(word: u64, given: usize) -> Result<Header, Refusal>
+    ensures { Passes (sole_gate word given) (Is (header_of word)) result }
 {
-    let first = read_gate(word, given);
-    if first.number != 0 {
-        return first;
-    }
-    let h = header_of(word);
+    let h = read_gate(word, given)?;
     if h.vars != 1 {
-        return Refusal::by(3);
+        return Err(Refusal::by(3));
     }
-    Refusal::none()
+    Ok(h)
 }
 
 // Whether a total is finite and above zero.
@@ -192,29 +163,25 @@ fn is_total(total: f64) -> bool
 }
 
 // The tail of one variable from k on, as a part of a total: refusals 1, 2, 3, 4.
-pub fn tail_gate(word: u64, given: usize, k: usize, total: f64) -> Refusal
-    ensures { result ≡ tail_gate word given k total }
+#[tactic(auto, unfolding(model::specs::Gates::tail_gate, model::specs::Gates::sole_gate))]
+pub fn tail_gate(word: u64, given: usize, k: usize, total: f64) -> Result<Header, Refusal>
+    ensures { Passes (tail_gate word given k total) (Is (header_of word)) result }
 {
-    let first = sole_gate(word, given);
-    if first.number != 0 {
-        return first;
-    }
-    let h = header_of(word);
+    let h = sole_gate(word, given)?;
     let l = h.limits;
     if l[0] <= k {
-        return Refusal::by(4);
+        return Err(Refusal::by(4));
     }
     if !is_total(total) {
-        return Refusal::by(4);
+        return Err(Refusal::by(4));
     }
-    Refusal::none()
+    Ok(h)
 }
 
-// An entry as it opens: why the call is refused; where it is not, the operands' headers, the announced header and the
-// stored counts. Where there is one operand, b has no variables.
+// An entry that is not refused, as it opens: the operands' headers, the announced header and the stored counts. Where
+// there is one operand, b has no variables.
 #[derive(Clone, Copy)]
 pub struct Opened {
-    pub refusal: Refusal,
     pub a: Header,
     pub b: Header,
     pub told: Header,
@@ -224,30 +191,13 @@ pub struct Opened {
 }
 
 impl Opened {
-    // Refused: nothing is told.
-    fn refused(refusal: Refusal) -> Opened
-        ensures { result ≡ shut refusal }
+    fn telling(a: Header, b: Header, told: Header) -> Opened
+        requires left { Ruled a }
+        requires right { Ruled b }
+        requires announced { Ruled told }
+        ensures { result ≡ telling a b told }
     {
         Opened {
-            refusal,
-            a: Header::none(),
-            b: Header::none(),
-            told: Header::none(),
-            na: 0,
-            nb: 0,
-            n: 0,
-        }
-    }
-
-    // Tests 1 and 2 are passed, and the refusal is what the others found.
-    fn telling(refusal: Refusal, a: Header, b: Header, told: Header) -> Opened
-        requires fact_1 { Ruled a }
-        requires fact_2 { Ruled b }
-        requires fact_3 { Ruled told }
-        ensures { result ≡ telling refusal a b told }
-    {
-        Opened {
-            refusal,
             a,
             b,
             told,
@@ -259,91 +209,69 @@ impl Opened {
 }
 
 // One operand and no scratch: refusals 1, 2, 5.
-pub fn open_one(f: Family, word: u64, given: usize, lent: usize) -> Opened
+#[tactic(auto, unfolding(model::specs::Gates::one_gate, model::specs::Gates::read_gate))]
+pub fn open_one(f: Family, word: u64, given: usize, lent: usize) -> Result<Opened, Refusal>
     ensures { OpensOne (one_gate f word given lent) f word result }
 {
-    let x = open_read(word, given);
-    let first = x.refusal;
-    if first.number != 0 {
-        return Opened::refused(first);
-    }
-    let a = x.head;
+    let a = read_gate(word, given)?;
     let none = Header::none();
     let told = announced_of(f, a, none);
-    Opened::telling(fits_gate(told, lent), a, none, told)
+    fits_gate(told, lent)?;
+    Ok(Opened::telling(a, none, told))
 }
 
 // One operand and scratch: refusals 1, 2, 5, 6.
-pub fn open_work(f: Family, word: u64, given: usize, lent: usize, scratch: usize) -> Opened
+#[tactic(auto, unfolding(model::specs::Gates::work_gate, model::specs::Gates::read_gate))]
+pub fn open_work(
+    f: Family,
+    word: u64,
+    given: usize,
+    lent: usize,
+    scratch: usize,
+) -> Result<Opened, Refusal>
     ensures { OpensOne (work_gate f word given lent scratch) f word result }
 {
-    let x = open_read(word, given);
-    let first = x.refusal;
-    if first.number != 0 {
-        return Opened::refused(first);
-    }
-    let a = x.head;
+    let a = read_gate(word, given)?;
     let none = Header::none();
     let told = announced_of(f, a, none);
-    Opened::telling(room_gate(told, lent, scratch), a, none, told)
+    room_gate(told, lent, scratch)?;
+    Ok(Opened::telling(a, none, told))
 }
 
 // One operand, a variable v and a number d below its limit: refusals 1, 2, 3, 4, 5.
-pub fn open_in(f: Family, v: usize, d: usize, word: u64, given: usize, lent: usize) -> Opened
+#[tactic(auto, unfolding(model::specs::Gates::in_gate, model::specs::Gates::read_gate))]
+pub fn open_in(
+    f: Family,
+    v: usize,
+    d: usize,
+    word: u64,
+    given: usize,
+    lent: usize,
+) -> Result<Opened, Refusal>
     ensures { OpensOne (in_gate f v d word given lent) f word result }
 {
-    let x = open_read(word, given);
-    let first = x.refusal;
-    if first.number != 0 {
-        return Opened::refused(first);
-    }
-    let a = x.head;
+    let a = read_gate(word, given)?;
     let none = Header::none();
     let told = announced_of(f, a, none);
-    Opened::telling(below_gate(a, v, d, told, lent), a, none, told)
+    below_gate(a, v, d, told, lent)?;
+    Ok(Opened::telling(a, none, told))
 }
 
-// The refusal alone of `open_one`.
-pub fn one_gate(f: Family, word: u64, given: usize, lent: usize) -> Refusal
-    ensures { result ≡ one_gate f word given lent }
+// Tests 1 and 2 of two operands, and their headers.
+fn read_both(ah: u64, am: usize, bh: u64, bm: usize) -> Result<(Header, Header), Refusal>
+    ensures { Passes (ask_word ah (ask_word bh (ask (full ah am) 2 (ask (full bh bm) 2 no_refusal))))
+        (AreHeaders ah bh) result }
 {
-    let o = open_one(f, word, given, lent);
-    o.refusal
-}
-
-// One operand, a variable v and a number d below its limit: refusals 1, 2, 3, 4, 5.
-pub fn in_gate(f: Family, v: usize, d: usize, word: u64, given: usize, lent: usize) -> Refusal
-    ensures { result ≡ in_gate f v d word given lent }
-{
-    let first = read_gate(word, given);
-    if first.number != 0 {
-        return first;
+    let a = word_gate(ah)?;
+    let b = word_gate(bh)?;
+    if !(is_full(a, am) & is_full(b, bm)) {
+        return Err(Refusal::by(2));
     }
-    let h = header_of(word);
-    if h.vars <= v {
-        return Refusal::by(3);
-    }
-    let l = h.limits;
-    if l[v] <= d {
-        return Refusal::by(4);
-    }
-    fits_gate(announced_of(f, h, Header::none()), lent)
-}
-
-// Test 1 of two operands: the first word that is no header, with its fault.
-fn words_refusal(ah: u64, bh: u64) -> Refusal
-    ensures { result ≡ words_gate ah bh }
-{
-    if !is_good(ah) {
-        return bad_word(ah, Refusal::NOWHERE);
-    }
-    if !is_good(bh) {
-        return bad_word(bh, Refusal::NOWHERE);
-    }
-    Refusal::none()
+    Ok((a, b))
 }
 
 // Two operands, ah and bh their words, am and bm the coefficients given: refusals 1, 2, 5, 6.
+#[tactic(auto, unfolding(model::specs::Gates::pair_gate))]
 pub fn open_pair(
     f: Family,
     ah: u64,
@@ -352,38 +280,32 @@ pub fn open_pair(
     bm: usize,
     lent: usize,
     scratch: usize,
-) -> Opened
+) -> Result<Opened, Refusal>
     ensures { Opens f ah am bh bm lent scratch result }
 {
-    let first = words_refusal(ah, bh);
-    if first.number != 0 {
-        return Opened::refused(first);
-    }
-    let a = header_of(ah);
-    let b = header_of(bh);
-    if !(is_full(a, am) & is_full(b, bm)) {
-        return Opened::refused(Refusal::by(2));
-    }
+    let (a, b) = read_both(ah, am, bh, bm)?;
     let told = announced_of(f, a, b);
-    Opened::telling(room_gate(told, lent, scratch), a, b, told)
+    room_gate(told, lent, scratch)?;
+    Ok(Opened::telling(a, b, told))
 }
 
 // The same for a product, whose header is made directly. It has one caller: the compiler takes it in there, and what is
 // told stays in registers.
-pub fn open_product(ah: u64, am: usize, bh: u64, bm: usize, lent: usize, scratch: usize) -> Opened
+#[tactic(auto, unfolding(model::specs::Gates::pair_gate))]
+pub fn open_product(
+    ah: u64,
+    am: usize,
+    bh: u64,
+    bm: usize,
+    lent: usize,
+    scratch: usize,
+) -> Result<Opened, Refusal>
     ensures { Opens Product ah am bh bm lent scratch result }
 {
-    let first = words_refusal(ah, bh);
-    if first.number != 0 {
-        return Opened::refused(first);
-    }
-    let a = header_of(ah);
-    let b = header_of(bh);
-    if !(is_full(a, am) & is_full(b, bm)) {
-        return Opened::refused(Refusal::by(2));
-    }
+    let (a, b) = read_both(ah, am, bh, bm)?;
     let told = product_header(a, b);
-    Opened::telling(room_gate(told, lent, scratch), a, b, told)
+    room_gate(told, lent, scratch)?;
+    Ok(Opened::telling(a, b, told))
 }
 
 // A limit is 1 to 64.
@@ -412,40 +334,59 @@ fn limits_fault(vars: usize, l: [usize; 4]) -> Fault
     Fault::unless(vars <= Header::VARS, Fault::of(4, 6), l0)
 }
 
-// A constant that carries limits: refusals 1, 5.
-pub fn with_gate(vars: usize, limits: [usize; 4], lent: usize) -> Refusal
-    ensures { result ≡ with_gate vars limits lent }
+// The limits that a constructor is given: refusal 1.
+fn limits_gate(vars: usize, limits: [usize; 4]) -> Result<(), Refusal>
+    ensures { Passes (ask_limits vars limits no_refusal) Nothing result }
 {
     let f = limits_fault(vars, limits);
     if f.cause != 0 {
-        return Refusal::of_fault(f, Refusal::NOWHERE);
+        return Err(Refusal::of_fault(f, Refusal::NOWHERE));
     }
-    fits_gate(Header::zero_with(vars, limits), lent)
+    Ok(())
 }
 
-// The variable v under limits that are given: refusals 1, 3, 5.
-pub fn var_with_gate(v: usize, vars: usize, limits: [usize; 4], lent: usize) -> Refusal
-    ensures { result ≡ var_with_gate v vars limits lent }
+// The header of a constant that carries limits: refusals 1, 5.
+#[tactic(auto, unfolding(model::specs::Gates::with_gate))]
+pub fn with_gate(vars: usize, limits: [usize; 4], lent: usize) -> Result<Header, Refusal>
+    ensures { Passes (with_gate vars limits lent) (Is (zero_with vars limits)) result }
 {
-    let f = limits_fault(vars, limits);
-    if f.cause != 0 {
-        return Refusal::of_fault(f, Refusal::NOWHERE);
-    }
+    limits_gate(vars, limits)?;
+    let h = Header::zero_with(vars, limits);
+    fits_gate(h, lent)?;
+    Ok(h)
+}
+
+// The header of the variable v under limits that are given: refusals 1, 3, 5.
+#[tactic(auto, unfolding(model::specs::Gates::var_with_gate))]
+pub fn var_with_gate(
+    v: usize,
+    vars: usize,
+    limits: [usize; 4],
+    lent: usize,
+) -> Result<Header, Refusal>
+    ensures { Passes (var_with_gate v vars limits lent) (Is (var_with v vars limits)) result }
+{
+    limits_gate(vars, limits)?;
     if vars <= v {
-        return Refusal::by(3);
+        return Err(Refusal::by(3));
     }
-    fits_gate(Header::var_with_degrees_p1(v, vars, limits), lent)
+    let h = Header::var_with_degrees_p1(v, vars, limits);
+    fits_gate(h, lent)?;
+    Ok(h)
 }
 
-// The variable v, every variable up to it under one limit: refusals 1, 3, 5.
-pub fn var_gate(v: usize, limit: usize, lent: usize) -> Refusal
-    ensures { result ≡ var_gate v limit lent }
+// The header of the variable v, every variable up to it under one limit: refusals 1, 3, 5.
+#[tactic(auto, unfolding(model::specs::Gates::var_gate))]
+pub fn var_gate(v: usize, limit: usize, lent: usize) -> Result<Header, Refusal>
+    ensures { Passes (var_gate v limit lent) (Is (var_header v limit)) result }
 {
     if !good_limit(limit) {
-        return Refusal::of_fault(Fault::of(0, 6), Refusal::NOWHERE);
+        return Err(Refusal::of_fault(Fault::of(0, 6), Refusal::NOWHERE));
     }
     if 3 < v {
-        return Refusal::by(3);
+        return Err(Refusal::by(3));
     }
-    fits_gate(Header::var(v, limit), lent)
+    let h = Header::var(v, limit);
+    fits_gate(h, lent)?;
+    Ok(h)
 }

@@ -1,10 +1,9 @@
 -- What rests on laws of specs/ (Called).
-use Rattle.std.specs.Prelude.{◌≡◌, List, ℕ, ◌+◌, ◌-◌, ◌*◌, ◌^◌, ◌≤◌, max, length, ℤ, nat_abs, Float}
+use Rattle.std.specs.Prelude.{Ok, ◌≡◌, List, ℕ, ◌+◌, ◌-◌, ◌*◌, ◌^◌, ◌≤◌, max, length, ℤ, nat_abs, Float}
 use Rattle.std.proofs.Common.{arith}
 use Rattle.std.proofs.Math.Bool.{true, false}
 use Rattle.model.specs.declared.Refusal.{Refusal}
 use Rattle.model.specs.declared.Family.{Family}
-use Rattle.model.specs.declared.Answer.TheVariants.{Done}
 use Rattle.model.specs.declared.Family.TheVariants.{Sum, Product, Quotient, Shift, Substitution}
 use Rattle.model.specs.Header.{len}
 use Rattle.model.specs.Word.{header_of}
@@ -47,7 +46,7 @@ module _ (w : ℕ) (x : List Float) (u : ℕ) (y out scratch : List Float) where
 
   pub pair-holds : (f : Family) (z : Poly) {r : ℕ} {Z : Series}
       → (Operands p q → Keeps (announced_pair f w u) z × Is (announced_pair f w u).limits (block_of z) Z)
-      → answered (gate_of f) z ≡ Done r → Holds (announced_pair f w u) r (out_after (gate_of f) (announced_pair f w u) z out) Z
+      → answered (gate_of f) z ≡ Ok r → Holds (announced_pair f w u) r (out_after (gate_of f) (announced_pair f w u) z out) Z
   pair-holds f z law done =
       let t = pair-ready f w (length x) u (length y) (length out) (length scratch) (not_refused (gate_of f) z done) in
       let o = law (record {
@@ -67,7 +66,7 @@ module _ (w : ℕ) (x : List Float) (u : ℕ) (y out scratch : List Float) where
 
     module _ (s : WholeUnder (smaller w u) w x a) (t : WholeUnder (smaller w u) u y b) where
       module _ (bound : weight (smaller w u) A + weight (smaller w u) B ≤ 2 ^ 53) where
-        pub add-exact : {r : ℕ} → sum_answer false w x u y out scratch ≡ Done r
+        pub add-exact : {r : ℕ} → sum_answer false w x u y out scratch ≡ Ok r
             → Holds (announced_pair Sum w u) r (sum_out false w x u y out scratch) (plus A B)
         unfolding sum_answer sum_out
         add-exact = pair-holds Sum (combined false p q) (λ o. (
@@ -75,7 +74,7 @@ module _ (w : ℕ) (x : List Float) (u : ℕ) (y out scratch : List Float) where
           record { at = sum-exact-cut p q o.left o.right (held-is s) (held-is t) bound },
         ))
 
-        pub subtract-exact : {r : ℕ} → sum_answer true w x u y out scratch ≡ Done r
+        pub subtract-exact : {r : ℕ} → sum_answer true w x u y out scratch ≡ Ok r
             → Holds (announced_pair Sum w u) r (sum_out true w x u y out scratch) (less A B)
         unfolding sum_answer sum_out
         subtract-exact = pair-holds Sum (combined true p q) (λ o. (
@@ -83,7 +82,7 @@ module _ (w : ℕ) (x : List Float) (u : ℕ) (y out scratch : List Float) where
           record { at = difference-exact-cut p q o.left o.right (held-is s) (held-is t) bound },
         ))
 
-      pub multiply-exact : {r : ℕ} → weight (smaller w u) A * weight (smaller w u) B ≤ 2 ^ 53 → product_answer w x u y out scratch ≡ Done r
+      pub multiply-exact : {r : ℕ} → weight (smaller w u) A * weight (smaller w u) B ≤ 2 ^ 53 → product_answer w x u y out scratch ≡ Ok r
           → Holds (announced_pair Product w u) r (product_out w x u y out scratch) (times A B)
       unfolding product_answer product_out
       multiply-exact bound = pair-holds Product (product_poly p q) (λ o. (
@@ -93,7 +92,7 @@ module _ (w : ℕ) (x : List Float) (u : ℕ) (y out scratch : List Float) where
 
       -- the divisor's constant 1 or -1
       pub divide-exact : {r : ℕ} → nat_abs (B origin) ≡ 1 → weight (smaller w u) (quotient A B) * weight (smaller w u) B ≤ 2 ^ 53
-          → quotient_answer w x u y out scratch ≡ Done r
+          → quotient_answer w x u y out scratch ≡ Ok r
           → Holds (announced_pair Quotient w u) r (quotient_out w x u y out scratch) (quotient A B)
       unfolding quotient_answer quotient_out
       divide-exact unit bound = pair-holds Quotient (quotient_poly p q) (λ o. (
@@ -103,7 +102,7 @@ module _ (w : ℕ) (x : List Float) (u : ℕ) (y out scratch : List Float) where
 
     -- B for the variable v: n the uncut length of v, 1 where the polynomial lacks it
     pub subst-exact : (v : ℕ) {r : ℕ} → let n = max 1 (len (header_of w) v) in
-        AllWhole w x a → AllWhole u y b → max 1 (weight_of w a) * max 1 (weight_of u b) ^ (n - 1) ≤ 2 ^ 53 → substitute_answer v w x u y out scratch ≡ Done r
+        AllWhole w x a → AllWhole u y b → max 1 (weight_of w a) * max 1 (weight_of u b) ^ (n - 1) ≤ 2 ^ 53 → substitute_answer v w x u y out scratch ≡ Ok r
         → Holds (announced_pair (Substitution v) w u) r (substitute_out v w x u y out scratch) (substitute v n A B)
     unfolding substitute_answer substitute_out
     subst-exact v s t bound = pair-holds (Substitution v) (substitute_poly v p q) (λ o. (
@@ -113,7 +112,7 @@ module _ (w : ℕ) (x : List Float) (u : ℕ) (y out scratch : List Float) where
 
 -- by n in the variable v
 pub shift-exact : (w : ℕ) (x : List Float) (v n : ℕ) (out : List Float) {r : ℕ} {a : ℕ → ℤ} → AllWhole w x a → weight_of w a ≤ 2 ^ 53
-    → shift_down_answer w x v n out ≡ Done r → Holds (announced_one (Shift v n) w) r (shift_down_out w x v n out) (shifted v n (series_under w a))
+    → shift_down_answer w x v n out ≡ Ok r → Holds (announced_one (Shift v n) w) r (shift_down_out w x v n out) (shifted v n (series_under w a))
 unfolding shift_down_answer shift_down_out
 shift-exact w x v n out {a = a} s bound done =
     let p = shift_down_poly v n (held w x) in

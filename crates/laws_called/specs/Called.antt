@@ -4,12 +4,11 @@
 -- Of sum, difference, product and quotient only what the cut to the smaller limits leaves has to be whole, and |A| and
 -- |B| are of that; where everything is whole and the bound is on |A| and |B| as they are stored, `all_under` and
 -- `weight-cut` lead here.
-use Rattle.std.specs.Prelude.{◌≡◌, refl, Bool, List, ℕ, ◌+◌, ◌-◌, ◌*◌, ◌^◌, ◌≤◌, max, length, ℤ, nat_abs, Float}
+use Rattle.std.specs.Prelude.{Ok, ◌≡◌, refl, Bool, List, ℕ, ◌+◌, ◌-◌, ◌*◌, ◌^◌, ◌≤◌, max, length, ℤ, nat_abs, Float}
 use Rattle.std.proofs.Common.{ap, arith}
 use Rattle.std.proofs.Math.Bool.{true, false}
 use Rattle.model.specs.declared.Refusal.{Refusal}
 use Rattle.model.specs.declared.Family.{Family}
-use Rattle.model.specs.declared.Answer.TheVariants.{Done}
 use Rattle.model.specs.declared.Family.TheVariants.{Sum, Product, Quotient, Shift, Substitution}
 use Rattle.model.specs.Header.{len, stored}
 use Rattle.model.specs.Limits.{min_degrees_p1}

@@ -1,6 +1,6 @@
 -- What a caller holds after a call that was not refused: under the word that was answered, the buffer holds the
 -- operation's polynomial. So where the polynomial is the exact one, what the caller reads at each index is.
-use Rattle.std.specs.Prelude.{◌≡◌, true, false, List, ◌++◌, ℕ, ◌-◌, ◌≤◌, eqb, length, get_or, take, drop, pos, Float}
+use Rattle.std.specs.Prelude.{Ok, Err, ◌≡◌, true, false, List, ◌++◌, ℕ, ◌-◌, ◌≤◌, eqb, length, get_or, take, drop, pos, Float}
 use Rattle.std.proofs.Math.Path.{sym, ap}
 use Rattle.std.proofs.Common.{subst, ◌∙◌, append_assoc, arith, length-take, take_all, get_or-take}
 use Rattle.std.proofs.lemmas.List.{take-append-le}
@@ -9,8 +9,7 @@ use borrow.Author.Tests.{eqb-true, eq-eqb}
 use Rattle.lists.specs.Test.{decide}
 use Rattle.model.specs.declared.Header.{Header}
 use Rattle.model.specs.declared.Refusal.{Refusal}
-use Rattle.model.specs.declared.Answer.{Answer}
-use Rattle.model.specs.declared.Answer.TheVariants.{Done, Refused}
+use Rattle.model.specs.Results.{Answer}
 use Rattle.model.specs.Header.{stored}
 use Rattle.model.specs.Word.{header_of, word_of, good_word}
 use Rattle.model.specs.Places.{place, inside}
@@ -41,23 +40,23 @@ held_back {h} p k out =
 -- ---- an answer that is no refusal
 
 is_done : Answer → ℕ
-is_done (Done w) = 1
-is_done (Refused r) = 0
+is_done (Ok w) = 1
+is_done (Err r) = 0
 
 word_in : Answer → ℕ
-word_in (Done w) = w
-word_in (Refused r) = 0
+word_in (Ok w) = w
+word_in (Err r) = 0
 
-module _ (g : Refusal) (p : Poly) {r : ℕ} (done : answered g p ≡ Done r) where
+module _ (g : Refusal) (p : Poly) {r : ℕ} (done : answered g p ≡ Ok r) where
   pub not_refused : g.number ≡ 0
   unfolding answer_by is_done
   not_refused =
       decide (eqb g.number 0) (eqb-true g.number 0)
-      (λ t. let e : Refused g ≡ Done r = rw t at done in absurd (omega (arith, ap is_done e)))
+      (λ t. let e : Err g ≡ Ok r = rw t at done in absurd (omega (arith, ap is_done e)))
 
   pub word-answered : r ≡ word_of p.head
   unfolding answer_by word_in
-  word-answered = let e : Done (word_of p.head) ≡ Done r = rw (eq-eqb g.number 0 not_refused) at done in sym (ap word_in e)
+  word-answered = let e : Ok (word_of p.head) ≡ Ok r = rw (eq-eqb g.number 0 not_refused) at done in sym (ap word_in e)
 
   -- under the word answered, the buffer holds the value
   pub out-holds : {h : Header} → Keeps h p → (out : List Float) → held r (out_after g h p out) ≡ p

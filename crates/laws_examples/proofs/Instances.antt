@@ -1,8 +1,7 @@
 -- What rests on laws of specs/ (Instances).
-use Rattle.std.specs.Prelude.{◌≡◌, refl, [], ◌∷◌, ◌<◌, get_or, pos, negsuc}
+use Rattle.std.specs.Prelude.{Ok, ◌≡◌, refl, [], ◌∷◌, ◌<◌, get_or, pos, negsuc}
 use Rattle.std.proofs.Common.{lit<, lit≤}
 use Rattle.std.specs.Float.{nan}
-use Rattle.model.specs.declared.Answer.TheVariants.{Done}
 use Rattle.model.specs.Header.{span}
 use Rattle.model.specs.Word.{header_of}
 use Rattle.model.specs.Places.{strides, offset, inside}
@@ -26,7 +25,7 @@ use Rattle.laws_examples.specs.Instances.{a, b, c, down, down-whole, into, into-
 use Rattle.laws_examples.specs.Instances.{ones-whole, over, places, put, right, right-whole, scratch, squares, units}
 use Rattle.laws_examples.specs.Instances.{unity, unity-whole}
 
-pub multiplies : product_answer left.word (floats left) right.word (floats right) (places squares) (scratch squares) ≡ Done left.word
+pub multiplies : product_answer left.word (floats left) right.word (floats right) (places squares) (scratch squares) ≡ Ok left.word
 unfolding rows
 multiplies =
     shown-done _ (product_out left.word (floats left) right.word (floats right) (places squares) (scratch squares)) _
@@ -39,7 +38,7 @@ sixty =
     (all_under (smaller left.word right.word) left-whole) (all_under (smaller left.word right.word) right-whole)
     (lit≤ tt) multiplies).at (1 ∷ 1 ∷ 0 ∷ 0 ∷ []) refl (record { i0 = lit< tt; i1 = lit< tt; i2 = lit< tt; i3 = lit< tt })
 
-pub divides : quotient_answer unity.word (floats unity) ones.word (floats ones) (places over) (scratch over) ≡ Done 0x2104000000000000
+pub divides : quotient_answer unity.word (floats unity) ones.word (floats ones) (places over) (scratch over) ≡ Ok 0x2104000000000000
 unfolding rows
 divides = shown-done _ (quotient_out unity.word (floats unity) ones.word (floats ones) (places over) (scratch over)) _ (lit< tt) (in_row 4 (lit< tt))
 
@@ -50,7 +49,7 @@ minus_one =
     (all_under (smaller unity.word ones.word) unity-whole) (all_under (smaller unity.word ones.word) ones-whole)
     refl (lit≤ tt) divides).at (1 ∷ 0 ∷ 0 ∷ 0 ∷ []) refl (record { i0 = lit< tt; i1 = lit< tt; i2 = lit< tt; i3 = lit< tt })
 
-pub substitutes : substitute_answer 0 into.word (floats into) ones.word (floats ones) (places put) (scratch put) ≡ Done into.word
+pub substitutes : substitute_answer 0 into.word (floats into) ones.word (floats ones) (places put) (scratch put) ≡ Ok into.word
 unfolding rows
 substitutes = shown-done _ (substitute_out 0 into.word (floats into) ones.word (floats ones) (places put) (scratch put)) _ (lit< tt) (in_row 13 (lit< tt))
 
@@ -60,7 +59,7 @@ eight =
     (subst-exact into.word (floats into) ones.word (floats ones) (places put) (scratch put) c units 0 into-whole ones-whole (lit≤ tt) substitutes).at
     (1 ∷ 0 ∷ 0 ∷ 0 ∷ []) refl (record { i0 = lit< tt; i1 = lit< tt; i2 = lit< tt; i3 = lit< tt })
 
-pub shifts : shift_down_answer down.word (floats down) 0 1 (places lower) ≡ Done 0x2082000000000000
+pub shifts : shift_down_answer down.word (floats down) 0 1 (places lower) ≡ Ok 0x2082000000000000
 unfolding rows
 shifts = shown-done _ (shift_down_out down.word (floats down) 0 1 (places lower)) _ (lit< tt) (in_row 7 (lit< tt))
 

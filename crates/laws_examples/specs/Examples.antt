@@ -1,7 +1,7 @@
 -- Document 01, 'Examples to hold', all that are marked P: one table, one statement, by computation from the definitions
 -- that the functions promise. A row names an operation, its operands and what is wanted; an operand is a header word
 -- and the bits of its coefficients. A number that is read has no header: its word is 0.
-use Rattle.std.specs.Prelude.{◌≡◌, refl, Bool, true, false, ◌&&◌, List, [], ◌∷◌, map, ℕ, ◌*◌, eqb, take, Float}
+use Rattle.std.specs.Prelude.{Ok, Err, ◌≡◌, refl, Bool, true, false, ◌&&◌, List, [], ◌∷◌, map, ℕ, ◌*◌, eqb, take, Float}
 use Rattle.std.specs.Float.{nan, binary64}
 use Rattle.std.specs.Float.Ieee.{of_bits, to_bits, neg, add, sub, mul, div, eq, lt, of_int}
 use Rattle.lists.specs.Walk.{walk}
@@ -9,10 +9,8 @@ use Rattle.lists.specs.Table.{table}
 use Rattle.lists.specs.Grow.{grow}
 use Rattle.lists.specs.Stack.{stack}
 use Rattle.model.specs.declared.Header.{Header}
-use Rattle.model.specs.declared.Answer.{Answer}
-use Rattle.model.specs.declared.Answer.TheVariants as answer-is
-use Rattle.model.specs.declared.Reading.{Reading}
-use Rattle.model.specs.declared.Reading.TheVariants as reading-is
+use Rattle.model.specs.Results.{Answer}
+use Rattle.model.specs.Results.{Reading}
 use Rattle.model.specs.declared.Family.TheVariants.{Product, Quotient, Series, Power, Shift, Substitution}
 use Rattle.model.specs.Header.{span, stored}
 use Rattle.model.specs.Faults.{sound_var, header_fault}
@@ -81,12 +79,12 @@ lent n = table n (λ k. nan)
 
 -- the header word, and so many coefficients as it says of the buffer that was written
 abbrev pub shown : Answer → List Float → Operand
-shown (answer-is.Done w) out = operand w (map (to_bits binary64) (take (stored (header_of w)) out))
-shown (answer-is.Refused r) out = nothing
+shown (Ok w) out = operand w (map (to_bits binary64) (take (stored (header_of w)) out))
+shown (Err r) out = nothing
 
 abbrev pub number : Reading → Operand
-number (reading-is.Done x) = operand 0 (to_bits binary64 x ∷ [])
-number (reading-is.Refused r) = nothing
+number (Ok x) = operand 0 (to_bits binary64 x ∷ [])
+number (Err r) = nothing
 
 -- of an operation that writes a polynomial: h the announced header, whose places and scratch are lent
 abbrev pub made : Header → (List Float → List Float → Answer) → (List Float → List Float → List Float) → Operand

@@ -1,13 +1,12 @@
 -- The caller's laws (laws_called) apply to document 01's examples, and say what the table computes: [[1,2],[3,4]] times
 -- [[5,6],[7,8]] leaves 60 at the index (1, 1); [1] limit 3 over [1,1] limit 3 leaves -1 at the index 1; [1,2,3] with v
 -- replaced by [1,1] limit 3 leaves 8 at the index 1; [2,3,1] shifted by 1 leaves 5 at the index 0.
-use Rattle.std.specs.Prelude.{◌≡◌, refl, false, List, [], ◌∷◌, ℕ, zero, suc, ◌*◌, ◌<◌, get_or, ℤ, pos, negsuc, Float}
+use Rattle.std.specs.Prelude.{Ok, ◌≡◌, refl, false, List, [], ◌∷◌, ℕ, zero, suc, ◌*◌, ◌<◌, get_or, ℤ, pos, negsuc, Float}
 use Rattle.std.proofs.Common.{arith, lit<, lit≤}
 use Rattle.std.specs.Float.{nan}
 use Rattle.std.specs.Float.Ieee.{of_bits}
 use Rattle.lists.specs.Four.{each}
 use Rattle.model.specs.declared.Header.{Header}
-use Rattle.model.specs.declared.Answer.TheVariants.{Done}
 use Rattle.model.specs.declared.Family.TheVariants.{Product, Quotient, Shift, Substitution}
 use Rattle.model.specs.Header.{span, stored}
 use Rattle.model.specs.Word.{header_of}

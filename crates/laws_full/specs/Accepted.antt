@@ -3,7 +3,6 @@
 use Rattle.std.specs.Prelude.{ℕ, ◌+◌, ◌-◌, ◌≤◌, ◌<◌, true, List, ◌≡◌, ltb, length, get_or, take}
 use Rattle.std.proofs.Common.{arith, ltb-true, ltb-false, eq-eqb}
 use Rattle.lists.specs.Test.{decide}
-use Rattle.model_recipes.specs.declared.CheckAnswer.TheVariants.{Accepted}
 use Rattle.model_recipes.specs.Steps.{step_of, uses_of}
 use Rattle.model_recipes.specs.Recipe.{Recipe, up_to, input_heads, announced_places, announced_steps, total, largest}
 use Rattle.model_recipes.specs.Check.{check_refusal, check_by, check_answer}
@@ -13,6 +12,7 @@ use Rattle.recipes_check.specs.Judged.{accepts, places-known}
 use Rattle.recipes_laws.proofs.Exact.{check-exact}
 use Rattle.recipes_laws.specs.Exact.{length-known}
 use Rattle.laws_full.specs.Made.{Ordered}
+use Rattle.model_recipes.specs.Results.{accepting}
 
 module _ (it : Recipe) (z : (check_refusal it).number ≡ 0) where
   abbrev pool : ℕ
@@ -21,7 +21,7 @@ module _ (it : Recipe) (z : (check_refusal it).number ≡ 0) where
   abbrev most : ℕ
   most = largest (announced_steps it)
 
-  accepted : check_answer it ≡ Accepted pool most (total (input_heads it.headers))
+  accepted : check_answer it ≡ accepting pool most (total (input_heads it.headers))
   unfolding check_answer check_by
   accepted = rw (eq-eqb (check_refusal it).number 0 z)
 

@@ -5,10 +5,10 @@ use Rattle.model.specs.Promises.{EvaluateAllOnePromise, ExpPromise, ExtractLinea
 use Rattle.model.specs.Promises.{LogPromise, MultiplyPromise, NegatePromise, OnePromise, PowPromise, ShiftDownPromise, SubstVarPromise}
 use Rattle.model.specs.Promises.{SubtractPromise, TailPromise, TaylorExpansionOfCoeffPromise, TaylorPolynomialPromise, VarAtZeroPromise}
 use Rattle.model.specs.Promises.{VarPromise, VarWithDegreesP1Promise, ZeroPromise, ZeroWithPromise}
-use Rattle.model.specs.declared.Answer.{Answer}
-use Rattle.model.specs.declared.CountReading.{CountReading}
-use Rattle.model.specs.declared.LinearReading.{LinearReading}
-use Rattle.model.specs.declared.Reading.{Reading}
+use Rattle.model.specs.Results.{Answer}
+use Rattle.model.specs.Results.{CountReading}
+use Rattle.model.specs.Results.{LinearReading}
+use Rattle.model.specs.Results.{Reading}
 use Rattle.laws_outcomes.specs.Outcome.{once_1, once_2, once_3}
 
 pub zero-once : (out : List Float) {r1 r2 : Answer} {out1 out2 : List Float}

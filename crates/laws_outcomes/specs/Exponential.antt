@@ -1,7 +1,7 @@
 -- Two outcomes that keep the promise of `exp_constant` are equal. That the answer is near the exact value leaves many
 -- floats; the promise says which one it is.
 use Rattle.std.specs.Prelude.{◌≡◌, Float}
-use Rattle.model.specs.declared.Reading.{Reading}
+use Rattle.model.specs.Results.{Reading}
 use Rattle.model_exponential.specs.Promises.{ExpConstantPromise}
 use Rattle.laws_outcomes.specs.Outcome.{once_1}
 

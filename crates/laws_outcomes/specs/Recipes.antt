@@ -3,8 +3,8 @@
 use Rattle.std.specs.Prelude.{ℕ, List, ◌≡◌, Float}
 use Rattle.model_recipes.specs.Recipe.{Recipe}
 use Rattle.model_recipes.specs.Promises.{CheckPromise, RunPromise}
-use Rattle.model_recipes.specs.declared.CheckAnswer.{CheckAnswer}
-use Rattle.model_recipes.specs.declared.RunAnswer.{RunAnswer}
+use Rattle.model_recipes.specs.Results.{CheckAnswer}
+use Rattle.model_recipes.specs.Results.{RunAnswer}
 use Rattle.laws_outcomes.specs.Outcome.{once_1, once_4}
 
 pub check-once : (it : Recipe) {r1 r2 : CheckAnswer}

@@ -30,13 +30,8 @@ fn tell(rt: &(impl Input + Print), asked: Asked) -> io::Result<()> {
 }
 
 fn main(rt: HostRuntime) -> io::Result<()> {
-    let h = hear(&rt);
-    let chance = h.chance;
-    let total = h.total;
-    let asked = Asked { chance, total };
-    if h.good {
-        tell(&rt, asked)
-    } else {
-        say_help(&rt)
+    match hear(&rt) {
+        Some(asked) => tell(&rt, asked),
+        None => say_help(&rt),
     }
 }

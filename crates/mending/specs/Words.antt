@@ -1,5 +1,5 @@
 -- What mending does to a word, as the code does it.
-use Rattle.std.specs.Prelude.{ℕ, ◌+◌, ◌-◌, ◌%◌, ◌^◌, ◌≤◌, ◌<◌, false, ◌≡◌}
+use Rattle.std.specs.Prelude.{Bool, MatchBool, ℕ, ◌+◌, ◌-◌, ◌%◌, ◌^◌, ◌≤◌, ◌<◌, false, ◌≡◌}
 use Rattle.std.proofs.Math.Bool.{true}
 use Rattle.std.proofs.Math.Path.{sym, ap}
 use Rattle.std.proofs.Common.{◌∙◌, subst, arith}
@@ -29,6 +29,11 @@ used_fields_lem u {s} f =
       variable = of-both (λ (x : ℕ). x < 2 ^ 2) u.variable f.variable (omega arith);
       n = of-both (λ (x : ℕ). x < 2 ^ 32) u.n f.n (omega arith);
     }
+
+-- a field, or the default of its type
+pub used_is : (b : Bool) (r x : ℕ) → MatchBool b (r ≡ x) (r ≡ 0) → r ≡ if_used b x
+used_is true r x h = h
+used_is false r x h = h
 
 -- w a step word, s its fields, u what its kind uses
 module _ (w : ℕ) {s : Step} {u : Uses} (es : s ≡ step_of w) (eu : u ≡ uses_of s.kind) where

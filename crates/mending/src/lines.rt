@@ -1,39 +1,16 @@
 // Lines of an old sheet: 16 hex digits of either case, at most one carriage return, a newline. A byte past the end
 // counts as 0.
 ghost use Rattle.std.specs.Prelude.{◌≡◌, ◌≤◌};
-ghost use Rattle.model_texts.specs.Hex.{is_digit, digit_of, byte_at, word_at};
+ghost use Rattle.model_texts.specs.Hex.{byte_at, word_at};
 ghost use Rattle.model_mending.specs.Lines.{lowered, low, end_at, is_old_line, line_at};
+
+use sheet_text::line::{byte_at, digit_of, is_digit};
 
 // 'A' to 'F' as 'a' to 'f'; any other byte as it is.
 fn lower(b: u8) -> u8
     ensures { result ≡ lowered b }
 {
     if (65 <= b) & (b <= 70) { b + 32 } else { b }
-}
-
-fn is_digit(b: u8) -> bool
-    ensures { result ≡ is_digit b }
-{
-    ((48 <= b) & (b <= 57)) | ((97 <= b) & (b <= 102))
-}
-
-// What a digit says, 0 for any other byte.
-fn digit_of(b: u8) -> u64
-    ensures { result ≡ digit_of b }
-{
-    if (48 <= b) & (b <= 57) {
-        return (b as u64) - 48;
-    }
-    if (97 <= b) & (b <= 102) {
-        return (b as u64) - 87;
-    }
-    0
-}
-
-pub fn byte_at(text: &[u8], at: usize) -> u8
-    ensures { result ≡ byte_at text.now at }
-{
-    if at < text.len() { text[at] } else { 0 }
 }
 
 // A byte in lower case.
@@ -60,12 +37,10 @@ pub fn is_old_line(text: &[u8], at: usize) -> bool
     requires { at ≤ 4294967296 }
     ensures { result ≡ is_old_line text.now at }
 {
-    let mut k = 0;
-    while k < 16 {
+    for k in 0..16 {
         if !is_digit(low_at(text, at + k)) {
             return false;
         }
-        k += 1;
     }
     byte_at(text, line_end(text, at)) == 10
 }
@@ -76,10 +51,8 @@ pub fn old_word(text: &[u8], at: usize) -> u64
     ensures { result ≡ word_at (low text.now) at }
 {
     let mut word = 0;
-    let mut k = at;
-    while k < at + 16 {
+    for k in at..at + 16 {
         word = 16 * word + digit_of(low_at(text, k));
-        k += 1;
     }
     word
 }
@@ -90,10 +63,8 @@ pub fn line_at(text: &[u8], k: usize) -> usize
     ensures { result ≡ line_at text.now k }
 {
     let mut at = 0;
-    let mut i = 0;
-    while i < k {
+    for _ in 0..k {
         at = line_end(text, at) + 1;
-        i += 1;
     }
     at
 }

@@ -3,31 +3,16 @@
 ghost use Rattle.std.specs.Prelude.{◌≡◌, ◌+◌, ◌*◌, ◌≤◌, ◌<◌, eqb, length};
 ghost use Rattle.lists.specs.Every.{every};
 ghost use Rattle.lists.specs.Table.{table};
-ghost use Rattle.model_texts.specs.Hex.{byte_at, digit_for, hex_digit};
+ghost use Rattle.model_texts.specs.Hex.{byte_at, hex_digit};
 ghost use Rattle.model_texts.specs.Report.{joined};
 ghost use Rattle.model_mending.specs.Mended.{change_text, new_line};
 ghost use Rattle.sheet_text.specs.Put.{Put};
 ghost use Rattle.mending.specs.Changes.{line_byte, one_text, may_text};
 
-use crate::lines::{byte_at, line_end, old_word};
+use crate::lines::{line_end, old_word};
 use crate::words::mended_word;
-use sheet_text::print::{put_byte, put_decimal, put_line};
-
-// The digit that says d.
-fn digit_for(d: u8) -> u8
-    requires { d < 16 }
-    ensures { result ≡ digit_for d }
-{
-    if d < 10 { 48 + d } else { 87 + d }
-}
-
-// Digit number k of a word, most significant first.
-fn hex_digit(word: u64, k: u64) -> u8
-    requires { k < 16 }
-    ensures { result ≡ hex_digit word k }
-{
-    digit_for(((word >> (60 - 4 * k)) % 16) as u8)
-}
+use sheet_text::line::byte_at;
+use sheet_text::print::{hex_digit, put_byte, put_decimal, put_line};
 
 // Byte number k of the line of a word: its digits, then the newline.
 fn line_byte(word: u64, k: usize) -> u8
@@ -49,12 +34,10 @@ fn same_digits(text: &[u8], at: usize, word: u64) -> bool
     requires { at ≤ 4294967296 }
     ensures { result ≡ every (λ j. eqb (byte_at text.now (at + j)) (hex_digit word j)) 16 0 }
 {
-    let mut k = 0;
-    while k < DIGITS {
+    for k in 0..DIGITS {
         if byte_at(text, at + k) != line_byte(word, k) {
             return false;
         }
-        k += 1;
     }
     true
 }
@@ -65,12 +48,10 @@ fn put_digits(text: &[u8], from: usize, at: usize, to: &mut [u8]) -> usize
     requires fact_2 { at + 16 ≤ length to.old }
     ensures { Put at (table 16 (λ j. byte_at text.now (from + j))) to.old to.new result }
 {
-    let mut k = 0;
-    while k < 16 {
+    for k in 0..16 {
         to[at + k] = byte_at(text, from + k);
-        k += 1;
     }
-    at + k
+    at + 16
 }
 
 // The line of a change: the number of the line, from 1, the digits that stand at `from`, the new word.
@@ -106,12 +87,10 @@ pub fn put_changes(text: &[u8], inputs: usize, count: usize, lines: usize, to: &
 {
     let mut from = 0;
     let mut next = 0;
-    let mut k = 0;
-    while k < lines {
+    for k in 0..lines {
         let word = mended_word(inputs, count, k, old_word(text, from));
         next = put_changed(text, k, from, word, next, to);
         from = line_end(text, from) + 1;
-        k += 1;
     }
     next
 }
@@ -131,15 +110,13 @@ pub fn put_sheet(
 {
     let mut from = 0;
     let mut next = at;
-    let mut k = 0;
-    while k < lines {
+    for k in 0..lines {
         next = put_line(
             mended_word(inputs, count, k, old_word(text, from)),
             next,
             to,
         );
         from = line_end(text, from) + 1;
-        k += 1;
     }
     next
 }

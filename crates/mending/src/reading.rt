@@ -40,15 +40,13 @@ fn read_headers(text: &[u8], headers: &mut [u64]) -> bool
     requires { length headers.old ≤ 16 }
     ensures { HeadersRead text.now (length headers.old) headers.new result }
 {
-    let mut i = 0;
-    while i < headers.len() {
+    for i in 0..headers.len() {
         let at = line_at(text, 1 + i);
         let word = mended_header(old_word(text, at));
         if !(is_old_line(text, at) & is_good(word)) {
             return false;
         }
         headers[i] = word;
-        i += 1;
     }
     true
 }
@@ -59,13 +57,11 @@ fn all_lined(text: &[u8], n: usize, from: usize) -> bool
     ensures { result ≡ every (old_lined text.now) n from }
 {
     let mut at = line_at(text, from);
-    let mut k = 0;
-    while k < n {
+    for _ in 0..n {
         if !is_old_line(text, at) {
             return false;
         }
         at = line_end(text, at) + 1;
-        k += 1;
     }
     true
 }

@@ -1,6 +1,6 @@
 // Which bits of a word stay, by what the word is.
-ghost use Rattle.std.specs.Prelude.{◌≡◌, ◌+◌, ◌<◌};
-ghost use Rattle.model_mending.specs.Words.{mended_one, mended_header, if_used, mended_step, mended_word};
+ghost use Rattle.std.specs.Prelude.{◌≡◌, ◌+◌, ◌<◌, MatchBool};
+ghost use Rattle.model_mending.specs.Words.{mended_one, mended_header, mended_step, mended_word};
 
 use model_recipes::Step;
 use recipes_kinds::step::{pack, step_of, uses_of};
@@ -22,17 +22,11 @@ pub fn mended_header(word: u64) -> u64
     word - word % HEADER
 }
 
-// A field, where it is used.
-fn if_used(used: bool, x: usize) -> usize
-    ensures { result ≡ if_used used x }
+// A field, where it is used; else 0, its type's default.
+fn if_used<T: Default + Copy>(used: bool, x: T) -> T
+    ensures { MatchBool used (result ≡ x) (T.is_default result) }
 {
-    if used { x } else { 0 }
-}
-
-fn number_if_used(used: bool, n: u32) -> u32
-    ensures { result ≡ if_used used n }
-{
-    if used { n } else { 0 }
+    if used { x } else { T::default() }
 }
 
 // A step without its spare bits and the fields that its kind does not use; of a refused kind as it is.
@@ -49,7 +43,7 @@ pub fn mended_step(word: u64) -> u64
         a: if_used(u.a, s.a),
         b: if_used(u.b, s.b),
         variable: if_used(u.variable, s.variable),
-        n: number_if_used(u.n, s.n),
+        n: if_used(u.n, s.n),
     })
 }
 

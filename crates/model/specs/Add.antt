@@ -6,7 +6,7 @@ use Rattle.std.specs.Float.Ieee.{add, sub}
 use Rattle.std.specs.Float.{binary64}
 use Rattle.lists.specs.Table.{table}
 use Rattle.model.specs.declared.Refusal.{Refusal}
-use Rattle.model.specs.declared.Answer.{Answer}
+use Rattle.model.specs.Results.{Answer}
 use Rattle.model.specs.declared.Family.TheVariants.{Sum}
 use Rattle.model.specs.Header.{count}
 use Rattle.model.specs.Places.{index, inside}

@@ -3,7 +3,7 @@
 use Rattle.std.specs.Prelude.{List, Float}
 use Rattle.model.specs.declared.Header.{Header}
 use Rattle.model.specs.declared.Refusal.{Refusal}
-use Rattle.model.specs.declared.Answer.{Answer}
+use Rattle.model.specs.Results.{Answer}
 use Rattle.model.specs.Header.{stored}
 use Rattle.model.specs.Word.{word_of}
 use Rattle.model.specs.Refusals.{answer_by, leaves, written, cleared}

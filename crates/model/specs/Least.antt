@@ -1,12 +1,11 @@
 -- REFERENCE 4.3. Document 02, W6: of one variable, the least k whose running sum is at least a wanted chance q, on the
 -- full list of running sums. At least is `>=` of floats: -0.0 and 0.0 are equal, and a NaN reaches nothing and is
 -- reached by nothing.
-use Rattle.std.specs.Prelude.{ℕ, suc, ◌+◌, List, [], ◌∷◌, cond, eqb, ltb, length, Float}
+use Rattle.std.specs.Prelude.{Ok, Err, ℕ, suc, ◌+◌, List, [], ◌∷◌, cond, eqb, ltb, length, Float}
 use Rattle.std.specs.Float.Ieee.{le}
 use Rattle.lists.specs.Table.{table}
 use Rattle.model.specs.declared.Refusal.{Refusal}
-use Rattle.model.specs.declared.CountReading.{CountReading}
-use Rattle.model.specs.declared.CountReading.TheVariants as count-reading
+use Rattle.model.specs.Results.{CountReading}
 use Rattle.model.specs.Header.{len}
 use Rattle.model.specs.Word.{header_of}
 use Rattle.model.specs.Refusals.{ask, no_refusal, is_none}
@@ -27,7 +26,7 @@ unfoldable pub least_of : List Float → ℕ → Float → ℕ
 least_of a n q = first_at_least q (running_sums a n)
 
 unfoldable pub count_by : Refusal → ℕ → CountReading
-count_by r k = cond (is_none r) (count-reading.Done k) (count-reading.Refused r)
+count_by r k = cond (is_none r) (Ok k) (Err r)
 
 -- w the header word, a the coefficients
 module _ (w : ℕ) (a : List Float) (q : Float) where

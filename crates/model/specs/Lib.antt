@@ -9,6 +9,8 @@ pub mod Announced
 pub mod Refusals
 pub mod Gates
 pub mod Poly
+pub mod Results
+pub mod Passes
 pub mod Answers
 pub mod Linear
 pub mod Negate

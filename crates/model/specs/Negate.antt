@@ -5,7 +5,7 @@ use Rattle.std.specs.Float.{nan}
 use Rattle.std.specs.Float.Ieee.{neg}
 use Rattle.lists.specs.Table.{table}
 use Rattle.model.specs.declared.Refusal.{Refusal}
-use Rattle.model.specs.declared.Answer.{Answer}
+use Rattle.model.specs.Results.{Answer}
 use Rattle.model.specs.declared.Family.TheVariants.{Same}
 use Rattle.model.specs.Header.{stored, no_header}
 use Rattle.model.specs.Announced.{announced}

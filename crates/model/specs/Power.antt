@@ -3,7 +3,7 @@
 -- The exponent is any u32. Refusals 1, 2, 5, 6.
 use Rattle.std.specs.Prelude.{ℕ, zero, suc, ◌/◌, ◌%◌, List, cond, leb, eqb, length, Float}
 use Rattle.model.specs.declared.Refusal.{Refusal}
-use Rattle.model.specs.declared.Answer.{Answer}
+use Rattle.model.specs.Results.{Answer}
 use Rattle.model.specs.declared.Family.TheVariants.{Power}
 use Rattle.model.specs.Header.{no_header}
 use Rattle.model.specs.Announced.{announced}

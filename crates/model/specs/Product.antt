@@ -9,7 +9,7 @@ use Rattle.lists.specs.Table.{table}
 use Rattle.lists.specs.Four.{at}
 use Rattle.model.specs.declared.Linear.{Linear}
 use Rattle.model.specs.declared.Refusal.{Refusal}
-use Rattle.model.specs.declared.Answer.{Answer}
+use Rattle.model.specs.Results.{Answer}
 use Rattle.model.specs.declared.Family.TheVariants.{Product}
 use Rattle.model.specs.Header.{count, ones}
 use Rattle.model.specs.Places.{index}

@@ -19,10 +19,10 @@ use Rattle.model.specs.Series.{exp_answer, exp_out, log_answer, log_out, series_
 use Rattle.model.specs.Shifts.{derivative_answer, derivative_out, expansion_answer, expansion_out, shift_down_answer, shift_down_out}
 use Rattle.model.specs.Substitute.{substitute_answer, substitute_out, substitute_scratch}
 use Rattle.model.specs.Tail.{tail_answer}
-use Rattle.model.specs.declared.Answer.{Answer}
-use Rattle.model.specs.declared.CountReading.{CountReading}
-use Rattle.model.specs.declared.LinearReading.{LinearReading}
-use Rattle.model.specs.declared.Reading.{Reading}
+use Rattle.model.specs.Results.{Answer}
+use Rattle.model.specs.Results.{CountReading}
+use Rattle.model.specs.Results.{LinearReading}
+use Rattle.model.specs.Results.{Reading}
 
 abbrev pub ZeroPromise : List Float → Answer → List Float → Type 0
 ZeroPromise out r out' =

@@ -7,7 +7,7 @@
 -- added: -0.0 leaves every number as it is. So padding changes no rounded step.
 -- ly and r are the lengths of the divisor and of the result, k the index of the place; n variables are left, from v on.
 -- q has the places of the result before this one that agree with k in the variables before v.
-use Prim.Native.Nat.{ℕ, zero, suc, ◌+◌, ◌-◌, ◌*◌}
+use Prim.Native.Nat.{ℕ, zero, suc, ◌-◌, ◌*◌}
 use Rattle.std.specs.Prelude.{List, [], false, cond, length, get_or, drop, Float}
 use Rattle.std.proofs.Math.ListN.{take}
 use Rattle.std.specs.Float.{nan}
@@ -17,7 +17,7 @@ use Rattle.lists.specs.Grow.{grow}
 use Rattle.lists.specs.Walk.{walk}
 use Rattle.lists.specs.Four.{at, four}
 use Rattle.model.specs.declared.Refusal.{Refusal}
-use Rattle.model.specs.declared.Answer.{Answer}
+use Rattle.model.specs.Results.{Answer}
 use Rattle.model.specs.declared.Family.TheVariants.{Quotient}
 use Rattle.model.specs.Header.{span, count}
 use Rattle.model.specs.Places.{index}

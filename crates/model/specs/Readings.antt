@@ -1,14 +1,14 @@
 -- REFERENCE 4.3, 4.4. Document 01, port order 2, readings: numbers read off a polynomial, and its parts in one
 -- variable.
-use Rattle.std.specs.Prelude.{ℕ, ◌+◌, List, [], ◌∷◌, cond, leb, length, get_or, set, Float}
+use Rattle.std.specs.Prelude.{ℕ, List, [], ◌∷◌, cond, leb, length, get_or, set, Float}
 use Rattle.std.specs.Float.{nan, binary64}
 use Rattle.std.specs.Float.Ieee.{add, of_bits}
 use Rattle.lists.specs.Table.{table}
 use Rattle.lists.specs.Walk.{walk}
 use Rattle.model.specs.declared.Refusal.{Refusal}
-use Rattle.model.specs.declared.Answer.{Answer}
-use Rattle.model.specs.declared.Reading.{Reading}
-use Rattle.model.specs.declared.LinearReading.{LinearReading}
+use Rattle.model.specs.Results.{Answer}
+use Rattle.model.specs.Results.{Reading}
+use Rattle.model.specs.Results.{LinearReading}
 use Rattle.model.specs.declared.Family.TheVariants.{Term, Order}
 use Rattle.model.specs.Header.{stored, len, ones, no_header}
 use Rattle.model.specs.Places.{index}

@@ -1,20 +1,17 @@
 -- REFERENCE 5.1, 5.4. Document 01, 'Refusal numbers': the lowest number wins in one operation; a refusal changes no
 -- buffer; done, the announced places hold the answer, then +0.0, the scratch's first 8 times the announced count are
 -- +0.0, and the rest is untouched.
-use Rattle.std.specs.Prelude.{ℕ, ◌-◌, ◌*◌, List, ◌++◌, Bool, true, false, ◌&&◌, cond, eqb, leb, length, drop, Float}
+use Rattle.std.specs.Prelude.{Ok, Err, ℕ, ◌-◌, ◌*◌, List, ◌++◌, Bool, true, false, ◌&&◌, cond, eqb, leb, length, drop, Float}
 use Rattle.std.specs.Float.Ieee.{of_bits}
 use Rattle.std.specs.Float.{binary64}
 use Rattle.lists.specs.Table.{table}
 use Rattle.model.specs.declared.Header.{Header}
 use Rattle.model.specs.declared.Fault.{Fault}
 use Rattle.model.specs.declared.Refusal.{Refusal}
-use Rattle.model.specs.declared.Answer.{Answer}
-use Rattle.model.specs.declared.Answer.TheVariants as answer
-use Rattle.model.specs.declared.Reading.{Reading}
-use Rattle.model.specs.declared.Reading.TheVariants as reading
+use Rattle.model.specs.Results.{Answer}
+use Rattle.model.specs.Results.{Reading}
 use Rattle.model.specs.declared.Linear.{Linear}
-use Rattle.model.specs.declared.LinearReading.{LinearReading}
-use Rattle.model.specs.declared.LinearReading.TheVariants as linear-reading
+use Rattle.model.specs.Results.{LinearReading}
 use Rattle.model.specs.Header.{stored}
 
 -- by a number alone, at the place p
@@ -57,13 +54,13 @@ roomy h lent = leb (8 * stored h) lent
 -- 01.
 
 unfoldable pub answer_by : Refusal → ℕ → Answer
-answer_by r w = cond (is_none r) (answer.Done w) (answer.Refused r)
+answer_by r w = cond (is_none r) (Ok w) (Err r)
 
 unfoldable pub read_by : Refusal → Float → Reading
-read_by r x = cond (is_none r) (reading.Done x) (reading.Refused r)
+read_by r x = cond (is_none r) (Ok x) (Err r)
 
 unfoldable pub linear_by : Refusal → Linear → LinearReading
-linear_by r x = cond (is_none r) (linear-reading.Done x) (linear-reading.Refused r)
+linear_by r x = cond (is_none r) (Ok x) (Err r)
 
 -- Buffers.
 

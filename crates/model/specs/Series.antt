@@ -20,7 +20,7 @@ use Rattle.lists.specs.Stack.{stack}
 use Rattle.lists.specs.Walk.{walk}
 use Rattle.lists.specs.Four.{at, four}
 use Rattle.model.specs.declared.Refusal.{Refusal}
-use Rattle.model.specs.declared.Answer.{Answer}
+use Rattle.model.specs.Results.{Answer}
 use Rattle.model.specs.declared.Family.TheVariants.{Series}
 use Rattle.model.specs.Header.{span, no_header}
 use Rattle.model.specs.Places.{index}

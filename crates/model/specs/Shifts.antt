@@ -10,7 +10,7 @@ use Rattle.lists.specs.Walk.{walk}
 use Rattle.lists.specs.Four.{at}
 use Rattle.model.specs.declared.Header.{Header}
 use Rattle.model.specs.declared.Refusal.{Refusal}
-use Rattle.model.specs.declared.Answer.{Answer}
+use Rattle.model.specs.Results.{Answer}
 use Rattle.model.specs.declared.Family.TheVariants.{Shift}
 use Rattle.model.specs.Header.{len, stored, ones, no_header}
 use Rattle.model.specs.Places.{index}

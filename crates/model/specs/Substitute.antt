@@ -9,7 +9,7 @@ use Rattle.lists.specs.Table.{table}
 use Rattle.lists.specs.Walk.{walk}
 use Rattle.lists.specs.Four.{at}
 use Rattle.model.specs.declared.Refusal.{Refusal}
-use Rattle.model.specs.declared.Answer.{Answer}
+use Rattle.model.specs.Results.{Answer}
 use Rattle.model.specs.declared.Family.TheVariants.{Substitution}
 use Rattle.model.specs.Header.{count}
 use Rattle.model.specs.Places.{index}

@@ -3,7 +3,7 @@
 use Rattle.std.specs.Prelude.{ℕ, ◌+◌, min, List, length, Float}
 use Rattle.std.specs.Float.Ieee.{sub, div}
 use Rattle.std.specs.Float.{binary64}
-use Rattle.model.specs.declared.Reading.{Reading}
+use Rattle.model.specs.Results.{Reading}
 use Rattle.model.specs.Header.{len}
 use Rattle.model.specs.Word.{header_of}
 use Rattle.model.specs.Refusals.{read_by}

@@ -2,7 +2,7 @@
 -- limit less one (6) and length less one (6), then 13 zero bits. Document 02, W10: of these the first eight are a cap.
 -- As long as no header may have one (`most_cap`) it is told as spare bits are.
 use Rattle.std.specs.Prelude.{ℕ, ◌+◌, ◌-◌, ◌*◌, ◌/◌, ◌%◌, ◌^◌, Bool}
-use Rattle.lists.specs.Four.{at, four}
+use Rattle.lists.specs.Four.{four}
 use Rattle.model.specs.declared.Header.{Header}
 use Rattle.model.specs.declared.Fault.{Fault}
 use Rattle.model.specs.Header.{header, limit, len}

@@ -37,25 +37,13 @@ pub struct Refusal {
 }
 
 // A polynomial was written, and this is its header word; or nothing was.
-#[derive(Clone, Copy)]
-pub enum Answer {
-    Done(u64),
-    Refused(Refusal),
-}
+pub type Answer = Result<u64, Refusal>;
 
 // A number that was read off a polynomial.
-#[derive(Clone, Copy)]
-pub enum Reading {
-    Done(f64),
-    Refused(Refusal),
-}
+pub type Reading = Result<f64, Refusal>;
 
 // A number of places that was read off a polynomial.
-#[derive(Clone, Copy)]
-pub enum CountReading {
-    Done(usize),
-    Refused(Refusal),
-}
+pub type CountReading = Result<usize, Refusal>;
 
 // c + m * v, where `yes`; else all 0.
 #[derive(Clone, Copy)]
@@ -66,19 +54,8 @@ pub struct Linear {
     pub variable: usize,
 }
 
-// How a product is made: which of its ways (specs/Product.antt numbers them), with the constant or the linear factor.
-#[derive(Clone, Copy)]
-pub struct Way {
-    pub kind: usize,
-    pub line: Linear,
-}
-
 // Whether a polynomial is linear.
-#[derive(Clone, Copy)]
-pub enum LinearReading {
-    Done(Linear),
-    Refused(Refusal),
-}
+pub type LinearReading = Result<Linear, Refusal>;
 
 // The families of operations that announce their limits and lengths alike, with the numbers that decide them: an
 // exponent, a variable, n or an order.

@@ -1,10 +1,9 @@
 -- REFERENCE 11.2. A number as people type it: digits, or digits, a point and digits; at most 15 significant digits, at
 -- most 22 behind the point. It is read as the float nearest to it; any other text is refused.
-use Rattle.std.specs.Prelude.{ℕ, ◌+◌, ◌-◌, ◌*◌, ◌^◌, Bool, true, false, not, ◌&&◌, ◌||◌, cond, List, [], ◌∷◌, ◌++◌, leb, eqb, length}
+use Rattle.std.specs.Prelude.{Some, None, ℕ, ◌+◌, ◌-◌, ◌*◌, ◌^◌, Bool, true, false, not, ◌&&◌, ◌||◌, cond, List, [], ◌∷◌, ◌++◌, leb, eqb, length}
 use Rattle.std.specs.Float.{binary64}
 use Rattle.std.specs.Float.Ieee.{round}
-use Rattle.model_decimals.specs.declared.Read.{Read}
-use Rattle.model_decimals.specs.declared.Read.TheVariants.{Number, Refused}
+use Rattle.model_decimals.specs.Results.{Read}
 
 -- what stands before the first point, whether there is one, and what stands behind it
 unfoldable pub before : List ℕ → List ℕ
@@ -52,4 +51,4 @@ module _ (t : List ℕ) where
       && (leb (length (significant digits_typed)) 15 && leb (length (behind t)) 22)
 
   unfoldable pub read_text : Read
-  read_text = cond is_typed (Number (round binary64 false (digits_value 0 digits_typed) (10 ^ length (behind t)))) Refused
+  read_text = cond is_typed (Some (round binary64 false (digits_value 0 digits_typed) (10 ^ length (behind t)))) None

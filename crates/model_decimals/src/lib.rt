@@ -2,9 +2,5 @@
 // no laws.
 #![tactic(auto)]
 
-// What a text is read as.
-#[derive(Clone, Copy)]
-pub enum Read {
-    Number(f64),
-    Refused,
-}
+// What a text is read as: a number, or none.
+pub type Read = Option<f64>;

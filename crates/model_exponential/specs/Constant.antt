@@ -3,7 +3,7 @@ use Rattle.std.specs.Prelude.{Bool, true, false, ◌&&◌, pos, Float}
 use Rattle.std.specs.Float.{fin}
 use Rattle.std.specs.Float.Ieee.{le}
 use Rattle.model.specs.declared.Refusal.{Refusal}
-use Rattle.model.specs.declared.Reading.{Reading}
+use Rattle.model.specs.Results.{Reading}
 use Rattle.model.specs.Refusals.{ask, no_refusal, read_by}
 use Rattle.model_exponential.specs.Head.{exp_head}
 

@@ -1,7 +1,7 @@
 -- REFERENCE 9.10. How many tubes cover a wanted chance (document 02, W6): the least k whose running sum is at least the
 -- chance times the total, one rounded product; or that no place shown reaches it, and by which place the table was cut.
 -- For an answer of one variable only.
-use Rattle.std.specs.Prelude.{ℕ, cond, List, [], ◌++◌, ltb, eqb, Float}
+use Rattle.std.specs.Prelude.{Some, None, ℕ, cond, List, [], ◌++◌, ltb, eqb, Float}
 use Rattle.std.specs.Float.Ieee.{mul}
 use Rattle.std.specs.Float.{binary64}
 use Rattle.lists.specs.Bytes.{bytes}
@@ -14,8 +14,7 @@ use Rattle.model_texts.specs.Trace.{decider}
 use Rattle.model_texts.specs.Whole.{passes, first_out, is_whole}
 use Rattle.model_texts.specs.Report.{tell, place_kind_text}
 use Rattle.model_decimals.specs.Text.{float_text}
-use Rattle.model_forecast.specs.declared.Given.{Given}
-use Rattle.model_forecast.specs.declared.Given.TheVariants.{Nothing, Number}
+use Rattle.model_forecast.specs.Results.{Given}
 
 -- k tubes cover the chance q
 unfoldable pub covered_text : ℕ → Float → List ℕ
@@ -58,5 +57,5 @@ module _ (known : List Header) (ss : List ℕ) (inputs : ℕ) (fs : List ℕ) wh
         (bytes "How many tubes cover a chance is told for an answer of one variable only.\n")
 
     unfoldable pub chance_text : Float → Given → List ℕ
-    chance_text total Nothing = []
-    chance_text total (Number q) = wanted_text total q
+    chance_text total None = []
+    chance_text total (Some q) = wanted_text total q

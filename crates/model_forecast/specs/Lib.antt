@@ -1,3 +1,4 @@
+pub mod Results
 pub mod Totals
 pub mod Mixed
 pub mod Shares

@@ -1,6 +1,6 @@
 -- REFERENCE 9.8. What is said of the total, before the figures: how much there is in all, how much of it is shown and
 -- how much is not; or why the total is not known; or that document 02, W1, takes no parts of it.
-use Rattle.std.specs.Prelude.{ℕ, Bool, true, false, cond, List, ◌++◌, leb, eqb, Float}
+use Rattle.std.specs.Prelude.{Some, None, ℕ, Bool, true, false, cond, List, ◌++◌, leb, eqb, Float}
 use Rattle.std.specs.Float.Ieee.{sub}
 use Rattle.std.specs.Float.{binary64}
 use Rattle.lists.specs.Bytes.{bytes}
@@ -8,14 +8,13 @@ use Rattle.model.specs.Gates.{good_total}
 use Rattle.model.specs.Readings.{one_f}
 use Rattle.model_texts.specs.Report.{tell, when, kind_text}
 use Rattle.model_decimals.specs.Text.{float_text}
-use Rattle.model_forecast.specs.declared.Given.{Given}
-use Rattle.model_forecast.specs.declared.Given.TheVariants.{Nothing, Number}
+use Rattle.model_forecast.specs.Results.{Given}
 use Rattle.model_forecast.specs.declared.Sums.{Sums}
 
 -- the total that parts are taken of: the one that is given, else the one that follows from the inputs, else 1
 unfoldable pub used_total : Given → Sums → Float
-used_total (Number t) s = t
-used_total Nothing s = cond (leb 64 s.bar) s.amount one_f
+used_total (Some t) s = t
+used_total None s = cond (leb 64 s.bar) s.amount one_f
 
 -- where a total comes from
 unfoldable pub origin_text : Bool → List ℕ
@@ -53,5 +52,5 @@ bar_text vars p k =
     ++ (bytes " is of kind " ++ (kind_text k ++ (bytes ".\n" ++ when (eqb vars 1) (bytes "Parts are taken of a total of 1.\n"))))
 
 unfoldable pub totals_text : Given → Sums → List ℕ
-totals_text (Number t) s = total_text true s.whole t s.shown
-totals_text Nothing s = cond (leb 64 s.bar) (total_text false s.whole s.amount s.shown) (bar_text s.vars s.bar s.kind)
+totals_text (Some t) s = total_text true s.whole t s.shown
+totals_text None s = cond (leb 64 s.bar) (total_text false s.whole s.amount s.shown) (bar_text s.vars s.bar s.kind)

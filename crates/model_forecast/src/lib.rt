@@ -3,11 +3,7 @@
 #![tactic(auto)]
 
 // A number that an argument of the program says, or none.
-#[derive(Clone, Copy)]
-pub enum Given {
-    Nothing,
-    Number(f64),
-}
+pub type Given = Option<f64>;
 
 // What the arguments ask for: the chance that tubes are to cover, and a total in place of the one that follows from the
 // inputs.

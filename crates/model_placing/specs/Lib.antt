@@ -1,3 +1,4 @@
+pub mod Results
 pub mod Least
 pub mod Placing
 pub mod Reuse

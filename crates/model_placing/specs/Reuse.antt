@@ -1,6 +1,6 @@
 -- REFERENCE 6.6. Document 02, W4: the check of a recipe whose pool is placed so, what its run asks of lent buffers, and
 -- what such a run leaves of the pool when it is done.
-use Rattle.std.specs.Prelude.{ℕ, ◌+◌, ◌-◌, ◌*◌, ◌&&◌, cond, List, ◌≡◌, leb, length, drop, Float}
+use Rattle.std.specs.Prelude.{Err, ℕ, ◌+◌, ◌-◌, ◌*◌, ◌&&◌, cond, List, ◌≡◌, leb, length, drop, Float}
 use Rattle.lists.specs.Part.{part}
 use Rattle.model.specs.declared.Refusal.{Refusal}
 use Rattle.model.specs.Header.{stored}
@@ -8,13 +8,12 @@ use Rattle.model.specs.Refusals.{ask, no_refusal, is_none, padded}
 use Rattle.model_recipes.specs.Recipe.{Recipe, head_at, input_heads, announced_steps, total, largest}
 use Rattle.model_recipes.specs.Check.{check_refusal}
 use Rattle.model_recipes.specs.Run.{value_at, step_values}
-use Rattle.model_placing.specs.declared.ReuseAnswer.{ReuseAnswer}
-use Rattle.model_placing.specs.declared.ReuseAnswer.TheVariants.{Accepted, Refused}
+use Rattle.model_placing.specs.Results.{ReuseAnswer, accepting}
 use Rattle.model_placing.specs.Placing.{pool_needed, last_offset}
 
 -- which case of the enum stands for which numbers
 unfoldable pub reuse_by : Refusal → ℕ → ℕ → ℕ → ℕ → ReuseAnswer
-reuse_by r pool most inputs last = cond (is_none r) (Accepted pool most inputs last) (Refused r)
+reuse_by r pool most inputs last = cond (is_none r) (accepting pool most inputs last) (Err r)
 
 -- it refuses as the check does
 unfoldable pub check_reuse_answer : Recipe → ReuseAnswer

@@ -3,15 +3,15 @@
 
 use model::Refusal;
 
-// A recipe may be run over a pool in which parts are used again, and this is what it takes: the length of the pool, the
-// largest announced step count, the input coefficient total; and where the last step's value begins.
+// What a run takes over a pool in which parts are used again: the length of the pool, the largest announced step count,
+// the input coefficient total; and where the last step's value begins.
 #[derive(Clone, Copy)]
-pub enum ReuseAnswer {
-    Accepted {
-        pool: usize,
-        largest: usize,
-        inputs: usize,
-        last: usize,
-    },
-    Refused(Refusal),
+pub struct ReuseTotals {
+    pub pool: usize,
+    pub largest: usize,
+    pub inputs: usize,
+    pub last: usize,
 }
+
+// A recipe may be run so, and this is what it takes.
+pub type ReuseAnswer = Result<ReuseTotals, Refusal>;

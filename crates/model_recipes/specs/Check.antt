@@ -1,12 +1,11 @@
 -- REFERENCE 6.4. Document 01, 'Recipes' and 'Refusal numbers': the check of a recipe, from words alone. Recipe sizes
 -- (7, at no place), then inputs in order (1, with the header's fault: document 02, W5), then each step in order (7, 3,
 -- 4, 5). It answers the pool total, the largest announced step count and the input coefficient total.
-use Rattle.std.specs.Prelude.{ℕ, suc, ◌+◌, List, [], ◌∷◌, ◌++◌, Bool, true, false, ◌&&◌, ◌||◌, cond, ltb, leb, eqb, length}
+use Rattle.std.specs.Prelude.{Err, ℕ, suc, ◌+◌, List, [], ◌∷◌, ◌++◌, Bool, true, false, ◌&&◌, ◌||◌, cond, ltb, leb, eqb, length}
 use Rattle.model.specs.declared.Header.{Header}
 use Rattle.model.specs.declared.Refusal.{Refusal}
 use Rattle.model_recipes.specs.declared.Step.{Step}
-use Rattle.model_recipes.specs.declared.CheckAnswer.{CheckAnswer}
-use Rattle.model_recipes.specs.declared.CheckAnswer.TheVariants.{Accepted, Refused}
+use Rattle.model_recipes.specs.Results.{CheckAnswer, accepting}
 use Rattle.model.specs.Header.{limit, stored}
 use Rattle.model.specs.Word.{good_word}
 use Rattle.model.specs.Refusals.{ask_for, refused_at, no_refusal, is_none}
@@ -81,7 +80,7 @@ check_refusal it =
 
 -- which case of the enum stands for which numbers
 unfoldable pub check_by : Refusal → ℕ → ℕ → ℕ → CheckAnswer
-check_by r pool most inputs = cond (is_none r) (Accepted pool most inputs) (Refused r)
+check_by r pool most inputs = cond (is_none r) (accepting pool most inputs) (Err r)
 
 unfoldable pub check_answer : Recipe → CheckAnswer
 check_answer it = check_by (check_refusal it) (total (announced_steps it)) (largest (announced_steps it)) (total (input_heads it.headers))

@@ -1,3 +1,4 @@
+pub mod Results
 pub mod Kinds
 pub mod Steps
 pub mod Recipe

@@ -3,8 +3,8 @@ use Rattle.std.specs.Prelude.{ℕ, List, ◌≡◌, Float}
 use Rattle.model_recipes.specs.Recipe.{Recipe}
 use Rattle.model_recipes.specs.Check.{check_answer}
 use Rattle.model_recipes.specs.Run.{run_answer, run_pool, run_scratch, run_words}
-use Rattle.model_recipes.specs.declared.CheckAnswer.{CheckAnswer}
-use Rattle.model_recipes.specs.declared.RunAnswer.{RunAnswer}
+use Rattle.model_recipes.specs.Results.{CheckAnswer}
+use Rattle.model_recipes.specs.Results.{RunAnswer}
 
 abbrev pub CheckPromise : Recipe → CheckAnswer → Type 0
 CheckPromise it r =

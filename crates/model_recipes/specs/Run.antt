@@ -3,14 +3,13 @@
 -- then tests 2, 5, 6. When done, step values lie end to end in the pool at announced counts, true headers go to the
 -- buffer of words, one per step, the scratch's first 8 times the largest count are +0.0, and the rest is untouched. A
 -- refusal before the first step changes no buffer. A step that stops the run (12) leaves +0.0 and 0 in their places.
-use Rattle.std.specs.Prelude.{ℕ, ◌*◌, List, [], ◌∷◌, ◌++◌, map, Bool, ◌&&◌, not, cond, leb, eqb, length, drop, get_or, Float}
+use Rattle.std.specs.Prelude.{Ok, Err, ℕ, ◌*◌, List, [], ◌∷◌, ◌++◌, map, Bool, ◌&&◌, not, cond, leb, eqb, length, drop, get_or, Float}
 use Rattle.lists.specs.Chain.{chain}
 use Rattle.lists.specs.Table.{table}
 use Rattle.model.specs.declared.Header.{Header}
 use Rattle.model.specs.declared.Refusal.{Refusal}
 use Rattle.model_recipes.specs.declared.Step.{Step}
-use Rattle.model_recipes.specs.declared.RunAnswer.{RunAnswer}
-use Rattle.model_recipes.specs.declared.RunAnswer.TheVariants.{Done, Refused}
+use Rattle.model_recipes.specs.Results.{RunAnswer}
 use Rattle.model.specs.Header.{no_header, stored}
 use Rattle.model.specs.Word.{header_of, word_of}
 use Rattle.model.specs.Refusals.{ask, refused_at, no_refusal, is_none, zero_f, zeros, padded, cleared}
@@ -98,9 +97,9 @@ end_by r s = cond (is_none r) (cond (is_none s) done (stopped s)) (refused r)
 
 -- which case of the enum stands for which end
 abbrev pub end_answer : RunEnd → RunAnswer
-end_answer (refused r) = Refused r
-end_answer (stopped r) = Refused r
-end_answer done = Done
+end_answer (refused r) = Err r
+end_answer (stopped r) = Err r
+end_answer done = (Ok tt)
 
 -- what an end leaves of a lent buffer: as it was, with zeros, or with what the run made
 abbrev pub after_run : {A : Type 0} → RunEnd → List A → List A → List A → List A

@@ -50,22 +50,17 @@ pub struct Uses {
     pub n: bool,
 }
 
-// A recipe may be run, and this is what it takes: the pool total, the largest announced step count, the input
-// coefficient total.
+// What a run takes: the pool total, the largest announced step count, the input coefficient total.
 #[derive(Clone, Copy)]
-pub enum CheckAnswer {
-    Accepted {
-        pool: usize,
-        largest: usize,
-        inputs: usize,
-    },
-    Refused(Refusal),
+pub struct Totals {
+    pub pool: usize,
+    pub largest: usize,
+    pub inputs: usize,
 }
+
+// A recipe may be run, and this is what it takes.
+pub type CheckAnswer = Result<Totals, Refusal>;
 
 // Every step's value was written, with its header word; or the run was refused: before its first step, and nothing was
 // written, or at a step that stops it (12), and +0.0 and 0 stand where values and words would.
-#[derive(Clone, Copy)]
-pub enum RunAnswer {
-    Done,
-    Refused(Refusal),
-}
+pub type RunAnswer = Result<(), Refusal>;

@@ -1,7 +1,7 @@
 -- What `write` and `write_2` promise, and that it admits one outcome (document 01, 'What each answer owes').
 use Rattle.std.specs.Prelude.{ℕ, Bool, List, ◌≡◌, Float}
 use Rattle.std.proofs.Common.{sym, ◌∙◌}
-use Rattle.npy_files.specs.declared.Written.{Written}
+use Rattle.npy_files.specs.Results.{Written}
 use Rattle.npy_files.specs.Writes.{write_answer, write_file}
 
 -- newer: version 2.0; file the file as it came, file' as it is left, r the answer

@@ -1,11 +1,11 @@
 -- The outcomes of reading, from what the code found.
-use Rattle.std.specs.Prelude.{ℕ, ◌+◌, ◌*◌, ◌≤◌, ◌<◌, List, [], ◌∷◌, ◌++◌, Bool, true, false, ◌&&◌, ◌≡◌, refl, leb, eqb, length, drop, Float}
+use Rattle.std.specs.Prelude.{Ok, Err, ℕ, ◌+◌, ◌*◌, ◌≤◌, ◌<◌, List, [], ◌∷◌, ◌++◌, Bool, true, false, ◌&&◌, ◌≡◌, refl, leb, eqb, length, drop, Float}
 use Rattle.std.proofs.Math.Path.{sym}
 use Rattle.std.proofs.Common.{ap, ap₂, ◌∙◌, subst, arith, mul-le-mul}
 use borrow.Author.Tests.{le-leb, lt-leb, eq-eqb, ne_eqb}
 use Rattle.lists.specs.Table.{table, table_same}
 use Rattle.lists.specs.Test.{and_left, and_right}
-use Rattle.model.specs.declared.Answer.TheVariants.{Done, Refused}
+use Rattle.model.specs.Results.{Answer}
 use Rattle.model.specs.declared.Header.{Header}
 use Rattle.model.specs.declared.Refusal.{Refusal}
 use Rattle.model.specs.Header.{header, count, stored, good_header}
@@ -55,11 +55,11 @@ values_same t a b e f g = rw (a, b, e, f, g)
 
 -- a refusal as the code makes it
 pub refused : {t : List ℕ} {old : List Float} (n : ℕ) {r : Refusal} → r ≡ refused_by n
-    → Reading t old (Refused (refused_by n)) old → Reading t old (Refused r) old
-refused {t} {old} n e h = subst (λ (r : Refusal). Reading t old (Refused r) old) (sym e) h
+    → Reading t old (Err (refused_by n)) old → Reading t old (Err r) old
+refused {t} {old} n e h = subst (λ (r : Refusal). Reading t old (Err r) old) (sym e) h
 
 module _ (t : List ℕ) (old : List Float) {o : Opened} (opens : Opens t o) where
-  pub read-other : o.right ≡ false → Reading t old (Refused (refused_by 10)) old
+  pub read-other : o.right ≡ false → Reading t old (Err (refused_by 10)) old
   read-other e = Reading.other (opens.complete e)
 
   module _ (right : o.right ≡ true) {h : Header} (kept : HeadKept o.shape h) {g : Bool} (eg : g ≡ good_header h) where
@@ -72,7 +72,7 @@ module _ (t : List ℕ) (old : List Float) {o : Opened} (opens : Opens t o) wher
     good-is : g ≡ good_shape v.shape
     good-is = eg ∙ head-good v.shape found.kept kept
 
-    pub read-sizes : g ≡ false → Reading t old (Refused (refused_by 5)) old
+    pub read-sizes : g ≡ false → Reading t old (Err (refused_by 5)) old
     unfolding is_room
     read-sizes e = Reading.sizes v found.says (rw (sym good-is ∙ e))
 
@@ -95,7 +95,7 @@ module _ (t : List ℕ) (old : List Float) {o : Opened} (opens : Opens t o) wher
             ec
             ∙ (ap (λ (x : Header). stored x) (sym kept) ∙ (ap (λ (x : Header). stored x) head-here ∙ shape-count v.shape good_shape_lem))
 
-        pub read_short : length old < c → Reading t old (Refused (refused_by 5)) old
+        pub read_short : length old < c → Reading t old (Err (refused_by 5)) old
         unfolding is_room
         read_short l = Reading.sizes v found.says (rw (good_shape_lem, lt-leb (product v.shape) (length old) (omega (arith, l, count-here))))
 
@@ -123,7 +123,7 @@ module _ (t : List ℕ) (old : List Float) {o : Opened} (opens : Opens t o) wher
           ends : data_start t + bytes_of v.width * product v.shape ≡ o.start + o.width * c
           ends = ends_same found.start width-here count-here
 
-          pub read-unlike : (length t ≡ o.start + o.width * c → ⊥) → Reading t old (Refused (refused_by 10)) old
+          pub read-unlike : (length t ≡ o.start + o.width * c → ⊥) → Reading t old (Err (refused_by 10)) old
           unfolding data_fits
           read-unlike n = Reading.unlike v found.says room (ne_eqb (length t) (data_start t + bytes_of v.width * product v.shape) (λ e. n (e ∙ ends)))
 
@@ -148,9 +148,9 @@ module _ (t : List ℕ) (old : List Float) {o : Opened} (opens : Opens t o) wher
 
             pub read_done : {w : ℕ} {new : List Float} → w ≡ word_of h
                 → new ≡ table (count o.shape.n) (values_of (width_of o.width) (order_of o.order) t o.start o.shape.n) ++ drop c old
-                → Reading t old (Done w) new
+                → Reading t old (Ok w) new
             read_done {w} {new} ew en =
-                let a : Done w ≡ Done (word_of (head_of v.shape)) = ap Done (ew ∙ ap word_of head-here) in
+                let a : ◌≡◌ {A = Answer} (Ok w) (Ok (word_of (head_of v.shape))) = ap Ok (ew ∙ ap word_of head-here) in
                 let b : new ≡ table (product v.shape) (file_value t v) ++ drop (product v.shape) old =
                 en ∙ ap₂ (λ (x : List Float) (n : ℕ). x ++ drop n old) filled count-here in
                 rw (a, b) (Reading.done v found.says room fits)

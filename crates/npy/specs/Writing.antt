@@ -1,5 +1,5 @@
 -- The outcomes of writing, from what the code found.
-use Rattle.std.specs.Prelude.{ℕ, suc, ◌+◌, ◌*◌, ◌≤◌, ◌<◌, Bool, true, false, cond, ◌≡◌, refl, leb, ltb, eqb, length, get_or, Float}
+use Rattle.std.specs.Prelude.{Ok, Err, ℕ, suc, ◌+◌, ◌*◌, ◌≤◌, ◌<◌, Bool, true, false, cond, ◌≡◌, refl, leb, ltb, eqb, length, get_or, Float}
 use mathlib.Core.List.{List, [], ◌∷◌, ◌++◌}
 use Rattle.std.proofs.Common.{sym, ap₂, ◌∙◌, arith}
 use Rattle.std.proofs.Math.Path.{ap, subst}
@@ -17,8 +17,7 @@ use Rattle.model.specs.Gates.{bad_word}
 use Rattle.model.specs.Word.{header_of, good_word}
 use Rattle.shape_words.specs.Rules.{Good, ruled-at}
 use Rattle.shape_words.specs.Words.{good_word_lem}
-use Rattle.npy_files.specs.declared.Written.{Written}
-use Rattle.npy_files.specs.declared.Written.TheVariants.{Done, Refused}
+use Rattle.npy_files.specs.Results.{Written}
 use Rattle.npy_files.specs.Shapes.{shape_of}
 use Rattle.npy_files.specs.Writes.{data_out, front_out, file_out, file_length, write_gate, write_answer, write_file}
 use Rattle.npy_bytes.specs.Words.{length_data}
@@ -26,7 +25,7 @@ use Rattle.npy_writing.specs.Front.{Shaped, PutFront}
 use Rattle.sheet_text.specs.Put.{Put, put_then, put_front_lem}
 
 by-gate : (newer : Bool) (w : ℕ) (a : List Float) (old : List ℕ) (q : Refusal) → (q.number ≡ 0 → ⊥) → write_gate w (length a) (length old) ≡ q
-    → (Refused q ≡ write_answer w a old) × (old ≡ write_file newer w a old)
+    → (Err q ≡ write_answer w a old) × (old ≡ write_file newer w a old)
 unfolding write_answer write_file
 by-gate newer w a old q n e = let z : eqb q.number 0 ≡ false = ne_eqb q.number 0 n in (rw (e, z), rw (e, z))
 
@@ -40,7 +39,7 @@ module _ (newer : Bool) (w : ℕ) (a : List Float) (old : List ℕ) {g : Bool} (
   abbrev Refusing : Written → Type 0
   Refusing r = (r ≡ write_answer w a old) × (old ≡ write_file newer w a old)
 
-  pub write_bad : {q : Refusal} → g ≡ false → q ≡ bad_word w 64 → Refusing (Refused q)
+  pub write_bad : {q : Refusal} → g ≡ false → q ≡ bad_word w 64 → Refusing (Err q)
   unfolding write_gate
   write_bad {q} h e = by-gate newer w a old q (λ k. omega (arith, k, ap (λ (x : Refusal). x.number) e)) (rw (sym eg ∙ h) (sym e))
 
@@ -65,14 +64,14 @@ module _ (newer : Bool) (w : ℕ) (a : List Float) (old : List ℕ) {g : Bool} (
         }
 
     module _ {c : ℕ} (ec : c ≡ count h.lengths) where
-      pub write-few : {r : Written} → length a < c → r ≡ Refused (refused_by 2) → Refusing r
+      pub write-few : {r : Written} → length a < c → r ≡ Err (refused_by 2) → Refusing r
       unfolding write_gate
       write-few l e =
           let z = by-gate newer w a old (refused_by 2) (λ k. omega (arith, k)) (rw (is_good_lem, lt-leb (stored h) (length a) (omega (arith, l, ec)))) in
           (e ∙ z.0, z.1)
 
       module _ (l : c ≤ length a) where
-        pub write_short_lem : {r : Written} → length old < 128 + 8 * c → r ≡ Refused (refused_by 5) → Refusing r
+        pub write_short_lem : {r : Written} → length old < 128 + 8 * c → r ≡ Err (refused_by 5) → Refusing r
         unfolding write_gate
         write_short_lem m e =
             let z =
@@ -90,11 +89,11 @@ module _ (newer : Bool) (w : ℕ) (a : List Float) (old : List ℕ) {g : Bool} (
           open-gate = rw (is_good_lem, le-leb (stored h) (length a) (omega (arith, l, ec)), le-leb (file_length w) (length old) (omega (arith, m, ec)))
 
           pub write_done : {k : Header} {mid new : List ℕ} {s e : ℕ} → k ≡ h → PutFront newer (shape_of k) old mid s → Put s (data_out (take c a)) mid new e
-              → (Done e ≡ write_answer w a old) × (new ≡ write_file newer w a old)
+              → (Ok e ≡ write_answer w a old) × (new ≡ write_file newer w a old)
           unfolding write_answer write_file file_out
           write_done {k} {mid} {new} {s} {e} ek p' q =
               let p : PutFront newer (shape_of h) old mid s = subst (λ (x : Header). PutFront newer (shape_of x) old mid s) ek p' in
               let z = put_front_lem (put_then p.put q) in
               let long : e ≡ file_length w = omega (arith, q.behind, p.is, length_data (take c a), length-take-le c a l, ec) in
               let d : take c a ≡ take (stored h) a = ap (λ (n : ℕ). take n a) ec in
-              (rw open-gate (ap Done long), rw open-gate (z.1 ∙ ap (λ (x : List Float). over (front_out newer (shape_of h) ++ data_out x) old) d))
+              (rw open-gate (ap Ok long), rw open-gate (z.1 ∙ ap (λ (x : List Float). over (front_out newer (shape_of h) ++ data_out x) old) d))

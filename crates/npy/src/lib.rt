@@ -21,26 +21,26 @@ pub fn read(file: &[u8], out: &mut [f64]) -> Answer
 {
     let opened = open_file(file);
     if !opened.right {
-        return Answer::Refused(Refusal::by(10));
+        return Err(Refusal::by(10));
     }
     let shape = opened.shape;
     let head = head_of(shape);
     if !good_header(head) {
-        return Answer::Refused(Refusal::by(5));
+        return Err(Refusal::by(5));
     }
     let n = shape.n;
     let count = count_of(n);
     if out.len() < count {
-        return Answer::Refused(Refusal::by(5));
+        return Err(Refusal::by(5));
     }
     let start = opened.start;
     let width = opened.width;
     if file.len() != start + width * count {
-        return Answer::Refused(Refusal::by(10));
+        return Err(Refusal::by(10));
     }
     let order = opened.order;
     fill_as(width, order, file, start, n, &mut out[..count]);
-    Answer::Done(pack(head))
+    Ok(pack(head))
 }
 
 // The file of a polynomial, whose shape is the stored lengths, at the front of `file`, of version 1.0 or the newer one,
@@ -49,20 +49,20 @@ pub fn write_as(newer: bool, head: u64, a: &[f64], file: &mut [u8]) -> Written
     ensures { WritePromise newer head a.now file.old result file.new }
 {
     if !is_good(head) {
-        return Written::Refused(bad_word(head, Refusal::NOWHERE));
+        return Err(bad_word(head, Refusal::NOWHERE));
     }
     let h = header_of(head);
     let n = h.lengths;
     let count = count_of(n);
     if a.len() < count {
-        return Written::refused(2);
+        return Err(Refusal::by(2));
     }
     if file.len() < 128 + 8 * count {
-        return Written::refused(5);
+        return Err(Refusal::by(5));
     }
     let start = put_front(newer, h.vars, n, file);
     let end = put_data(&a[..count], start, file);
-    Written::Done(end)
+    Ok(end)
 }
 
 // Version 1.0.

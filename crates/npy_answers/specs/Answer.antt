@@ -1,5 +1,5 @@
 -- Document 02, W2, what the program `to_npy` reads: an answer of `recipe` (REFERENCE 7.4). t: the bytes of a text.
-use Rattle.std.specs.Prelude.{ℕ, ◌+◌, ◌-◌, ◌*◌, List, [], ◌∷◌, Bool, true, false, ◌&&◌, ◌||◌, cond, leb, ltb, eqb, length, Float}
+use Rattle.std.specs.Prelude.{ℕ, ◌+◌, ◌-◌, ◌*◌, List, Bool, ◌&&◌, ◌||◌, cond, leb, ltb, eqb, length, Float}
 use Rattle.std.specs.Float.Ieee.{of_bits}
 use Rattle.std.specs.Float.{binary64}
 use Rattle.lists.specs.Every.{every}

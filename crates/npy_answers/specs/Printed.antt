@@ -1,7 +1,7 @@
 -- What `recipe` prints when it is done is read back: the header word, and every float.
 use Prim.Native.Nat.{ℕ, zero, suc, ◌+◌, ◌-◌, ◌*◌, ◌/◌, ◌%◌, ◌^◌, ◌≤◌, ◌<◌}
 use mathlib.Core.List.{List, [], ◌∷◌, ◌++◌, map, append_assoc}
-use Rattle.std.specs.Prelude.{Bool, false, ◌&&◌, ◌||◌, cond, ◌≡◌, refl, T, leb, ltb, eqb, Float}
+use Rattle.std.specs.Prelude.{Bool, ◌≡◌, refl, T, ltb, Float}
 use Rattle.std.proofs.Math.Bool.{true}
 use Rattle.std.proofs.Math.Path.{sym, ap}
 use Rattle.std.proofs.Common.{ap₂, ◌∙◌, subst, length-append, shr-shr}

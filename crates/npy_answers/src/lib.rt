@@ -7,20 +7,12 @@ ghost use Rattle.std.specs.Float.{binary64};
 ghost use Rattle.lists.specs.Every.{every};
 ghost use Rattle.lists.specs.Table.{table};
 ghost use Rattle.model_texts.specs.Hex.{is_line, word_at};
-ghost use Rattle.npy_files.specs.Frame.{byte_at};
 ghost use Rattle.npy_answers.specs.Answer.{is_decimal, lines_start, is_answer, is_numeral, is_refusal};
 
 use gates::stored_of;
 use npy_bytes::starts_with;
 use shape_words::word::{header_of, is_good};
-use sheet_text::line::{is_line, word_at};
-
-// The byte at a place, 0 past the end.
-fn byte_at(text: &[u8], at: usize) -> u8
-    ensures { result ≡ byte_at text.now at }
-{
-    if at < text.len() { text[at] } else { 0 }
-}
+use sheet_text::line::{byte_at, is_line, word_at};
 
 fn is_decimal(b: u8) -> bool
     ensures { result ≡ is_decimal b }
@@ -28,7 +20,8 @@ fn is_decimal(b: u8) -> bool
     (48 <= b) & (b <= 57)
 }
 
-// Where the lines of words begin: behind `done `, one digit or two, and a newline; 0 where a text does not begin so.
+// Where the lines of words begin: behind `done `, one digit or two, and a newline; 0 where a text does not
+// begin so, and no Option: its contract names the number.
 pub fn lines_start(text: &[u8]) -> usize
     ensures { result ≡ lines_start text.now }
 {
@@ -49,12 +42,10 @@ fn all_lines(text: &[u8], start: usize, n: usize) -> bool
     requires { (start ≤ 8) × (n ≤ 4096) }
     ensures { result ≡ every (λ k. is_line text.now (start + 17 * k)) n 1 }
 {
-    let mut k = 0;
-    while k < n {
+    for k in 0..n {
         if !is_line(text, start + 17 * (1 + k)) {
             return false;
         }
-        k += 1;
     }
     true
 }
@@ -86,11 +77,8 @@ pub fn fill_values(text: &[u8], start: usize, to: &mut [f64])
     requires { (start ≤ 8) × (length to.old ≤ 4096) }
     ensures { to.new ≡ table (length to.old) (λ j. of_bits binary64 (word_at text.now (start + 17 * (1 + j)))) }
 {
-    let n = to.len();
-    let mut k = 0;
-    while k < n {
-        to[k] = sheet_bits::float_of(word_at(text, start + 17 * (1 + k)));
-        k += 1;
+    for (k, x) in to.iter_mut().enumerate() {
+        *x = sheet_bits::float_of(word_at(text, start + 17 * (1 + k)));
     }
 }
 
@@ -99,13 +87,11 @@ fn all_numerals(text: &[u8], n: usize) -> bool
     requires { n ≤ 64 }
     ensures { result ≡ every (is_numeral text.now) n 8 }
 {
-    let mut k = 0;
-    while k < n {
+    for k in 0..n {
         let b = byte_at(text, 8 + k);
         if !(is_decimal(b) | (b == 32)) {
             return false;
         }
-        k += 1;
     }
     true
 }

@@ -1,7 +1,7 @@
 -- Words whose exponent is not all ones: no NaN and no infinity is among them.
-use Rattle.std.specs.Prelude.{ℕ, zero, suc, ◌+◌, ◌-◌, ◌*◌, ◌%◌, ◌^◌, ◌≤◌, ◌<◌, List, Bool, true, false, not, ◌≡◌, refl, T, ltb, eqb, Float}
-use Rattle.std.proofs.Common.{true≢false, sym, ap, ◌∙◌, arith, le-ltb, lt-ltb, ltb-true, ltb-false, eqb-true}
-use Rattle.std.specs.Int.Bits.{bit_or, bit_and, or_add_and}
+use Rattle.std.specs.Prelude.{ℕ, ◌+◌, ◌*◌, ◌%◌, ◌≤◌, ◌<◌, List, true, false, not, ◌≡◌, refl, T, eqb, Float}
+use Rattle.std.proofs.Common.{true≢false, sym, ◌∙◌, arith, le-ltb, lt-ltb, eqb-true}
+use Rattle.std.specs.Int.Bits.{bit_or, or_add_and}
 use Rattle.std.proofs.lemmas.Nat.{and_le_l, and_le_r}
 use Rattle.std.specs.Float.{nan, inf, fin, binary32, binary64}
 use Rattle.std.specs.Float.Ieee.{nan_bits, is_nan, of_bits}

@@ -1,46 +1,35 @@
 -- Bytes of words, and the loops over them.
-use Prim.Native.Nat.{ℕ, zero, suc, ◌+◌, ◌-◌, ◌*◌, ◌/◌, ◌%◌, ◌^◌, ◌≤◌, ◌<◌}
-use Rattle.std.specs.Prelude.{List, [], ◌∷◌, ◌++◌, Bool, true, false, ◌&&◌, ◌≡◌, refl, leb, eqb, length, get_or, take, drop, set, Float}
+use Prim.Native.Nat.{ℕ, zero, suc, ◌+◌, ◌*◌, ◌/◌, ◌%◌, ◌^◌, ◌≤◌, ◌<◌}
+use Rattle.std.specs.Prelude.{List, [], ◌∷◌, ◌++◌, ◌≡◌, refl, eqb, length, get_or, take, Float}
 use Rattle.std.proofs.Common.{append_assoc, append-nil, ◌∙◌, add-one, mul_comm, length-append, take-suc, take_all}
 use Rattle.std.proofs.Common.{length-take-le, shr-shr, shl_exact, pow-add, eq-eqb, ne_eqb}
 use Rattle.std.proofs.Math.Path.{sym, ap}
 use native.Mathlib.Omega.{arith}
-use Rattle.std.proofs.Math.ListN.{drop_of_length-le}
-use Rattle.std.proofs.Math.Seq.{drop-cons}
 use Rattle.std.specs.Float.{nan, binary64}
 use Rattle.std.specs.Float.Ieee.{to_bits}
 use Rattle.std.proofs.Math.Arith.{digits_lt}
+use Rattle.std.specs.Int.{to_le_bytes, w64}
 use Rattle.std.specs.Int.Bits.{bit_or, or_shifted_r}
+use Rattle.std.specs.Cmp.Lexicographic.{pointwise}
+use Rattle.std.proofs.Common.{eqb-true}
+use Rattle.std.proofs.lemmas.Bool.{eqb-false}
+use Rattle.lists.specs.Test.{decide}
 use Rattle.lists.specs.Table.{table}
 use Rattle.npy_files.specs.Frame.{byte_at, little, starts_with}
 use Rattle.npy_files.specs.Writes.{low_bytes, data_out}
-use Rattle.sheet_text.specs.Put.{Put, put-none, put-more, put_then, put-len}
+use Rattle.sheet_text.specs.Put.{Put, put-none, put_then}
 
--- ---- the opening bytes: what is left of them after k
+-- ---- the opening bytes
 
-module _ (w t : List ℕ) where
-  abbrev pub LeftWith : ℕ → Type 0
-  LeftWith k = starts_with w t ≡ starts_with (drop k w) (drop k t)
+eqb_swap : (a b : ℕ) → eqb a b ≡ eqb b a
+eqb_swap a b = decide (eqb a b) (λ e. e ∙ sym (eq-eqb b a (sym (eqb-true a b e)))) (λ e. e ∙ sym (ne_eqb b a (λ f. eqb-false a b e (sym f))))
 
-  module _ (k : ℕ) (h : k < length w) where
-    pub starts-short : LeftWith k → length t ≤ k → false ≡ starts_with w t
-    unfolding starts_with
-    starts-short e l = sym (e ∙ rw (drop-cons w k 0 h, drop_of_length-le t l))
-
-    module _ (l : k < length t) where
-      starts-at : starts_with (drop k w) (drop k t) ≡ (eqb (get_or t k 0) (get_or w k 0) && starts_with (drop (suc k) w) (drop (suc k) t))
-      unfolding starts_with
-      starts-at = rw (drop-cons w k 0 h, drop-cons t k 0 l)
-
-      pub starts_other : LeftWith k → (get_or t k 0 ≡ get_or w k 0 → ⊥) → false ≡ starts_with w t
-      starts_other e n = sym (e ∙ starts-at ∙ rw (ne_eqb (get_or t k 0) (get_or w k 0) n))
-
-      pub starts_more : LeftWith k → get_or t k 0 ≡ get_or w k 0 → LeftWith (k + 1)
-      starts_more e n = rw (add-one k) (e ∙ starts-at ∙ rw (eq-eqb (get_or t k 0) (get_or w k 0) n))
-
-  pub starts_end : (k : ℕ) → length w ≤ k → LeftWith k → true ≡ starts_with w t
-  unfolding starts_with
-  starts_end k l e = sym (e ∙ rw (drop_of_length-le w l))
+-- the test of the library
+pub starts-pointwise : (w t : List ℕ) → pointwise eqb w (take (length w) t) ≡ starts_with w t
+unfolding starts_with
+starts-pointwise [] t = refl
+starts-pointwise (x ∷ w) [] = refl
+starts-pointwise (x ∷ w) (b ∷ t) = rw (eqb_swap x b, starts-pointwise w t)
 
 -- ---- numbers
 
@@ -112,6 +101,11 @@ pub low-table : (n w : ℕ) → table n (byte_low w) ≡ low_bytes n w
 unfolding low_bytes table
 low-table zero w = refl
 low-table (suc n) w = ap (λ (l : List ℕ). l ++ (byte_low w n ∷ [])) (low-table n w) ∙ sym (low_snoc n w)
+
+-- as the library has them
+pub le-low : (w : ℕ) → to_le_bytes w64 w ≡ low_bytes 8 w
+unfolding table
+le-low w = let e : w / 1 ≡ w = omega arith in rw e at (low-table 8 w)
 
 pub length-low : (n w : ℕ) → length (low_bytes n w) ≡ n
 unfolding low_bytes

@@ -9,27 +9,17 @@ ghost use Rattle.npy_grammar.specs.Text.{eight, four};
 ghost use Rattle.npy_files.specs.Frame.{little, starts_with};
 ghost use Rattle.npy_files.specs.Values.{value_at};
 ghost use Rattle.npy_files.specs.Writes.{low_bytes, data_out};
-ghost use Rattle.npy_bytes.specs.Words.{byte_low};
 ghost use Rattle.npy_bytes.specs.Plain.{Plain};
 ghost use Rattle.sheet_text.specs.Put.{Put};
 
 use sheet_bits::{float_of, word_of};
+use sheet_text::print::put_bytes;
 
 // Whether a file starts with these bytes.
 pub fn starts_with(file: &[u8], word: &[u8]) -> bool
     ensures { result ≡ starts_with word.now file.now }
 {
-    let mut k = 0;
-    while k < word.len() {
-        if file.len() <= k {
-            return false;
-        }
-        if file[k] != word[k] {
-            return false;
-        }
-        k += 1;
-    }
-    true
+    file.starts_with(word)
 }
 
 fn wide(b: u8) -> u64
@@ -85,10 +75,8 @@ fn is_plain(file: &[u8], at: usize, n: usize) -> bool
     ensures { result ≡ true → Plain file.now at n }
 {
     let mut seen: u64 = 0;
-    let mut k = 0;
-    while k < n {
-        seen = seen | (little_8(file, at + 8 * k) % 9223372036854775808 + 4503599627370496);
-        k += 1;
+    for k in 0..n {
+        seen |= little_8(file, at + 8 * k) % 9223372036854775808 + 4503599627370496;
     }
     seen < 9223372036854775808
 }
@@ -99,11 +87,8 @@ fn take_words(file: &[u8], at: usize, out: &mut [f64])
     requires fact_2 { Plain file.now at (length out.old) }
     ensures { out.new ≡ table (length out.old) (value_at eight file.now at) }
 {
-    let n = out.len();
-    let mut k = 0;
-    while k < n {
-        out[k] = f64::from_bits(little_8(file, at + 8 * k));
-        k += 1;
+    for (k, x) in out.iter_mut().enumerate() {
+        *x = f64::from_bits(little_8(file, at + 8 * k));
     }
 }
 
@@ -112,11 +97,8 @@ fn judge_words(file: &[u8], at: usize, out: &mut [f64])
     requires { at + 8 * length out.old ≤ length file.now }
     ensures { out.new ≡ table (length out.old) (value_at eight file.now at) }
 {
-    let n = out.len();
-    let mut k = 0;
-    while k < n {
-        out[k] = float_of(little_8(file, at + 8 * k));
-        k += 1;
+    for (k, x) in out.iter_mut().enumerate() {
+        *x = float_of(little_8(file, at + 8 * k));
     }
 }
 
@@ -148,33 +130,9 @@ pub fn fill_4(file: &[u8], at: usize, out: &mut [f64])
     requires { at + 4 * length out.old ≤ length file.now }
     ensures { out.new ≡ table (length out.old) (value_at four file.now at) }
 {
-    let n = out.len();
-    let mut k = 0;
-    while k < n {
-        out[k] = float_of_4(little_4(file, at + 4 * k));
-        k += 1;
+    for (k, x) in out.iter_mut().enumerate() {
+        *x = float_of_4(little_4(file, at + 4 * k));
     }
-}
-
-// Byte number k of a word, the lowest first.
-fn byte_of(word: u64, k: u64) -> u8
-    requires { k < 8 }
-    ensures { result ≡ byte_low word k }
-{
-    ((word >> (8 * k)) % 256) as u8
-}
-
-// The eight bytes of a word; answers the place behind them.
-fn put_eight(word: u64, at: usize, to: &mut [u8]) -> usize
-    requires { at + 8 ≤ length to.old }
-    ensures { Put at (low_bytes 8 word) to.old to.new result }
-{
-    let mut k = 0;
-    while k < 8 {
-        to[at + k] = byte_of(word, k as u64);
-        k += 1;
-    }
-    at + k
 }
 
 // The bytes of floats; answers the place behind them.
@@ -183,10 +141,8 @@ pub fn put_data(xs: &[f64], at: usize, to: &mut [u8]) -> usize
     ensures { Put at (data_out xs.now) to.old to.new result }
 {
     let mut next = at;
-    let mut k = 0;
-    while k < xs.len() {
-        next = put_eight(word_of(xs[k]), next, to);
-        k += 1;
+    for x in xs {
+        next = put_bytes(&word_of(*x).to_le_bytes(), next, to);
     }
     next
 }

@@ -1,14 +1,13 @@
 -- Values of a file that lie some values apart; and the rows of a block in column order.
-use Rattle.std.specs.Prelude.{ℕ, ◌+◌, ◌-◌, ◌*◌, ◌≤◌, ◌<◌, List, [], ◌∷◌, ◌++◌, Bool, true, false, cond, ◌≡◌, refl, eqb, length, drop, set, Float}
+use Rattle.std.specs.Prelude.{ℕ, ◌+◌, ◌*◌, ◌≤◌, ◌<◌, List, cond, ◌≡◌, eqb, length, set, Float}
 use Rattle.std.proofs.Common.{sym, ◌∙◌, subst, arith, mul-add, mul-one, mul_assoc, mul-zero, mul-le-mul, mul-le-mul_left, ne_eqb}
 use Rattle.std.proofs.Math.Path.{ap}
-use Rattle.lists.specs.Four.{at, four}
+use Rattle.lists.specs.Four.{at}
 use Rattle.lists.specs.Table.{table, table_same, Filled, filled_none, filled_more}
 use Rattle.lists.specs.Fill.{filled-all}
 use Rattle.model.specs.Header.{count}
-use Rattle.model.specs.Places.{place, index}
-use Rattle.shape_words.specs.Lengths.{Lengths, Sizes, Inside, RowAt, count-is, sizes-of, count_most}
-use Rattle.blocks.specs.Rows.{AtRow, at_row, row_fits, along_row, index-row}
+use Rattle.shape_words.specs.Lengths.{Lengths, Inside, RowAt, sizes-of, count_most}
+use Rattle.blocks.specs.Rows.{at_row, along_row, index-row}
 use Rattle.blocks.specs.ByRow.{ByRow}
 use Rattle.npy_grammar.specs.Text as text
 use Rattle.npy_grammar.specs.Text.{Width, Order, rows, columns}

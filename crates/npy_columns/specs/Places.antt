@@ -1,15 +1,15 @@
 -- The rearrangement between rows and columns: a bijection of places, and its own inverse on the transposed lengths; and
 -- a last length of 1 may as well stand first.
-use Prim.Native.Nat.{ℕ, ◌+◌, ◌*◌, ◌/◌, ◌%◌, ◌≤◌, ◌<◌}
+use Prim.Native.Nat.{ℕ, ◌+◌, ◌*◌, ◌/◌, ◌%◌, ◌<◌}
 use mathlib.Core.List.{List, [], ◌∷◌}
-use Rattle.std.specs.Prelude.{◌≡◌, refl, length}
+use Rattle.std.specs.Prelude.{◌≡◌, refl}
 use Rattle.std.proofs.Math.Path.{sym, ap}
-use Rattle.std.proofs.Common.{ap₂, ◌∙◌, subst, arith, add_comm, add-zero, mul_comm, mul_assoc, mul-zero, mul-one, one-mul}
+use Rattle.std.proofs.Common.{ap₂, ◌∙◌, arith, add_comm, add-zero, mul_comm, mul_assoc, mul-zero, mul-one, one-mul}
 use Rattle.std.proofs.Math.Nat.{div-one, mod-one, div-eq_of_lt, mod-eq_of_lt}
-use Rattle.lists.specs.Four.{at, four}
+use Rattle.lists.specs.Four.{at}
 use Rattle.model.specs.Header.{count}
 use Rattle.model.specs.Places.{place, index}
-use Rattle.shape_words.specs.Lengths.{Lengths, Sizes, Inside, count-is, sizes-of}
+use Rattle.shape_words.specs.Lengths.{Lengths, Inside, count-is}
 use Rattle.shape_words.specs.Places.{horner, place-lt, index-inside, index-place, place-index}
 use Rattle.npy_grammar.specs.Text.{columns}
 use Rattle.npy_files.specs.Values.{column_place, file_place}

@@ -1,12 +1,11 @@
 // Values of an array file in either order (document 02, W2 and W12), at the places of a polynomial: last index fastest.
 #![tactic(auto)]
 
-ghost use Rattle.std.specs.Prelude.{◌≡◌, length};
+ghost use Rattle.std.specs.Prelude.{◌≡◌, ◌+◌, ◌*◌, ◌≤◌, length};
 ghost use Rattle.lists.specs.Table.{table};
 ghost use Rattle.model.specs.Header.{count};
 ghost use Rattle.shape_words.specs.Lengths.{Lengths, Inside};
-ghost use Rattle.npy_grammar.specs.Text.{eight, four};
-ghost use Rattle.npy_files.specs.Values.{column_place};
+ghost use Rattle.npy_files.specs.Values.{bytes_of, value_at, column_place};
 ghost use Rattle.npy_columns.specs.Places.{SamePlaces};
 ghost use Rattle.npy_columns.specs.Lines.{width_of, order_of, line_of, Along, ColumnsFit, columns_of, values_of};
 
@@ -14,45 +13,27 @@ use npy_bytes::{fill, fill_4, float_of_4, little_4, little_8};
 use shape_words::places::{next_row, place_of};
 use sheet_bits::float_of;
 
-// f64s `step` values apart, from value number `from` on.
-fn line_8(file: &[u8], at: usize, from: usize, step: usize, out: &mut [f64])
-    requires { Along eight at from step (length out.old) (length file.now) }
-    ensures { out.new ≡ table (length out.old) (line_of eight file.now at from step) }
+// Value number v behind the place `at`, of WIDTH bytes.
+fn value<const WIDTH: usize>(file: &[u8], at: usize, v: usize) -> f64
+    requires { at + bytes_of (width_of WIDTH) * v + bytes_of (width_of WIDTH) ≤ length file.now }
+    ensures { result ≡ value_at (width_of WIDTH) file.now at v }
 {
-    let n = out.len();
-    let mut v = from;
-    let mut k = 0;
-    while k < n {
-        out[k] = float_of(little_8(file, at + 8 * v));
-        v += step;
-        k += 1;
-    }
-}
-
-// The same of f32s.
-fn line_4(file: &[u8], at: usize, from: usize, step: usize, out: &mut [f64])
-    requires { Along four at from step (length out.old) (length file.now) }
-    ensures { out.new ≡ table (length out.old) (line_of four file.now at from step) }
-{
-    let n = out.len();
-    let mut v = from;
-    let mut k = 0;
-    while k < n {
-        out[k] = float_of_4(little_4(file, at + 4 * v));
-        v += step;
-        k += 1;
-    }
-}
-
-// Values of `width` bytes.
-fn line(width: usize, file: &[u8], at: usize, from: usize, step: usize, out: &mut [f64])
-    requires { Along (width_of width) at from step (length out.old) (length file.now) }
-    ensures { out.new ≡ table (length out.old) (line_of (width_of width) file.now at from step) }
-{
-    if width == 4 {
-        line_4(file, at, from, step, out);
+    if WIDTH == 4 {
+        float_of_4(little_4(file, at + 4 * v))
     } else {
-        line_8(file, at, from, step, out);
+        float_of(little_8(file, at + 8 * v))
+    }
+}
+
+// Values `step` values apart, from value number `from` on.
+fn line<const WIDTH: usize>(file: &[u8], at: usize, from: usize, step: usize, out: &mut [f64])
+    requires { Along (width_of WIDTH) at from step (length out.old) (length file.now) }
+    ensures { out.new ≡ table (length out.old) (line_of (width_of WIDTH) file.now at from step) }
+{
+    let mut v = from;
+    for x in out.iter_mut() {
+        *x = value::<WIDTH>(file, at, v);
+        v += step;
     }
 }
 
@@ -66,10 +47,10 @@ fn column_of(n: [usize; 4], i: [usize; 4]) -> usize
 }
 
 // Row by row, each from a running index.
-fn rows(width: usize, file: &[u8], at: usize, n: [usize; 4], out: &mut [f64])
+fn rows<const WIDTH: usize>(file: &[u8], at: usize, n: [usize; 4], out: &mut [f64])
     requires fact_1 { Lengths n }
-    requires fact_2 { ColumnsFit (width_of width) at (count n) (length file.now) (length out.old) }
-    ensures { out.new ≡ table (count n) (columns_of (width_of width) file.now at n) }
+    requires fact_2 { ColumnsFit (width_of WIDTH) at (count n) (length file.now) (length out.old) }
+    ensures { out.new ≡ table (count n) (columns_of (width_of WIDTH) file.now at n) }
 {
     let long = n[3];
     let step = n[0] * n[1] * n[2];
@@ -77,7 +58,7 @@ fn rows(width: usize, file: &[u8], at: usize, n: [usize; 4], out: &mut [f64])
     let mut i = [0usize; 4];
     while p < out.len() {
         let from = column_of(n, i);
-        line(width, file, at, from, step, &mut out[p..p + long]);
+        line::<WIDTH>(file, at, from, step, &mut out[p..p + long]);
         p += long;
         let next = next_row(n, i);
         i = next;
@@ -95,16 +76,16 @@ fn roll(n: [usize; 4]) -> [usize; 4]
     [1, n[0], n[1], n[2]]
 }
 
-// All values of a file in column order, of `width` bytes each.
-fn fill_columns(width: usize, file: &[u8], at: usize, n: [usize; 4], out: &mut [f64])
+// All values of a file in column order, of WIDTH bytes each.
+fn fill_columns<const WIDTH: usize>(file: &[u8], at: usize, n: [usize; 4], out: &mut [f64])
     requires fact_1 { Lengths n }
-    requires fact_2 { ColumnsFit (width_of width) at (count n) (length file.now) (length out.old) }
-    ensures { out.new ≡ table (count n) (columns_of (width_of width) file.now at n) }
+    requires fact_2 { ColumnsFit (width_of WIDTH) at (count n) (length file.now) (length out.old) }
+    ensures { out.new ≡ table (count n) (columns_of (width_of WIDTH) file.now at n) }
 {
     let a = roll(n);
     let b = roll(a);
     let c = roll(b);
-    rows(width, file, at, c, out);
+    rows::<WIDTH>(file, at, c, out);
 }
 
 // All values of a file, of `width` bytes each; columns where `order` is 2.
@@ -114,7 +95,11 @@ pub fn fill_as(width: usize, order: usize, file: &[u8], at: usize, n: [usize; 4]
     ensures { out.new ≡ table (count n) (values_of (width_of width) (order_of order) file.now at n) }
 {
     if order == 2 {
-        fill_columns(width, file, at, n, out);
+        if width == 4 {
+            fill_columns::<4>(file, at, n, out);
+        } else {
+            fill_columns::<8>(file, at, n, out);
+        }
         return;
     }
     if width == 4 {

@@ -1,3 +1,4 @@
+pub mod Results
 pub mod Frame
 pub mod Shapes
 pub mod Values

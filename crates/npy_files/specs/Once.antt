@@ -3,7 +3,7 @@ use Rattle.std.specs.Prelude.{ℕ, ◌<◌, ◌≤◌, List, [], ◌∷◌, ◌+
 use Rattle.std.proofs.Math.Path.{sym, ap}
 use Rattle.std.proofs.Common.{◌∙◌, subst, arith}
 use Rattle.lists.specs.Test.{and_left, and_right, decide}
-use Rattle.model.specs.declared.Answer.{Answer}
+use Rattle.model.specs.Results.{Answer}
 use Rattle.npy_grammar.specs.Text.{Values}
 use Rattle.npy_grammar.specs.Reading.{cap}
 use Rattle.npy_grammar.specs.Headers.{Same, header-one}

@@ -1,6 +1,6 @@
 -- Document 02, W2 and W12: writing. One layout a version, 128 bytes before the data, the bytes that NumPy writes;
 -- refusals 1, 2, then 5 for a short byte buffer.
-use Rattle.std.specs.Prelude.{ℕ, zero, suc, ◌+◌, ◌-◌, ◌*◌, ◌/◌, ◌%◌, List, [], ◌∷◌, ◌++◌, Bool, cond, leb, length, take, Float}
+use Rattle.std.specs.Prelude.{Ok, Err, ℕ, zero, suc, ◌+◌, ◌-◌, ◌*◌, ◌/◌, ◌%◌, List, [], ◌∷◌, ◌++◌, Bool, cond, leb, length, take, Float}
 use Rattle.std.specs.Float.Ieee.{to_bits}
 use Rattle.std.specs.Float.{binary64}
 use Rattle.lists.specs.Bytes.{bytes}
@@ -12,8 +12,7 @@ use Rattle.model.specs.Word.{header_of}
 use Rattle.model.specs.Refusals.{ask, is_none, no_refusal}
 use Rattle.model.specs.Gates.{ask_word, full}
 use Rattle.model_texts.specs.Printed.{decimal}
-use Rattle.npy_files.specs.declared.Written.{Written}
-use Rattle.npy_files.specs.declared.Written.TheVariants.{Done, Refused}
+use Rattle.npy_files.specs.Results.{Written}
 use Rattle.npy_files.specs.Frame.{opening}
 use Rattle.npy_files.specs.Shapes.{shape_of}
 
@@ -86,7 +85,7 @@ write_gate w m n = ask_word w (ask (full w m) 2 (ask (leb (file_length w) n) 5 n
 unfoldable pub write_answer : ℕ → List Float → List ℕ → Written
 write_answer w a old =
     let r = write_gate w (length a) (length old) in
-    cond (is_none r) (Done (file_length w)) (Refused r)
+    cond (is_none r) (Ok (file_length w)) (Err r)
 
 unfoldable pub write_file : Bool → ℕ → List Float → List ℕ → List ℕ
 write_file newer w a old =

@@ -1,5 +1,5 @@
-// Reading the header text of an array file (document 02, W2 and W12) by a place that moves on; the end of the text
-// where a piece does not stand.
+// Reading the header text of an array file (document 02, W2 and W12) by a place that moves on. Where a piece does
+// not stand this is the text's end, and no None: the definitions of npy_grammar leave nothing there, and go on.
 #![tactic(auto)]
 
 ghost use Rattle.std.specs.Prelude.{◌≡◌, List, [], ◌∷◌, ◌++◌, ℕ, ◌≤◌, length, drop};
@@ -63,10 +63,9 @@ fn more_numbers(text: &[u8], at: usize, s: Shape) -> Listed
     requires { at ≤ length text.now }
     ensures { MoreListed text.now at s result }
 {
-    let mut turn = 0;
     let mut p = at;
     let mut held = s;
-    while turn < text.len() {
+    for _ in 0..text.len() {
         let q = skip(text, p, 0);
         if byte_at(text, q) != 44 {
             let v = held.vars;
@@ -90,7 +89,6 @@ fn more_numbers(text: &[u8], at: usize, s: Shape) -> Listed
         }
         held = push(held, number_at(text, b));
         p = past_number(text, b);
-        turn += 1;
     }
     Listed {
         at: text.len(),
@@ -115,7 +113,8 @@ fn tuple(text: &[u8], at: usize) -> Listed
 }
 
 // What was seen of a header, up to the place `at`: the bytes of a value, 1 for rows and 2 for columns, 1 where the
-// shape was given; 0 for what was not.
+// shape was given; 0 for what was not, as `Seen` of npy_grammar has it: an Option would be turned into that number
+// wherever it is read.
 #[derive(Clone, Copy)]
 pub struct Cursor {
     pub at: usize,
@@ -125,7 +124,8 @@ pub struct Cursor {
     pub shape: Shape,
 }
 
-// Whether a header is right, and what it says.
+// Whether a header is right, and what it says. The flag stands beside the values: the contract of `read_header`
+// names it.
 #[derive(Clone, Copy)]
 pub struct Found {
     pub right: bool,
@@ -198,23 +198,16 @@ fn read_descr(text: &[u8], c: Cursor, at: usize) -> Cursor
     requires { at ≤ length text.now }
     ensures { CursorRead text.now c result (λ s. read_descr s (drop at text.now)) }
 {
-    let shape = c.shape;
-    let w = c.width;
-    if w != 0 {
+    if c.width != 0 {
         return Cursor {
             at: text.len(),
-            width: w,
-            order: c.order,
-            given: c.given,
-            shape,
+            ..c
         };
     }
     Cursor {
         at: past_width(text, at),
         width: width_at(text, at),
-        order: c.order,
-        given: c.given,
-        shape,
+        ..c
     }
 }
 
@@ -222,23 +215,16 @@ fn read_order(text: &[u8], c: Cursor, at: usize) -> Cursor
     requires { at ≤ length text.now }
     ensures { CursorRead text.now c result (λ s. read_order s (drop at text.now)) }
 {
-    let shape = c.shape;
-    let o = c.order;
-    if o != 0 {
+    if c.order != 0 {
         return Cursor {
             at: text.len(),
-            width: c.width,
-            order: o,
-            given: c.given,
-            shape,
+            ..c
         };
     }
     Cursor {
         at: past_order(text, at),
-        width: c.width,
         order: order_at(text, at),
-        given: c.given,
-        shape,
+        ..c
     }
 }
 
@@ -246,25 +232,18 @@ fn read_shape(text: &[u8], c: Cursor, at: usize) -> Cursor
     requires { at ≤ length text.now }
     ensures { CursorRead text.now c result (λ s. read_shape (length text.now) s (drop at text.now)) }
 {
-    let shape = c.shape;
-    let g = c.given;
-    if g != 0 {
+    if c.given != 0 {
         return Cursor {
             at: text.len(),
-            width: c.width,
-            order: c.order,
-            given: g,
-            shape,
+            ..c
         };
     }
     let l = tuple(text, at);
-    let listed = l.shape;
     Cursor {
         at: l.at,
-        width: c.width,
-        order: c.order,
         given: 1,
-        shape: listed,
+        shape: l.shape,
+        ..c
     }
 }
 
@@ -288,19 +267,14 @@ fn read_item(text: &[u8], c: Cursor) -> Cursor
     requires { c.at ≤ length text.now }
     ensures { ItemRead text.now c result }
 {
-    let shape = c.shape;
-    let at = c.at;
-    let p = skip(text, at, 0);
+    let p = skip(text, c.at, 0);
     let q = byte_at(text, p);
     if is_quote(q) {
         return read_key(text, c, eat_byte(text, p, q), q);
     }
     Cursor {
         at: text.len(),
-        width: c.width,
-        order: c.order,
-        given: c.given,
-        shape,
+        ..c
     }
 }
 
@@ -309,14 +283,9 @@ fn comma_past(text: &[u8], c: Cursor) -> Cursor
     requires { c.at ≤ length text.now }
     ensures { CommaRead text.now c result }
 {
-    let shape = c.shape;
-    let at = c.at;
     Cursor {
-        at: eat_byte(text, skip(text, at, 0), 44),
-        width: c.width,
-        order: c.order,
-        given: c.given,
-        shape,
+        at: eat_byte(text, skip(text, c.at, 0), 44),
+        ..c
     }
 }
 
@@ -354,13 +323,11 @@ pub fn read_header(text: &[u8]) -> Found
     let a = read_item(text, start);
     let b = read_item(text, comma_past(text, a));
     let c = read_item(text, comma_past(text, b));
-    let shape = c.shape;
-    let at = c.at;
-    let e = skip(text, past_close(text, at), 2);
+    let e = skip(text, past_close(text, c.at), 2);
     Found {
         right: is_last(text, e),
         width: c.width,
         order: c.order,
-        shape,
+        shape: c.shape,
     }
 }

@@ -1,6 +1,7 @@
 -- What was written is read back: the same lengths and the same floats. A NaN comes back as a NaN: in the logic all NaNs
 -- are one value.
-use Rattle.std.specs.Prelude.{ℕ, zero, suc, ◌+◌, ◌-◌, ◌*◌, ◌/◌, ◌%◌, ◌^◌, ◌≤◌, ◌<◌, Bool, true, false, ◌&&◌, ◌||◌, ◌≡◌, refl, T, leb, eqb, get_or, take, Float}
+use Rattle.std.specs.Prelude.{Ok, ℕ, zero, suc, ◌+◌, ◌-◌, ◌*◌, ◌/◌, ◌%◌, ◌^◌, ◌≤◌, ◌<◌}
+use Rattle.std.specs.Prelude.{Bool, true, false, ◌&&◌, ◌||◌, ◌≡◌, refl, T, leb, eqb, get_or, take, Float}
 use mathlib.Core.List.{List, [], ◌∷◌, ◌++◌, append_assoc, append-nil}
 use Rattle.std.proofs.Math.Path.{sym, ap₂, subst}
 use Rattle.std.proofs.Common.{ap, ◌∙◌, pow-suc}
@@ -12,7 +13,6 @@ use borrow.Author.Tests.{leb-true, le-leb, eq-eqb}
 use Rattle.lists.specs.Bytes.{bytes}
 use Rattle.lists.specs.Table.{table, length-table, table_same, table-all}
 use Rattle.lists.specs.Test.{and_left, and_right}
-use Rattle.model.specs.declared.Answer.TheVariants.{Done}
 use Rattle.model.specs.Word.{word_of}
 use Rattle.model_texts.specs.Printed.{decimal}
 use Rattle.sheet_text.specs.Decimal.{decimal-most}
@@ -145,9 +145,9 @@ module _ (s : List ℕ) (good : good_shape s ≡ true) where
 
       -- the header of the shape, and every float again
       pub read_back : all_fit xs → (old : List Float) → length xs ≤ length old
-          → Reading (file_out newer s xs) old (Done (word_of (head_of s))) (xs ++ drop (length xs) old)
+          → Reading (file_out newer s xs) old (Ok (word_of (head_of s))) (xs ++ drop (length xs) old)
       unfolding all_fit format_of
       read_back f old l =
-          subst (λ (t : List ℕ). Reading t old (Done (word_of (head_of s))) (xs ++ drop (length xs) old)) form-is
+          subst (λ (t : List ℕ). Reading t old (Ok (word_of (head_of s))) (xs ++ drop (length xs) old)) form-is
           (any_form newer head (record { width = eight; order = rows; shape = s }) (written-right s (good-range s good) (head_bytes newer))
           (subst (λ (n : ℕ). n < 256 ^ length_bytes newer) (sym long-head) enough.1) good xs xs long (in_rows (lengths_of s) xs) f old l)

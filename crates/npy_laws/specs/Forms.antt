@@ -2,7 +2,7 @@
 -- header, f64s or, where the values are f32's, f32s, rows or columns.
 use Prim.Native.Nat.{ℕ, zero, suc, ◌+◌, ◌-◌, ◌*◌, ◌/◌, ◌%◌, ◌^◌, ◌≤◌, ◌<◌}
 use mathlib.Core.List.{List, [], ◌∷◌, ◌++◌, append_assoc}
-use Rattle.std.specs.Prelude.{Bool, false, ◌||◌, ◌≡◌, T, leb, eqb, take, Float}
+use Rattle.std.specs.Prelude.{Ok, Bool, false, ◌||◌, ◌≡◌, T, leb, eqb, take, Float}
 use Rattle.std.proofs.Math.Bool.{true}
 use Rattle.std.proofs.Math.Path.{refl, sym, ap, subst}
 use Rattle.std.proofs.Common.{ap₂, ◌∙◌, pow-suc, add_comm, drop_at, get_or-append-add}
@@ -15,8 +15,7 @@ use Rattle.std.specs.Float.Ieee.{nan, of_bits, to_bits, fits}
 use Rattle.std.specs.Float.Ieee.Bits.{of_bits-to_bits, to_bits-lt}
 use borrow.Author.Tests.{le-leb, eq-eqb}
 use Rattle.lists.specs.Table.{table, table_same, table-all}
-use Rattle.model.specs.declared.Answer.{Answer}
-use Rattle.model.specs.declared.Answer.TheVariants.{Done}
+use Rattle.model.specs.Results.{Answer}
 use Rattle.model.specs.Header.{count}
 use Rattle.model.specs.Word.{word_of}
 use Rattle.shape_words.specs.Lengths.{Lengths, lengths_of_lem}
@@ -229,7 +228,7 @@ module _ (newer : Bool) (h : List ℕ) (v : Values) (right : Right h v) (short :
       value_at_lem (file_place v.order (lengths_of v.shape) p) (omega (arith, b, many, order.many)) ∙ order.each p l
 
   -- the header of the shape, and every coefficient
-  pub any_form : (old : List Float) → length xs ≤ length old → Reading t old (Done (word_of (head_of v.shape))) (xs ++ drop (length xs) old)
+  pub any_form : (old : List Float) → length xs ≤ length old → Reading t old (Ok (word_of (head_of v.shape))) (xs ++ drop (length xs) old)
   unfolding is_room data_fits
   any_form old l =
       let room : is_room v (length old) ≡ true = rw (good, le-leb (product v.shape) (length old) (omega (arith, l, many))) in
@@ -238,11 +237,11 @@ module _ (newer : Bool) (h : List ℕ) (v : Values) (right : Right h v) (short :
       let same : table (product v.shape) (file_value t v) ≡ xs =
       ap (λ (n : ℕ). table n (file_value t v)) (sym many) ∙ (table_same (file_value t v) (λ k. get_or xs k nan) (length xs) file_value_lem ∙
       table-all nan xs) in
-      subst (λ (z : List Float). Reading t old (Done (word_of (head_of v.shape))) z)
+      subst (λ (z : List Float). Reading t old (Ok (word_of (head_of v.shape))) z)
       (ap₂ (λ (a : List Float) (n : ℕ). a ++ drop n old) same (sym many))
       (Reading.done v form-says room all)
 
   -- and nothing else: whatever the form, the same word and the same coefficients
   pub form-reads : {old x : List Float} {a : Answer} → length xs ≤ length old → Reading t old a x
-      → (a ≡ Done (word_of (head_of v.shape))) × (x ≡ xs ++ drop (length xs) old)
+      → (a ≡ Ok (word_of (head_of v.shape))) × (x ≡ xs ++ drop (length xs) old)
   form-reads {old} l r = reading-once r (any_form old l)

@@ -7,7 +7,7 @@ use Rattle.std.proofs.Common.{sym, ap, ap₂, ◌∙◌, subst, arith, length-ta
 use Rattle.std.proofs.Common.{take_all, leb-true, leb-false, le-leb, ltb-true, ltb-false, ne_eqb}
 use Rattle.std.proofs.lemmas.Bool.{lt-leb}
 use Rattle.lists.specs.Test.{and_left, and_right, decide}
-use Rattle.model.specs.declared.Answer.{Answer}
+use Rattle.model.specs.Results.{Answer}
 use Rattle.npy_grammar.specs.Text.{Width, eight, four, Values, Right}
 use Rattle.npy_files.specs.Frame.{byte_at, little, opening, starts_with, is_version, head_start, head_length, data_start, is_framed, head_text}
 use Rattle.npy_files.specs.Shapes.{all_in_range, product, good_shape}

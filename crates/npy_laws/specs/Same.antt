@@ -1,6 +1,6 @@
 -- Two files whose headers say the same, whatever their blanks, order of keys, quotes and closing commas, and whose data
 -- are the same, read the same; limits are the shape; and every byte of a file that is read is accounted for.
-use Rattle.std.specs.Prelude.{ℕ, zero, suc, ◌+◌, ◌-◌, ◌*◌, ◌≤◌, ◌<◌, List, [], ◌∷◌, ◌++◌, Bool, true, false, ◌&&◌}
+use Rattle.std.specs.Prelude.{Ok, Err, ℕ, zero, suc, ◌+◌, ◌-◌, ◌*◌, ◌≤◌, ◌<◌, List, [], ◌∷◌, ◌++◌, Bool, true, false, ◌&&◌}
 use Rattle.std.specs.Prelude.{◌||◌, ◌≡◌, refl, leb, eqb, length, get_or, take, drop, Float}
 use Rattle.std.proofs.Common.{sym, ap, ap₂, ◌∙◌, subst, arith, length-drop, take-append-drop, get_or-drop, drop-drop, eqb-true, eq-eqb, ne_eqb, leb-true}
 use Rattle.std.specs.Float.Ieee.{of_bits}
@@ -8,8 +8,7 @@ use Rattle.std.specs.Float.{binary32, binary64}
 use Rattle.std.proofs.lemmas.Bool.{eqb-false}
 use Rattle.lists.specs.Table.{table, table_same}
 use Rattle.lists.specs.Test.{and_left, and_right, decide}
-use Rattle.model.specs.declared.Answer.{Answer}
-use Rattle.model.specs.declared.Answer.TheVariants.{Done, Refused}
+use Rattle.model.specs.Results.{Answer}
 use Rattle.model.specs.Refusals.{refused_by}
 use Rattle.model.specs.Word.{word_of}
 use Rattle.npy_grammar.specs.Text.{Width, eight, four, Order, Values, Right}
@@ -111,7 +110,7 @@ pub record Accounted (t : List ℕ) (w : ℕ) : Type 0 where
 
 -- the opening bytes and the length, the header's text, the data of the shape, and nothing behind them; the header
 -- word's limits and lengths are the shape
-pub accounted : {t : List ℕ} {old new : List Float} {w : ℕ} → Reading t old (Done w) new → Accounted t w
+pub accounted : {t : List ℕ} {old new : List Float} {w : ℕ} → Reading t old (Ok w) new → Accounted t w
 accounted {t} (Reading.done v s f g) =
     record {
       values = v;

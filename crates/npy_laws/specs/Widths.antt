@@ -1,6 +1,6 @@
 -- Document 02, W12: an f32 is taken to the f64 of the same value, nothing lost, for every one that is no NaN; and a
 -- header's length that lies past the file is refused, however large.
-use Rattle.std.specs.Prelude.{ℕ, ◌+◌, ◌*◌, ◌^◌, ◌≤◌, ◌<◌, List, Bool, true, false, not, ◌||◌, ◌&&◌, ◌≡◌, refl, T, length, Float}
+use Rattle.std.specs.Prelude.{Err, ℕ, ◌+◌, ◌*◌, ◌^◌, ◌≤◌, ◌<◌, List, Bool, true, false, not, ◌||◌, ◌&&◌, ◌≡◌, refl, T, length, Float}
 use Rattle.std.proofs.Common.{sym, ap, ◌∙◌, arith}
 use Rattle.std.proofs.Math.Dec.{leb}
 use Rattle.std.specs.Float.Ieee.{of_bits, to_bits, fits, is_nan}
@@ -9,8 +9,7 @@ use Rattle.std.specs.Float.Ieee.Bits.{of_bits-fits, of_bits-to_bits, to_bits-of_
 use Rattle.std.specs.Float.Ieee.Fits.{fits_widens}
 use borrow.Author.Tests.{leb-true}
 use Rattle.lists.specs.Test.{and_right}
-use Rattle.model.specs.declared.Answer.{Answer}
-use Rattle.model.specs.declared.Answer.TheVariants.{Refused}
+use Rattle.model.specs.Results.{Answer}
 use Rattle.model.specs.Refusals.{refused_by}
 use Rattle.npy_grammar.specs.Text.{Values}
 use Rattle.npy_files.specs.Frame.{is_version, head_start, data_start, is_framed}
@@ -41,5 +40,5 @@ module _ (t : List ℕ) (past : length t < data_start t) where
       (leb (data_start t) (length t)) s.framed) in
       omega (arith, l, past)
 
-  pub past-refused : {old x : List Float} {a : Answer} → Reading t old a x → (a ≡ Refused (refused_by 10)) × (x ≡ old)
+  pub past-refused : {old x : List Float} {a : Answer} → Reading t old a x → (a ≡ Err (refused_by 10)) × (x ≡ old)
   past-refused r = reading-once r (Reading.other not-said)

@@ -1,5 +1,6 @@
 -- Reading what `write` wrote: the header word's limits and lengths are the stored lengths, and the floats are the same.
-use Rattle.std.specs.Prelude.{ℕ, zero, suc, ◌+◌, ◌*◌, ◌≤◌, ◌<◌, List, [], ◌∷◌, ◌++◌, Bool, true, false, ◌&&◌, ◌≡◌, refl, leb, ltb, length, take, drop, Float}
+use Rattle.std.specs.Prelude.{Ok, ℕ, zero, suc, ◌+◌, ◌*◌, ◌≤◌, ◌<◌, List, [], ◌∷◌, ◌++◌}
+use Rattle.std.specs.Prelude.{Bool, true, false, ◌&&◌, ◌≡◌, refl, leb, ltb, length, take, drop, Float}
 use Rattle.std.proofs.Common.{sym, ◌∙◌, subst, arith, length-take-le, get_or-take, take_at, take_all}
 use Rattle.std.proofs.Math.Path.{ap}
 use Rattle.std.proofs.Math.ListN.{get_or, get_or-eq_default}
@@ -8,7 +9,6 @@ use Rattle.lists.specs.Four.{at, four, each, four_same}
 use Rattle.lists.specs.Grow.{over, take-over}
 use Rattle.lists.specs.Test.{decide}
 use Rattle.model.specs.declared.Header.{Header}
-use Rattle.model.specs.declared.Answer.TheVariants.{Done}
 use Rattle.model.specs.Header.{stored, len, count}
 use Rattle.model.specs.Refusals.{no_refusal}
 use Rattle.model.specs.Word.{header_of, good_word, word_of}
@@ -17,7 +17,6 @@ use Rattle.shape_words.specs.Words.{good_word_lem, unpack-pack}
 use Rattle.npy_files.specs.Shapes.{all_in_range, product, good_shape, lengths_of, head_of, shape_of}
 use Rattle.npy_files.specs.Sizes.{product-count}
 use Rattle.npy_files.specs.Reads.{Reading}
-use Rattle.npy_files.specs.declared.Written.TheVariants as Written
 use Rattle.npy_files.specs.Writes.{file_out, file_length, write_gate, write_answer, write_file}
 use Rattle.npy_reading.specs.Heads.{range_in, shape-regular}
 use Rattle.npy_laws.specs.Back.{all_fit, file-long, read_back}
@@ -98,9 +97,9 @@ module _ (newer : Bool) (w : ℕ) (a : List Float) (file : List ℕ) (good : goo
       (stored (header_of w)) a full)))
 
   pub written_back : all_fit xs → (out : List Float) → length xs ≤ length out
-      → Reading (take (file_length w) (write_file newer w a file)) out (Done (word_of (head_of s))) (xs ++ drop (length xs) out)
+      → Reading (take (file_length w) (write_file newer w a file)) out (Ok (word_of (head_of s))) (xs ++ drop (length xs) out)
   written_back f out l =
-      subst (λ (t : List ℕ). Reading t out (Done (word_of (head_of s))) (xs ++ drop (length xs) out)) (sym written_is)
+      subst (λ (t : List ℕ). Reading t out (Ok (word_of (head_of s))) (xs ++ drop (length xs) out)) (sym written_is)
       (read_back s (shape-good (header_of w) (good_word_lem w good)) newer xs many f out l)
 
   -- whose lengths are those that were written
@@ -110,7 +109,7 @@ module _ (newer : Bool) (w : ℕ) (a : List Float) (file : List ℕ) (good : goo
 
 -- what is written of a word and as many coefficients as it says, into a buffer that is long enough
 pub write_done : (newer : Bool) (w : ℕ) (xs : List Float) (file : List ℕ) → good_word w ≡ true → length xs ≡ stored (header_of w) → file_length w ≤ length file
-    → (write_answer w xs file ≡ Written.Done (file_length w)) × (write_file newer w xs file ≡ over (file_out newer (shape_of (header_of w)) xs) file)
+    → (write_answer w xs file ≡ Ok (file_length w)) × (write_file newer w xs file ≡ over (file_out newer (shape_of (header_of w)) xs) file)
 unfolding write_answer write_file
 write_done newer w xs file good many room =
     let g : write_gate w (length xs) (length file) ≡ no_refusal = open-gate newer w xs file good (omega (arith, many)) room in

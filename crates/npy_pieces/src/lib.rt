@@ -5,7 +5,8 @@ ghost use Rattle.std.specs.Prelude.{◌≡◌, ◌≤◌, ◌-◌, length, drop}
 ghost use Rattle.npy_grammar.specs.Reading.{strip, eat, eats, peek, past_number, cap, digits_at, number_at};
 ghost use Rattle.npy_pieces.specs.Places.{passes, At};
 
-// Whether a byte is of a class: 0 blanks, 1 what may stand before the brace, 2 padding, else digits.
+// Whether a byte is of a class: 0 blanks, 1 what may stand before the brace, 2 padding, else digits. Numbers, and no
+// enum: the contract of `skip` names them.
 fn is_of(class: u8, b: u8) -> bool
     ensures { result ≡ passes class b }
 {
@@ -21,7 +22,7 @@ fn is_of(class: u8, b: u8) -> bool
     (48 <= b) & (b <= 57)
 }
 
-// The byte at a place, 0 past the end.
+// The byte at a place, 0 past the end. No twin of the one of sheet_text: the contract says `peek` of what is left.
 pub fn byte_at(text: &[u8], at: usize) -> u8
     requires { at ≤ length text.now }
     ensures { result ≡ peek (drop at text.now) }
@@ -34,14 +35,12 @@ pub fn skip(text: &[u8], at: usize, class: u8) -> usize
     requires { at ≤ length text.now }
     ensures { At text.now result (strip (passes class) (drop at text.now)) }
 {
-    let mut k = at;
-    while k < text.len() {
+    for k in at..text.len() {
         if !is_of(class, text[k]) {
             return k;
         }
-        k += 1;
     }
-    k
+    text.len()
 }
 
 // Past one byte.
@@ -63,10 +62,8 @@ pub fn eat_word(text: &[u8], at: usize, word: &[u8]) -> usize
     ensures { At text.now result (eats word.now (drop at text.now)) }
 {
     let mut p = at;
-    let mut k = 0;
-    while k < word.len() {
-        p = eat_byte(text, p, word[k]);
-        k += 1;
+    for x in word {
+        p = eat_byte(text, p, *x);
     }
     p
 }
@@ -110,14 +107,12 @@ fn digits_at(text: &[u8], at: usize, first: usize) -> usize
     ensures { result ≡ digits_at first (drop at text.now) }
 {
     let mut n = first;
-    let mut k = at;
-    while k < text.len() {
+    for k in at..text.len() {
         let b = text[k];
         if !is_of(3, b) {
             return n;
         }
         n = capped(10 * n + less_48(b));
-        k += 1;
     }
     n
 }

@@ -1,12 +1,12 @@
 -- The header of a shape keeps the rules exactly where the shape is good.
-use Rattle.std.specs.Prelude.{ℕ, zero, suc, ◌+◌, ◌*◌, ◌≤◌, ◌<◌, min, List, [], ◌∷◌, map, Bool, true, false, ◌&&◌, ◌≡◌, refl, leb, length, get_or}
+use Rattle.std.specs.Prelude.{ℕ, zero, suc, ◌≤◌, ◌<◌, min, List, [], ◌∷◌, map, Bool, true, false, ◌&&◌, ◌≡◌, refl, leb, length, get_or}
 use Rattle.std.proofs.Common.{sym, ap, ◌∙◌, arith, lit<, leb-true, le-leb}
 use Rattle.std.proofs.Math.ListN.{get_or-eq_default}
-use Rattle.lists.specs.Four.{at, four}
-use Rattle.lists.specs.Test.{decide, and_left, and_right}
+use Rattle.lists.specs.Four.{at}
+use Rattle.lists.specs.Test.{and_left, and_right}
 use Rattle.model.specs.declared.Header.{Header}
-use Rattle.model.specs.Header.{header, limit, len, stored, count, good_header}
-use Rattle.shape_words.specs.Rules.{GoodVar, Ruled, Regular, Good, regular-four, ruled-at, header-good, header_ruled, header-most}
+use Rattle.model.specs.Header.{header, stored, good_header}
+use Rattle.shape_words.specs.Rules.{GoodVar, Regular, Good, regular-four, ruled-at, header-good, header_ruled, header-most}
 use Rattle.npy_grammar.specs.Reading.{cap}
 use Rattle.npy_header.specs.declared.Shape.{Shape}
 use Rattle.npy_header.specs.Shapes.{Kept}

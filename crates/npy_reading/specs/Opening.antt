@@ -1,16 +1,16 @@
 -- A file is opened: its frame, then its header's text.
-use Rattle.std.specs.Prelude.{ℕ, zero, suc, ◌+◌, ◌-◌, ◌≤◌, ◌<◌, List, [], ◌∷◌, map, Bool, true, false, ◌&&◌, ◌||◌, ◌≡◌, refl, eqb, length, take, drop}
+use Rattle.std.specs.Prelude.{ℕ, ◌+◌, ◌-◌, ◌≤◌, List, map, Bool, true, false, ◌&&◌, ◌||◌, ◌≡◌, refl, length}
+use Rattle.std.specs.Prelude.{Option, Some, None, MatchOption}
 use Rattle.std.proofs.Math.Bool.{cond}
 use Rattle.std.proofs.Math.Path.{sym, ap}
 use Rattle.std.proofs.Common.{◌∙◌, arith}
 use Rattle.std.proofs.Math.Dec.{leb}
-use borrow.Author.Tests.{leb-true, le-leb, lt-leb}
+use borrow.Author.Tests.{leb-true, le-leb}
 use Rattle.lists.specs.Part.{part}
 use Rattle.lists.specs.Test.{decide, and_left, and_right}
-use Rattle.npy_grammar.specs.Text.{Values, Right}
+use Rattle.npy_grammar.specs.Text.{Values}
 use Rattle.npy_grammar.specs.Reading.{cap}
 use Rattle.npy_grammar.specs.Items.{width_number, order_number}
-use Rattle.npy_header.specs.declared.Shape.{Shape}
 use Rattle.npy_header.specs.declared.Found.{Found}
 use Rattle.npy_header.specs.Shapes.{Kept}
 use Rattle.npy_header.specs.Cursors.{HeaderRead}
@@ -137,6 +137,36 @@ module _ (t : List ℕ) {p s : ℕ} (b : Begun t p) (e : s ≡ end_of t) where
       let l = and_right (is_either t && leb (head_start t) (length t)) (leb (data_start t) (length t)) y.framed in
       let k : end_of t ≡ data_start t = rw l in
       omega (arith, e, z, k, (head_start-two t).0)
+
+-- ---- the places as the code has them: None in place of 0
+
+module _ (t : List ℕ) {r : Option ℕ} {p : ℕ} where
+  pub some-begun : 10 ≤ p → r ≡ cond (leb p (length t)) (Some p) None → cond (leb p (length t)) p 0 ≡ begin_of t
+      → MatchOption r (begin_of t ≡ 0) (Begun t)
+  some-begun m e k =
+      decide (leb p (length t))
+      (λ l.
+      let j : p ≡ begin_of t = rw l at k in
+      let q : r ≡ Some p = rw l at e in
+      rw q (begun t j (λ z. omega arith)))
+      (λ l.
+      let j : 0 ≡ begin_of t = rw l at k in
+      let q : r ≡ None = rw l at e in
+      rw q (sym j))
+
+  pub some-framed : {q : ℕ} → Begun t p → q ≡ data_start t → r ≡ cond (leb q (length t)) (Some q) None
+      → MatchOption r (end_of t ≡ 0) (Framed t p)
+  some-framed {q} b d e =
+      let k : cond (leb q (length t)) q 0 ≡ end_of t = end_is t b d refl in
+      decide (leb q (length t))
+      (λ l.
+      let j : q ≡ end_of t = rw l at k in
+      let f : r ≡ Some q = rw l at e in
+      rw f (framed t b j (λ z. omega (arith, d, b.is, b.from))))
+      (λ l.
+      let j : 0 ≡ end_of t = rw l at k in
+      let f : r ≡ None = rw l at e in
+      rw f (sym j))
 
 -- ---- the whole
 

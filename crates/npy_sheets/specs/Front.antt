@@ -10,7 +10,7 @@ use borrow.Author.Tests.{leb-true, leb-false, le-leb, lt-leb, ltb-false}
 use Rattle.lists.specs.Test.{decide}
 use Rattle.model.specs.Refusals.{refused_by}
 use Rattle.model_texts.specs.Printed.{refused_word, refused_text}
-use Rattle.model.specs.declared.Answer.{Answer}
+use Rattle.model.specs.Results.{Answer}
 use Rattle.npy_files.specs.Frame.{byte_at, little, opening, starts_with, is_version}
 use Rattle.npy_files.specs.Reads.{Reading}
 use Rattle.npy_files.specs.Once.{reading-once}

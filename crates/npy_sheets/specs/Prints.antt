@@ -1,5 +1,5 @@
 -- The outcomes of `to_npy`, from what the code found.
-use Rattle.std.specs.Prelude.{ℕ, ◌+◌, ◌-◌, ◌*◌, ◌≤◌, Bool, true, false, ◌&&◌, refl, leb, eqb, take, Float}
+use Rattle.std.specs.Prelude.{Ok, Err, ℕ, ◌+◌, ◌-◌, ◌*◌, ◌≤◌, Bool, true, false, ◌&&◌, refl, leb, eqb, take, Float}
 use mathlib.Core.List.{List, ◌++◌}
 use Rattle.std.proofs.Math.Path.{◌≡◌, sym, ap, ap₂}
 use Rattle.std.proofs.Common.{◌∙◌, subst, length-take-le, take_at, leb-true}
@@ -18,8 +18,7 @@ use Rattle.model.specs.Word.{header_of}
 use Rattle.model_texts.specs.Hex.{word_at}
 use Rattle.model_texts.specs.Printed.{refused_word, refused_text}
 use Rattle.shape_words.specs.Rules.{Good, Ruled}
-use Rattle.npy_files.specs.declared.Written.{Written}
-use Rattle.npy_files.specs.declared.Written.TheVariants.{Done, Refused}
+use Rattle.npy_files.specs.Results.{Written}
 use Rattle.npy_files.specs.Frame.{byte_at, starts_with}
 use Rattle.npy_files.specs.Shapes.{shape_of}
 use Rattle.npy_files.specs.Writes.{file_out, file_length, write_answer, write_file}
@@ -32,12 +31,12 @@ use Rattle.npy_sheets.specs.Arrays.{array_text, array_memory, Arrayed}
 
 -- how many bytes were written
 unfoldable length_of : Written → ℕ
-length_of (Done n) = n
-length_of (Refused r) = 0
+length_of (Ok n) = n
+length_of (Err r) = 0
 
 unfoldable is_done : Written → ℕ
-is_done (Done n) = 1
-is_done (Refused r) = 0
+is_done (Ok n) = 1
+is_done (Err r) = 0
 
 module _ (newer : Bool) (t : List ℕ) (yes : is_answer t ≡ true) where
   abbrev w : ℕ
@@ -99,16 +98,16 @@ module _ (newer : Bool) (t : List ℕ) (yes : is_answer t ≡ true) where
 
         module _ (old : List ℕ) (fit : 32896 ≤ length old) {r : Written} {new : List ℕ}
             (er : r ≡ write_answer v (take c (x ++ drop c values)) old) (en : new ≡ write_file newer v (take c (x ++ drop c values)) old) where
-          done-is : (write_answer w (answer_values t) old ≡ Done (file_length w)) × (write_file newer w (answer_values t) old ≡ over file old)
+          done-is : (write_answer w (answer_values t) old ≡ Ok (file_length w)) × (write_file newer w (answer_values t) old ≡ over file old)
           done-is = write_done newer w (answer_values t) old (answered t yes).good many (omega (arith, facts.most, fit))
 
-          r-is : r ≡ Done (file_length w)
+          r-is : r ≡ Ok (file_length w)
           r-is = er ∙ (ap₂ (λ (k : ℕ) (a : List Float). write_answer k a old) word-is given_are ∙ done-is.0)
 
           new_is : new ≡ over file old
           new_is = en ∙ (ap₂ (λ (k : ℕ) (a : List Float). write_file newer k a old) word-is given_are ∙ done-is.1)
 
-          pub array-done : (n : ℕ) → r ≡ Done n → Arrayed newer t values (x ++ drop c values) old new n
+          pub array-done : (n : ℕ) → r ≡ Ok n → Arrayed newer t values (x ++ drop c values) old new n
           unfolding array_text length_of
           array-done n e =
               let long : n ≡ length file = ap length_of (sym e ∙ r-is) ∙ sym file-bytes in
@@ -117,7 +116,7 @@ module _ (newer : Bool) (t : List ℕ) (yes : is_answer t ≡ true) where
                 memory = memory-is;
               }
 
-          pub array-never : (e : Refusal) → r ≡ Refused e → ⊥
+          pub array-never : (e : Refusal) → r ≡ Err e → ⊥
           unfolding is_done
           array-never e k = let z : ◌≡◌ {A = ℕ} 0 1 = ap is_done (sym k ∙ r-is) in omega arith
 

@@ -1,14 +1,13 @@
 -- Document 02, W2 and W12, the program `from_npy`: a file's sheet lines, header word, then coefficients; a refusal
 -- prints the refusal line. The program reads 98,316 bytes: of a file with as many and a header of version 2.0 that has
 -- more than 65,535 it cannot read enough, and refuses it by 5.
-use Rattle.std.specs.Prelude.{ℕ, ◌+◌, ◌*◌, ◌≤◌, ◌<◌, List, ◌++◌, map, Bool, true, false, ◌&&◌, ◌≡◌, refl, leb, ltb, length, take, Float}
+use Rattle.std.specs.Prelude.{Ok, Err, ℕ, ◌+◌, ◌*◌, ◌≤◌, ◌<◌, List, ◌++◌, map, Bool, true, false, ◌&&◌, ◌≡◌, refl, leb, ltb, length, take, Float}
 use Rattle.std.proofs.Math.Path.{sym, ap, subst}
 use Rattle.std.proofs.Common.{◌∙◌, arith, le-leb}
 use Rattle.std.proofs.lemmas.Bool.{lt-leb}
 use Rattle.std.specs.Float.Ieee.{to_bits}
 use Rattle.std.specs.Float.{binary64}
-use Rattle.model.specs.declared.Answer.{Answer}
-use Rattle.model.specs.declared.Answer.TheVariants as answer
+use Rattle.model.specs.Results.{Answer}
 use Rattle.model.specs.declared.Header.{Header}
 use Rattle.model.specs.declared.Refusal.{Refusal}
 use Rattle.model.specs.Header.{stored}
@@ -31,8 +30,8 @@ sheet_text w xs = hex_line w ++ hex_lines (map (to_bits binary64) xs)
 
 -- xs: the buffer after reading
 unfoldable pub shown_text : Answer → List Float → List ℕ
-shown_text (answer.Done w) xs = sheet_text w (take (stored (header_of w)) xs)
-shown_text (answer.Refused r) xs = refused_text r
+shown_text (Ok w) xs = sheet_text w (take (stored (header_of w)) xs)
+shown_text (Err r) xs = refused_text r
 
 pub record Shown (t : List ℕ) (values values' : List Float) (old new : List ℕ) (n : ℕ) : Type 0 where
   pub answer : Answer
@@ -53,13 +52,13 @@ pub record ShownFile (t : List ℕ) (values values' : List Float) (old new : Lis
   pub put : Put 0 text old new n
 
 -- a header word that is answered keeps the rules
-pub read-good : {t : List ℕ} {old new : List Float} {w : ℕ} → Reading t old (answer.Done w) new → Good (header_of w)
+pub read-good : {t : List ℕ} {old new : List Float} {w : ℕ} → Reading t old (Ok w) new → Good (header_of w)
 read-good {t} {old} (Reading.done v s f g) =
     let good = room-good v (length old) f in
     let k = shape-good v.shape good in
     subst Good (sym (unpack-pack (head_of v.shape) k.regular)) k
 
-module _ {t : List ℕ} {old new : List Float} (w : ℕ) {a : Answer} (r : Reading t old a new) (e : a ≡ answer.Done w) where
+module _ {t : List ℕ} {old new : List Float} (w : ℕ) {a : Answer} (r : Reading t old a new) (e : a ≡ Ok w) where
   done-good : Good (header_of w)
   done-good = read-good (subst (λ (x : Answer). Reading t old x new) e r)
 
@@ -70,22 +69,22 @@ module _ {t : List ℕ} {old new : List Float} (w : ℕ) {a : Answer} (r : Readi
   done-small k l = subst (λ (n : ℕ). n ≤ 4096) (sym (l ∙ ap stored k)) done-good.most
 
 module _ {t : List ℕ} {values values' : List Float} {old new : List ℕ} {n : ℕ} where
-  pub shown-done : (w : ℕ) {a : Answer} {c : ℕ} → Reading t values a values' → a ≡ answer.Done w
+  pub shown-done : (w : ℕ) {a : Answer} {c : ℕ} → Reading t values a values' → a ≡ Ok w
       → c ≡ stored (header_of w) → Put 0 (sheet_text w (take c values')) old new n → Shown t values values' old new n
   unfolding shown_text
   shown-done w {a} {c} r e k p =
       record {
-        answer = answer.Done w;
+        answer = Ok w;
         reading = subst (λ (x : Answer). Reading t values x values') e r;
         put = subst (λ (m : ℕ). Put 0 (sheet_text w (take m values')) old new n) k p;
       }
 
-  pub shown-refused : (e : Refusal) {a : Answer} → Reading t values a values' → a ≡ answer.Refused e
+  pub shown-refused : (e : Refusal) {a : Answer} → Reading t values a values' → a ≡ Err e
       → Put 0 (refused_text e) old new n → Shown t values values' old new n
   unfolding shown_text
   shown-refused e {a} r k p =
       record {
-        answer = answer.Refused e;
+        answer = Err e;
         reading = subst (λ (x : Answer). Reading t values x values') k r;
         put = p;
       }

@@ -34,11 +34,11 @@ fn show_whole(file: &[u8], values: &mut [f64], output: &mut [u8]) -> usize
     ensures { Shown file.now values.old values.new output.old output.new result }
 {
     match npy::read(file, values) {
-        Answer::Done(head) => {
+        Ok(head) => {
             let count = stored_of(header_of(head));
             put_sheet(head, &values[..count], output)
         }
-        Answer::Refused(e) => put_refusal(e, output),
+        Err(e) => put_refusal(e, output),
     }
 }
 
@@ -77,8 +77,8 @@ fn put_array(newer: bool, text: &[u8], values: &mut [f64], output: &mut [u8]) ->
     let count = stored_of(header_of(head));
     fill_values(text, start, &mut values[..count]);
     match npy::write_as(newer, head, &values[..count], output) {
-        Written::Done(n) => n,
-        Written::Refused(e) => put_refusal(e, output),
+        Ok(n) => n,
+        Err(e) => put_refusal(e, output),
     }
 }
 

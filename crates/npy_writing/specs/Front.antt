@@ -1,5 +1,5 @@
 -- The bytes before the data, put piece by piece.
-use Rattle.std.specs.Prelude.{ℕ, zero, suc, ◌+◌, ◌-◌, ◌*◌, ◌^◌, ◌≤◌, ◌<◌, Bool, true, false, ◌≡◌, refl, get_or, take, drop}
+use Rattle.std.specs.Prelude.{ℕ, zero, suc, ◌+◌, ◌-◌, ◌*◌, ◌≤◌, ◌<◌, Bool, true, false, ◌≡◌, refl, take, drop}
 use mathlib.Core.List.{List, [], ◌∷◌, ◌++◌, append_assoc, append-nil}
 use Rattle.std.proofs.Common.{sym, ap, ◌∙◌, subst, add-one, take-suc, length-take-le}
 use native.Mathlib.Omega.{arith}
@@ -11,7 +11,7 @@ use Rattle.lists.specs.Table.{table, length-table}
 use Rattle.model_texts.specs.Printed.{decimal}
 use Rattle.npy_files.specs.Writes.{low_bytes, followed, listed, closing, tuple_out, dict_out, head_bytes, start_out, head_out, front_out}
 use Rattle.sheet_text.specs.Decimal.{decimal-most}
-use Rattle.sheet_text.specs.Put.{Put, put-none, put_then, put-len}
+use Rattle.sheet_text.specs.Put.{Put, put-none, put_then}
 
 -- four numbers of 64 at most, of which the first v are the shape
 pub record Shaped (v : ℕ) (n : List ℕ) : Type 0 where

@@ -15,11 +15,9 @@ fn put_rest(vars: usize, n: [usize; 4], at: usize, to: &mut [u8]) -> usize
     ensures { PutShort 12 at (followed (drop 1 (take vars n))) to.old to.new result }
 {
     let mut next = at;
-    let mut k = 1;
-    while k < vars {
+    for k in 1..vars {
         next = put_bytes(b", ", next, to);
         next = put_decimal(n[k] as u64, next, to);
-        k += 1;
     }
     next
 }

@@ -12,11 +12,7 @@ use shape_words::word::pack;
 pub fn pow(head: u64, a: &[f64], e: u32, out: &mut [f64], scratch: &mut [f64]) -> Answer
     ensures { PowPromise head a.now e out.old scratch.old result out.new scratch.new }
 {
-    let o = gates::open_work(Family::Power(e), head, a.len(), out.len(), scratch.len());
-    let refusal = o.refusal;
-    if refusal.number != 0 {
-        return Answer::Refused(refusal);
-    }
+    let o = gates::open_work(Family::Power(e), head, a.len(), out.len(), scratch.len())?;
     let x = o.a;
     let h = o.told;
     let la = x.lengths;
@@ -26,5 +22,5 @@ pub fn pow(head: u64, a: &[f64], e: u32, out: &mut [f64], scratch: &mut [f64]) -
     let room = 8 * n;
     let r = kernel::power_into(&a[..na], la, e, l, n, &mut out[..n], &mut scratch[..room]);
     blocks::clear(&mut scratch[..room]);
-    Answer::Done(pack(Header::with_lengths(h, r)))
+    Ok(pack(Header::with_lengths(h, r)))
 }

@@ -3,35 +3,76 @@
 -- A line is looked for above stage 0 only: the product by a constant that a line asks for is one of stage 0.
 use Rattle.std.specs.Prelude.{ℕ, zero, suc, List, Bool, true, cond, ◌≡◌, refl, Float}
 use Rattle.std.proofs.Math.Bool.{false}
-use Rattle.std.proofs.Common.{arith}
+use Rattle.std.proofs.Common.{sym, ap, ◌∙◌, arith}
 use Rattle.std.proofs.Math.Dec.{eqb}
 use borrow.Author.Tests.{ne_eqb}
 use Rattle.lists.specs.Test.{decide}
 use Rattle.model.specs.declared.Linear.{Linear}
-use Rattle.model.specs.declared.Way.{Way}
+use Rattle.product.specs.declared.kernel.Way.{Way}
+use Rattle.product.specs.declared.kernel.Way.TheVariants.{Right, Left, ScaledRight, ScaledLeft, LineRight, LineLeft, General}
 use Rattle.model.specs.Poly.{Block}
 use Rattle.model.specs.Refusals.{zero_f}
 use Rattle.model.specs.Readings.{first}
 use Rattle.model.specs.Linear.{no_linear, linear}
 use Rattle.model.specs.Product.{is_constant, is_one, constant_block, scaled, linear_product, general_block, shortcut, product_of}
 
-abbrev pub way : ℕ → Linear → Way
-way k l = record { kind = k; line = l }
+-- the number of a way
+abbrev pub kind_of : Way → ℕ
+kind_of Right = 0
+kind_of Left = 1
+kind_of (ScaledRight c) = 2
+kind_of (ScaledLeft c) = 3
+kind_of (LineRight l) = 4
+kind_of (LineLeft l) = 5
+kind_of General = 6
 
 -- a constant, in the place of a line's
 abbrev pub just_c : Float → Linear
 just_c c = record { yes = false; c = c; m = zero_f; variable = 0 }
 
+-- the line of a way, or its constant in the place of one
+abbrev pub line_of : Way → Linear
+line_of Right = no_linear
+line_of Left = no_linear
+line_of (ScaledRight c) = just_c c
+line_of (ScaledLeft c) = just_c c
+line_of (LineRight l) = l
+line_of (LineLeft l) = l
+line_of General = no_linear
+
+-- the way with a number, and a line or a constant
+abbrev pub way : ℕ → Linear → Way
+way k l =
+    cond (eqb k 0) Right
+    (cond (eqb k 1) Left
+    (cond (eqb k 2) (ScaledRight l.c)
+    (cond (eqb k 3) (ScaledLeft l.c)
+    (cond (eqb k 4) (LineRight l)
+    (cond (eqb k 5) (LineLeft l)
+    General)))))
+
+way-is : (w : Way) → way (kind_of w) (line_of w) ≡ w
+way-is Right = refl
+way-is Left = refl
+way-is (ScaledRight c) = refl
+way-is (ScaledLeft c) = refl
+way-is (LineRight l) = refl
+way-is (LineLeft l) = refl
+way-is General = refl
+
+pub by_number : (w : Way) {k : ℕ} → kind_of w ≡ k → w ≡ way k (line_of w)
+by_number w h = sym (way-is w) ∙ ap (λ (k : ℕ). way k (line_of w)) h
+
 unfoldable pub chosen : ℕ → Block → Block → Way
 chosen stage a b =
-    cond (is_one a) (way 0 no_linear)
-    (cond (is_one b) (way 1 no_linear)
-    (cond (is_constant a) (way 2 (just_c (first a.places)))
-    (cond (is_constant b) (way 3 (just_c (first b.places)))
-    (cond (eqb stage 0) (way 6 no_linear)
-    (cond (linear a).yes (way 4 (linear a))
-    (cond (linear b).yes (way 5 (linear b))
-    (way 6 no_linear)))))))
+    cond (is_one a) Right
+    (cond (is_one b) Left
+    (cond (is_constant a) (ScaledRight (first a.places))
+    (cond (is_constant b) (ScaledLeft (first b.places))
+    (cond (eqb stage 0) General
+    (cond (linear a).yes (LineRight (linear a))
+    (cond (linear b).yes (LineLeft (linear b))
+    General))))))
 
 -- the ways that ask for no other product; l the limits
 unfoldable pub plain_product : List ℕ → ℕ → Float → Block → Block → Block
@@ -45,18 +86,18 @@ plain_product l k c a b =
 -- what the way w gives; by_c the product by its constant
 abbrev pub way_product : (Float → Block → Block) → List ℕ → Way → Block → Block → Block
 way_product by_c l w a b =
-    cond (eqb w.kind 4) (linear_product (by_c w.line.c) l w.line b)
-    (cond (eqb w.kind 5) (linear_product (by_c w.line.c) l w.line a)
-    (plain_product l w.kind w.line.c a b))
+    cond (eqb (kind_of w) 4) (linear_product (by_c (line_of w).c) l (line_of w) b)
+    (cond (eqb (kind_of w) 5) (linear_product (by_c (line_of w).c) l (line_of w) a)
+    (plain_product l (kind_of w) (line_of w).c a b))
 
 -- t to z are the tests in their order, ca and cb the constants, la and lb the lines
 along : (by_c : Float → Block → Block) (l : List ℕ) (a b : Block) (t u v x y z : Bool) (ca cb : Float) (la lb : Linear)
     → cond t b (cond u a
     (cond v (scaled ca b) (cond x (scaled cb a)
     (cond y (linear_product (by_c la.c) l la b) (cond z (linear_product (by_c lb.c) l lb a) (general_block l a b))))))
-    ≡ way_product by_c l (cond t (way 0 no_linear)
-    (cond u (way 1 no_linear)
-    (cond v (way 2 (just_c ca)) (cond x (way 3 (just_c cb)) (cond y (way 4 la) (cond z (way 5 lb) (way 6 no_linear))))))) a b
+    ≡ way_product by_c l (cond t Right
+    (cond u Left
+    (cond v (ScaledRight ca) (cond x (ScaledLeft cb) (cond y (LineRight la) (cond z (LineLeft lb) General)))))) a b
 unfolding plain_product
 along by_c l a b true u v x y z ca cb la lb = refl
 along by_c l a b false true v x y z ca cb la lb = refl
@@ -67,7 +108,7 @@ along by_c l a b false false false false false true ca cb la lb = refl
 along by_c l a b false false false false false false ca cb la lb = refl
 
 module _ (l : List ℕ) (a b : Block) where
-  pub product-plainly : product_of 0 l a b ≡ plain_product l (chosen 0 a b).kind (chosen 0 a b).line.c a b
+  pub product-plainly : product_of 0 l a b ≡ plain_product l (kind_of (chosen 0 a b)) (line_of (chosen 0 a b)).c a b
   unfolding product_of shortcut chosen plain_product
   product-plainly =
       decide (is_one a) (λ t. rw t) (λ t.

@@ -8,7 +8,7 @@ use Rattle.std.specs.Float.Ieee.{eq}
 use Rattle.lists.specs.Four.{at}
 use Rattle.lists.specs.Part.{part, length_part, Below, Kept, below-same, below_less, below_then, below-part, kept_set}
 use Rattle.model.specs.declared.Linear.{Linear}
-use Rattle.model.specs.declared.Way.{Way}
+use Rattle.product.specs.declared.kernel.Way.{Way}
 use Rattle.model.specs.Header.{count, ones, span}
 use Rattle.model.specs.Limits.{sum_shape, max_shape}
 use Rattle.model.specs.Refusals.{zero_f}
@@ -16,7 +16,7 @@ use Rattle.model.specs.Poly.{Block, block}
 use Rattle.model.specs.Linear.{linear}
 use Rattle.model.specs.Add.{joined_block}
 use Rattle.model.specs.Product.{constant_block, grown, raised, linear_product, product_of}
-use Rattle.product.specs.Chosen.{chosen, plain_product}
+use Rattle.product.specs.Chosen.{chosen, plain_product, kind_of, line_of}
 use Rattle.shape_words.specs.Lengths.{Lengths, count-pos}
 use Rattle.laws_keeps.specs.Sits.{Sits, sits-more, sum_at_lem, max-at}
 use Rattle.laws_keeps.specs.Ways.{linear-is, line_two_lem}
@@ -43,22 +43,22 @@ record Grows (limits n r : List ℕ) (v stage : ℕ) : Type 0 where
 
 module _ {limits la lb : List ℕ} (stage : ℕ) (xs ys : List Float) (ua : Under limits la) (ub : Under limits lb)
     (c : Way) (e : c ≡ chosen stage (block la xs) (block lb ys)) where
-  grows-four : c.kind ≡ 4 → Grows limits lb (sum_shape limits la lb) c.line.variable stage
+  grows-four : kind_of c ≡ 4 → Grows limits lb (sum_shape limits la lb) (line_of c).variable stage
   grows-four k =
       let one : Block = block la xs in
-      let f = chosen-four stage one (block lb ys) (sym (ap (λ (w : Way). w.kind) e) ∙ k) in
-      let i : c.line ≡ linear one = ap (λ (w : Way). w.line) (e ∙ f.is) in
+      let f = chosen-four stage one (block lb ys) (sym (ap kind_of e) ∙ k) in
+      let i : (line_of c) ≡ linear one = ap line_of (e ∙ f.is) in
       let l = linear-is one f.yes in
       let v : ℕ = (linear one).variable in
       let t : 2 ≤ at la v = line_two_lem one v l.fits in
       let g = grown-fits v l.var ub (sum_shape limits la lb) (shape-right ua ub) (rw (sum_at_lem limits la lb v l.var) (omega arith)) in
       rw i (record { var = l.var; less = count_less (sum_shape limits la lb) (grown limits v lb) g; some = f.some })
 
-  grows_five : c.kind ≡ 5 → Grows limits la (sum_shape limits la lb) c.line.variable stage
+  grows_five : kind_of c ≡ 5 → Grows limits la (sum_shape limits la lb) (line_of c).variable stage
   grows_five k =
       let two : Block = block lb ys in
-      let f = chosen_five stage (block la xs) two (sym (ap (λ (w : Way). w.kind) e) ∙ k) in
-      let i : c.line ≡ linear two = ap (λ (w : Way). w.line) (e ∙ f.is) in
+      let f = chosen_five stage (block la xs) two (sym (ap kind_of e) ∙ k) in
+      let i : (line_of c) ≡ linear two = ap line_of (e ∙ f.is) in
       let l = linear-is two f.yes in
       let v : ℕ = (linear two).variable in
       let t : 2 ≤ at lb v = line_two_lem two v l.fits in
@@ -89,7 +89,7 @@ module _ {w : List Float} {mo pa ea : ℕ} {la : List ℕ} {pb eb : ℕ} {lb : L
   abbrev pub two : Block
   two = block lb (part pb eb w)
 
-  pub room-four : (c : Way) → c ≡ chosen stage one two → c.kind ≡ 4 → LineRoom w pb eb lb c.line.variable spare limits stage mo
+  pub room-four : (c : Way) → c ≡ chosen stage one two → kind_of c ≡ 4 → LineRoom w pb eb lb (line_of c).variable spare limits stage mo
   room-four c e k =
       let g = grows-four stage (part pa ea w) (part pb eb w) r.left.under r.right.under c e k in
       record {
@@ -102,7 +102,7 @@ module _ {w : List Float} {mo pa ea : ℕ} {la : List ℕ} {pb eb : ℕ} {lb : L
         room = omega (arith, r.room g.some, g.less);
       }
 
-  pub room_five : (c : Way) → c ≡ chosen stage one two → c.kind ≡ 5 → LineRoom w pa ea la c.line.variable spare limits stage mo
+  pub room_five : (c : Way) → c ≡ chosen stage one two → kind_of c ≡ 5 → LineRoom w pa ea la (line_of c).variable spare limits stage mo
   room_five c e k =
       let g = grows_five stage (part pa ea w) (part pb eb w) r.left.under r.right.under c e k in
       record {
@@ -116,28 +116,28 @@ module _ {w : List Float} {mo pa ea : ℕ} {la : List ℕ} {pb eb : ℕ} {lb : L
       }
 
 module _ (limits : List ℕ) (stage : ℕ) (a b : Block) {s : ℕ} {w w' out : List Float} {r : List ℕ} (c : Way) (e : c ≡ chosen stage a b) where
-  pub made-four : c.kind ≡ 4
-      → Made (linear_product (λ x. product_of (stage - 1) limits x (constant_block c.line.c)) limits c.line b) s w
+  pub made-four : kind_of c ≡ 4
+      → Made (linear_product (λ x. product_of (stage - 1) limits x (constant_block (line_of c).c)) limits (line_of c) b) s w
       w' out r → Made (product_of stage limits a b) s w w' out r
   made-four k m =
-      let h : (chosen stage a b).kind ≡ 4 = sym (ap (λ (w : Way). w.kind) e) ∙ k in
+      let h : (kind_of (chosen stage a b)) ≡ 4 = sym (ap kind_of e) ∙ k in
       made-same (product-four limits a b stage h) (rw e at m)
 
-  pub made_five : c.kind ≡ 5
-      → Made (linear_product (λ x. product_of (stage - 1) limits x (constant_block c.line.c)) limits c.line a) s w
+  pub made_five : kind_of c ≡ 5
+      → Made (linear_product (λ x. product_of (stage - 1) limits x (constant_block (line_of c).c)) limits (line_of c) a) s w
       w' out r → Made (product_of stage limits a b) s w w' out r
   made_five k m =
-      let h : (chosen stage a b).kind ≡ 5 = sym (ap (λ (w : Way). w.kind) e) ∙ k in
+      let h : (kind_of (chosen stage a b)) ≡ 5 = sym (ap kind_of e) ∙ k in
       made-same (product_five limits a b stage h) (rw e at m)
 
-  pub made_plain : {d : List Float} → (c.kind ≡ 4 → ⊥) → (c.kind ≡ 5 → ⊥)
-      → Put (plain_product limits c.kind c.line.c a b) d out r → w' ≡ w
+  pub made_plain : {d : List Float} → (kind_of c ≡ 4 → ⊥) → (kind_of c ≡ 5 → ⊥)
+      → Put (plain_product limits (kind_of c) (line_of c).c a b) d out r → w' ≡ w
       → Made (product_of stage limits a b) s w w' out r
   made_plain h4 h5 o i =
-      let f : product_of stage limits a b ≡ plain_product limits c.kind c.line.c a b =
-      product-plain limits a b stage (λ h. h4 (ap (λ (w : Way). w.kind) e ∙ h))
-      (λ h. h5 (ap (λ (w : Way). w.kind) e ∙ h))
-      ∙ ap (λ (z : Way). plain_product limits z.kind z.line.c a b) (sym e) in
+      let f : product_of stage limits a b ≡ plain_product limits (kind_of c) (line_of c).c a b =
+      product-plain limits a b stage (λ h. h4 (ap kind_of e ∙ h))
+      (λ h. h5 (ap kind_of e ∙ h))
+      ∙ ap (λ (z : Way). plain_product limits (kind_of z) (line_of z).c a b) (sym e) in
       made-same f (rw i (put-made o))
 
 -- the same where there is no work to leave alone
@@ -145,18 +145,18 @@ module _ (limits : List ℕ) (a b : Block) {out : List Float} {r : List ℕ} (c 
   as-made : {p : Block} → Stands p out r → Made p 0 [] [] out r
   as-made x = record { stands = x; below = below-same }
 
-  pub stands-four : c.kind ≡ 4
-      → Stands (linear_product (λ x. product_of 0 limits x (constant_block c.line.c)) limits c.line b) out r
+  pub stands-four : kind_of c ≡ 4
+      → Stands (linear_product (λ x. product_of 0 limits x (constant_block (line_of c).c)) limits (line_of c) b) out r
       → Stands (product_of 1 limits a b) out r
   stands-four k x = (made-four limits 1 a b c e k (as-made x)).stands
 
-  pub stands_five : c.kind ≡ 5
-      → Stands (linear_product (λ x. product_of 0 limits x (constant_block c.line.c)) limits c.line a) out r
+  pub stands_five : kind_of c ≡ 5
+      → Stands (linear_product (λ x. product_of 0 limits x (constant_block (line_of c).c)) limits (line_of c) a) out r
       → Stands (product_of 1 limits a b) out r
   stands_five k x = (made_five limits 1 a b c e k (as-made x)).stands
 
-  pub stands_plain : {d : List Float} → (c.kind ≡ 4 → ⊥) → (c.kind ≡ 5 → ⊥)
-      → Put (plain_product limits c.kind c.line.c a b) d out r → Stands (product_of 1 limits a b) out r
+  pub stands_plain : {d : List Float} → (kind_of c ≡ 4 → ⊥) → (kind_of c ≡ 5 → ⊥)
+      → Put (plain_product limits (kind_of c) (line_of c).c a b) d out r → Stands (product_of 1 limits a b) out r
   stands_plain h4 h5 o = (made_plain limits 1 a b {s = 0} {w = []} {w' = []} c e h4 h5 o refl).stands
 
 -- a linear product, step by step: r and n are what was computed; o1 the raised block; w1 where it was kept; w2 with the
@@ -333,7 +333,7 @@ module _ {la lb limits : List ℕ} (a b : List Float) {mo mw : ℕ} (t : Whole l
   whole-some = count-pos (under-lengths (shape-under t.plain.left t.plain.right) t.plain.caps)
 
   module _ (c : Way) (e : c ≡ chosen 1 (block la a) (block lb b)) where
-    pub whole_four : c.kind ≡ 4 → LineWhole lb c.line.variable limits (length b) mo mw
+    pub whole_four : kind_of c ≡ 4 → LineWhole lb (line_of c).variable limits (length b) mo mw
     whole_four k =
         let g = grows-four 1 a b t.plain.left t.plain.right c e k in
         record {
@@ -341,7 +341,7 @@ module _ {la lb limits : List ℕ} (a b : List Float) {mo mw : ℕ} (t : Whole l
           room = omega (arith, t.room, t.plain.full_b, g.less, whole-small_b, whole-some);
         }
 
-    pub whole_five : c.kind ≡ 5 → LineWhole la c.line.variable limits (length a) mo mw
+    pub whole_five : kind_of c ≡ 5 → LineWhole la (line_of c).variable limits (length a) mo mw
     whole_five k =
         let g = grows_five 1 a b t.plain.left t.plain.right c e k in
         record {

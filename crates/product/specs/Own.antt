@@ -4,7 +4,8 @@ use Rattle.std.specs.Prelude.{ℕ, ◌*◌, ◌≤◌, ◌<◌, List, Bool, fals
 use Rattle.std.specs.Float.Ieee.{eq}
 use Rattle.lists.specs.Table.{table}
 use Rattle.model.specs.declared.Header.{Header}
-use Rattle.model.specs.declared.Way.{Way}
+use Rattle.product.specs.declared.kernel.Way.{Way}
+use Rattle.product.specs.declared.kernel.Way.TheVariants.{General}
 use Rattle.model.specs.declared.Family.TheVariants.{Product}
 use Rattle.model.specs.Header.{count, stored}
 use Rattle.model.specs.Word.{header_of}
@@ -15,7 +16,7 @@ use Rattle.model.specs.Gates.{pair_gate, announced_pair}
 use Rattle.model.specs.Poly.{Block, block}
 use Rattle.model.specs.Product.{scaled_at}
 use Rattle.model.specs.Linear.{no_linear}
-use Rattle.product.specs.Chosen.{way, chosen}
+use Rattle.product.specs.Chosen.{chosen, kind_of, line_of}
 use Rattle.shape_words.specs.Rules.{Good}
 use Rattle.shape_words.specs.Lengths.{Lengths}
 use Rattle.product_kept.specs.Kept.{keeps_header, Keeps}
@@ -23,11 +24,11 @@ use Rattle.product_linear.specs.Raise.{lined_at}
 
 -- no short way
 abbrev pub long_way : Way
-long_way = way 6 no_linear
+long_way = General
 
 -- by a constant or a linear factor on the right, c neither zero nor one
 abbrev pub is_light : Way → Bool
-is_light w = (eqb w.kind 3 || eqb w.kind 5) && not (eq w.line.c zero_f || eq w.line.c one_f)
+is_light w = (eqb (kind_of w) 3 || eqb (kind_of w) 5) && not (eq (line_of w).c zero_f || eq (line_of w).c one_f)
 
 -- the way of two blocks, if it is light
 unfoldable pub light_way : Block → Block → Way
@@ -54,9 +55,9 @@ short_way w a u b mo ms =
 -- what a light way is worth
 pub record Light (a b : Block) (w : Way) : Type 0 where
   pub is : w ≡ chosen 1 a b
-  pub zero : eq w.line.c zero_f ≡ false
-  pub one : eq w.line.c one_f ≡ false
-  pub kind : (w.kind ≡ 3 → ⊥) → w.kind ≡ 5
+  pub zero : eq (line_of w).c zero_f ≡ false
+  pub one : eq (line_of w).c one_f ≡ false
+  pub kind : (kind_of w ≡ 3 → ⊥) → kind_of w ≡ 5
 
 -- what owning is worth: no refusal, and n places, more than one, under the left header
 pub record Owns (w ma u mb mo ms n : ℕ) : Type 0 where
@@ -73,15 +74,16 @@ pub record Shortens (w : ℕ) (a : List Float) (u : ℕ) (b : List Float) (mo ms
 -- the places of a block with the lengths n after a short way
 abbrev pub short_places : Way → List ℕ → List Float → List Float
 short_places w n a =
-    cond (eqb w.kind 3) (table (count n) (scaled_at w.line.c a))
-    (table (count n) (λ k. lined_at w.line.variable w.line.c w.line.m (block n a) (index n k)))
+    cond (eqb (kind_of w) 3) (table (count n) (scaled_at (line_of w).c a))
+    (table (count n) (λ k. lined_at (line_of w).variable (line_of w).c (line_of w).m (block n a) (index n k)))
 
 -- what it asks: m places of the block and as many of the result
 pub record ShortBlock (w : Way) (n : List ℕ) (m o : ℕ) : Type 0 where
   pub lens : Lengths n
   pub full : m ≡ count n
   pub room : o ≡ count n
-  pub var : (w.kind ≡ 3 → ⊥) → w.line.variable < 4
+  pub kind : (kind_of w ≡ 3 → ⊥) → kind_of w ≡ 5
+  pub var : (kind_of w ≡ 3 → ⊥) → (line_of w).variable < 4
 
 -- and of the lent buffers
 pub record ShortRoom (w : Way) (h : Header) (ma mo ms : ℕ) : Type 0 where
@@ -89,4 +91,5 @@ pub record ShortRoom (w : Way) (h : Header) (ma mo ms : ℕ) : Type 0 where
   pub full : stored h ≤ ma
   pub lent : stored h ≤ mo
   pub room : 8 * stored h ≤ ms
-  pub var : (w.kind ≡ 3 → ⊥) → w.line.variable < 4
+  pub kind : (kind_of w ≡ 3 → ⊥) → kind_of w ≡ 5
+  pub var : (kind_of w ≡ 3 → ⊥) → (line_of w).variable < 4

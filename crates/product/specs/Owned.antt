@@ -1,6 +1,6 @@
 -- The entry's short way: the tests that `own` makes let no call pass that the gate refuses, and what is made then is
 -- what the entry owes.
-use Rattle.std.specs.Prelude.{ℕ, ◌+◌, ◌*◌, ◌%◌, ◌^◌, ◌≤◌, ◌<◌, List, ◌++◌, Bool, ◌&&◌, ◌≡◌, ltb, eqb, length, take, drop, Float}
+use Rattle.std.specs.Prelude.{Ok, ℕ, ◌+◌, ◌*◌, ◌%◌, ◌^◌, ◌≤◌, ◌<◌, List, ◌++◌, Bool, ◌&&◌, ◌≡◌, ltb, eqb, length, take, drop, Float}
 use Rattle.std.proofs.Math.Bool.{true, false}
 use Rattle.std.proofs.Math.Path.{refl, sym, ap}
 use Rattle.std.proofs.Common.{◌∙◌, arith, length-take-le, leb-true, ltb-true, eqb-true, le-leb, eq-eqb}
@@ -9,9 +9,9 @@ use Rattle.lists.specs.Test.{and_left, and_right, decide}
 use Rattle.lists.specs.Four.{at}
 use Rattle.lists.specs.Table.{length-table}
 use Rattle.model.specs.declared.Header.{Header}
-use Rattle.model.specs.declared.Way.{Way}
+use Rattle.product.specs.declared.kernel.Way.{Way}
+use Rattle.product.specs.Chosen.{kind_of}
 use Rattle.model.specs.declared.Refusal.{Refusal}
-use Rattle.model.specs.declared.Answer.TheVariants.{Done}
 use Rattle.model.specs.declared.Family.TheVariants.{Product}
 use Rattle.model.specs.Header.{header, limit, len, count, stored, good_header}
 use Rattle.model.specs.Word.{header_of, good_word, word_of}
@@ -214,7 +214,7 @@ module _ (w : ℕ) (a : List Float) (u : ℕ) (b : List Float) (mo ms : ℕ) whe
       (λ f. absurd (z (rw f at e)))
 
   -- a short way
-  pub short_worth : {c : Way} → c ≡ short_way w a u b mo ms → (c.kind ≡ 6 → ⊥) → Shortens w a u b mo ms c
+  pub short_worth : {c : Way} → c ≡ short_way w a u b mo ms → (kind_of c ≡ 6 → ⊥) → Shortens w a u b mo ms c
   unfolding short_way
   short_worth {c} e z =
       decide (owns w (length a) u (length b) mo ms)
@@ -223,9 +223,9 @@ module _ (w : ℕ) (a : List Float) (u : ℕ) (b : List Float) (mo ms : ℕ) whe
       (block (header_of u).lengths (take (stored (header_of u)) b)) = rw t at e in
       record {
         owns = owns_worth w (length a) u (length b) mo ms t;
-        light = rw i (light-is _ _ (λ k. z (ap (λ (q : Way). q.kind) i ∙ k)));
+        light = rw i (light-is _ _ (λ k. z (ap kind_of i ∙ k)));
       })
-      (λ f. absurd (z (ap (λ (q : Way). q.kind) (rw f at e))))
+      (λ f. absurd (z (ap kind_of (rw f at e))))
 
 -- ---- the operands that the gate let pass
 
@@ -316,6 +316,7 @@ module _ {w u mo ms : ℕ} {a b : List Float} {c : Way} (s : Shortens w a u b mo
         full = ready.full_a;
         lent = omega (arith, t, ready.room);
         room = omega (arith, t, ready.spare);
+        kind = s.light.kind;
         var = short-var sits-left sits-right caps many own-lengths s.light;
       }
 
@@ -325,9 +326,9 @@ module _ {w u mo ms : ℕ} {a b : List Float} {c : Way} (s : Shortens w a u b mo
       ∙ ap (poly_of x) (short-value sits-left sits-right caps many own-lengths s.light)
 
   short-length : length (short_places c x.lengths xs) ≡ stored x
-  short-length = decide (eqb c.kind 3) (λ e. rw e (length-table _ _)) (λ e. rw e (length-table _ _))
+  short-length = decide (eqb (kind_of c) 3) (λ e. rw e (length-table _ _)) (λ e. rw e (length-table _ _))
 
-  pub short-answer : w < 2 ^ 64 → (out scratch : List Float) → mo ≡ length out → ms ≡ length scratch → Done w ≡ product_answer w a u b out scratch
+  pub short-answer : w < 2 ^ 64 → (out scratch : List Float) → mo ≡ length out → ms ≡ length scratch → Ok w ≡ product_answer w a u b out scratch
   unfolding product_answer
   short-answer fit out scratch eo es =
       let g : no_refusal ≡ pair_gate Product w (length a) u (length b) (length out) (length scratch) = rw (← eo, ← es) (sym s.owns.gate) in

@@ -2,18 +2,18 @@
 use Rattle.std.specs.Prelude.{ℕ, ◌+◌, ◌*◌, ◌≤◌, ◌<◌, List, ◌++◌, cond, ◌≡◌, length, take, drop, Float}
 use Rattle.lists.specs.Part.{Below}
 use Rattle.lists.specs.Four.{at, four}
-use Rattle.model.specs.declared.Way.{Way}
+use Rattle.product.specs.declared.kernel.Way.{Way}
+use Rattle.product.specs.declared.kernel.Way.TheVariants.{LineRight, LineLeft, General}
 use Rattle.model.specs.Header.{count}
 use Rattle.model.specs.Limits.{cut_to, sum_shape, max_shape}
 use Rattle.model.specs.Poly.{Block}
 use Rattle.model.specs.Linear.{no_linear, linear}
 use Rattle.model.specs.Product.{grown}
-use Rattle.product.specs.Chosen.{way}
 use Rattle.shape_words.specs.Lengths.{Lengths}
 
 -- which way, where neither is a constant and a line is looked for
 abbrev pub line_way : Block → Block → Way
-line_way a b = cond (linear a).yes (way 4 (linear a)) (cond (linear b).yes (way 5 (linear b)) (way 6 no_linear))
+line_way a b = cond (linear a).yes (LineRight (linear a)) (cond (linear b).yes (LineLeft (linear b)) General)
 
 -- limits of 64 at most
 pub record Caps (l : List ℕ) : Type 0 where

@@ -10,7 +10,7 @@ use Rattle.std.proofs.lemmas.Bool.{eqb-false, not-true}
 use Rattle.lists.specs.Test.{and_left, and_right, or_right, decide}
 use Rattle.lists.specs.Four.{at}
 use Rattle.lists.specs.Table.{table}
-use Rattle.model.specs.declared.Way.{Way}
+use Rattle.product.specs.declared.kernel.Way.{Way}
 use Rattle.model.specs.Header.{count}
 use Rattle.model.specs.Places.{index}
 use Rattle.model.specs.Refusals.{zero_f}
@@ -20,7 +20,7 @@ use Rattle.model.specs.Poly.{Block, block}
 use Rattle.model.specs.Add.{joined_block}
 use Rattle.model.specs.Linear.{linear}
 use Rattle.model.specs.Product.{is_constant, is_zero, constant_block, scaled, scaled_at, grown, raised, linear_product, product_of, multiplied}
-use Rattle.product.specs.Chosen.{chosen}
+use Rattle.product.specs.Chosen.{chosen, kind_of, line_of}
 use Rattle.product_kept.specs.Kept.{KeepsLength}
 use Rattle.laws_keeps.specs.Sits.{Sits}
 use Rattle.laws_keeps.specs.Ways.{linear-is, line_two_lem}
@@ -38,10 +38,10 @@ not-zero a b w l na =
     decide (is_constant b)
     (λ cb. decide (eq (first b.places) one_f)
     (λ o.
-    let k : w.kind ≡ 1 = ap (λ (x : Way). x.kind) l.is ∙ simp (na, cb, o) in
+    let k : kind_of w ≡ 1 = ap kind_of l.is ∙ simp (na, cb, o) in
     absurd (let f = l.kind (λ q. let z : 3 ≡ 1 = sym q ∙ k in absurd (omega arith)) in let z : 5 ≡ 1 = sym f ∙ k in omega arith))
     (λ o.
-    let c : w.line.c ≡ first b.places = ap (λ (x : Way). x.line.c) l.is ∙ simp (na, cb, o) in
+    let c : (line_of w).c ≡ first b.places = ap (λ (x : Way). (line_of x).c) l.is ∙ simp (na, cb, o) in
     let z : eq (first b.places) zero_f ≡ false = rw (← c) l.zero in
     simp (cb, z)))
     (λ cb. simp (cb))
@@ -63,29 +63,29 @@ module _ {limits la lb : List ℕ} {xs ys : List Float} {w : Way} (sa : Sits lim
   unfolding multiplied
   whole = rw (not-zero a b w l no-constant, no-constant, cut-none sa, cut-none sb)
 
-  by_constant_lem : w.kind ≡ 3 → product_of 1 limits a b ≡ scaled w.line.c a
+  by_constant_lem : kind_of w ≡ 3 → product_of 1 limits a b ≡ scaled (line_of w).c a
   by_constant_lem k =
-      let e : (chosen 1 a b).kind ≡ 3 = ap (λ (x : Way). x.kind) (sym l.is) ∙ k in
+      let e : (kind_of (chosen 1 a b)) ≡ 3 = ap kind_of (sym l.is) ∙ k in
       product-plain limits a b 1 (λ z. let q : 3 ≡ 4 = sym e ∙ z in omega arith) (λ z. let q : 3 ≡ 5 = sym e ∙ z in omega arith)
-      ∙ (plain_3 limits (chosen 1 a b).line.c a b (chosen 1 a b).kind e ∙ ap (λ (x : Way). scaled x.line.c a) (sym l.is))
+      ∙ (plain_3 limits (line_of (chosen 1 a b)).c a b (kind_of (chosen 1 a b)) e ∙ ap (λ (x : Way). scaled (line_of x).c a) (sym l.is))
 
-  module _ (n : w.kind ≡ 3 → ⊥) where
-    five : (chosen 1 a b).kind ≡ 5
-    five = ap (λ (x : Way). x.kind) (sym l.is) ∙ l.kind n
+  module _ (n : kind_of w ≡ 3 → ⊥) where
+    five : (kind_of (chosen 1 a b)) ≡ 5
+    five = ap kind_of (sym l.is) ∙ l.kind n
 
-    line-is : w.line ≡ linear b
-    line-is = ap (λ (x : Way). x.line) (l.is ∙ (chosen_five 1 a b five).is)
+    line-is : (line_of w) ≡ linear b
+    line-is = ap line_of (l.is ∙ (chosen_five 1 a b five).is)
 
-    pub short-var : w.line.variable < 4
+    pub short-var : (line_of w).variable < 4
     short-var = rw line-is (linear-is b (chosen_five 1 a b five).yes).var
 
-    two-rows : 2 ≤ at lb w.line.variable
+    two-rows : 2 ≤ at lb (line_of w).variable
     two-rows = rw line-is (line_two_lem b (linear b).variable (linear-is b (chosen_five 1 a b five).yes).fits)
 
-    same-grown : grown limits w.line.variable la ≡ la
+    same-grown : grown limits (line_of w).variable la ≡ la
     unfolding grown
     same-grown =
-        let v : ℕ = w.line.variable in
+        let v : ℕ = (line_of w).variable in
         let q = (own v short-var).own (sa.lo v short-var) (sa.hi v short-var) in
         let e : min (at limits v) (at la v + 1) ≡ at la v =
         omega (
@@ -98,44 +98,44 @@ module _ {limits la lb : List ℕ} {xs ys : List Float} {w : Way} (sa : Sits lim
         ) in
         ap (set la v) e ∙ set-get_or la v 0
 
-    raises : RaisesTo la w.line.variable limits (count la) (count la)
+    raises : RaisesTo la (line_of w).variable limits (count la) (count la)
     raises = record { under = sits-under sa; caps = caps; var = short-var; full = refl; fits = rw same-grown (omega arith) }
 
-    by-line : product_of 1 limits a b ≡ joined_block false (raised limits w.line.variable w.line.m a) (scaled w.line.c a)
+    by-line : product_of 1 limits a b ≡ joined_block false (raised limits (line_of w).variable (line_of w).m a) (scaled (line_of w).c a)
     unfolding linear_product
     by-line =
         product_five limits a b 1 five
-        ∙ (ap (λ (x : Way). linear_product (λ y. product_of 0 limits y (constant_block x.line.c)) limits x.line a) (sym l.is)
-        ∙ (rw (l.zero, by-scale limits w.line.c a (λ q. omega (arith, q)) l.one)))
+        ∙ (ap (λ (x : Way). linear_product (λ y. product_of 0 limits y (constant_block (line_of x).c)) limits (line_of x) a) (sym l.is)
+        ∙ (rw (l.zero, by-scale limits (line_of w).c a (λ q. omega (arith, q)) l.one)))
 
-    lined : joined_block false (raised limits w.line.variable w.line.m a) (scaled w.line.c a)
-        ≡ block la (table (count la) (λ k. lined_at w.line.variable w.line.c w.line.m a (index la k)))
+    lined : joined_block false (raised limits (line_of w).variable (line_of w).m a) (scaled (line_of w).c a)
+        ≡ block la (table (count la) (λ k. lined_at (line_of w).variable (line_of w).c (line_of w).m a (index la k)))
     lined =
         let j =
-        lined-block raises (sym same-grown) w.line.c w.line.m xs big
-        {o = table (count la) (λ k. lined_at w.line.variable w.line.c w.line.m a (index la k))} refl in
+        lined-block raises (sym same-grown) (line_of w).c (line_of w).m xs big
+        {o = table (count la) (λ k. lined_at (line_of w).variable (line_of w).c (line_of w).m a (index la k))} refl in
         sym (rw j.1
-        (ap (λ (z : List ℕ). block z (joined_block false (raised limits w.line.variable w.line.m a)
-        (scaled w.line.c a)).places) j.0))
+        (ap (λ (z : List ℕ). block z (joined_block false (raised limits (line_of w).variable (line_of w).m a)
+        (scaled (line_of w).c a)).places) j.0))
 
   pub short-value : multiplied limits a b ≡ block la (short_places w la xs)
-  short-value = whole ∙ decide (eqb w.kind 3)
+  short-value = whole ∙ decide (eqb (kind_of w) 3)
       (λ e. by_constant_lem (eqb-true _ _ e) ∙ rw e)
       (λ e. by-line (eqb-false _ _ e) ∙ (lined (eqb-false _ _ e) ∙ rw e))
 
 -- a way that passed the tests is light
 light_tested : (a b : Block) (w : Way) → w ≡ chosen 1 a b → is_light w ≡ true → Light a b w
 light_tested a b w e h =
-    let t = and_left (eqb w.kind 3 || eqb w.kind 5) (not (eq w.line.c zero_f || eq w.line.c one_f)) h in
+    let t = and_left (eqb (kind_of w) 3 || eqb (kind_of w) 5) (not (eq (line_of w).c zero_f || eq (line_of w).c one_f)) h in
     let n =
-    neither (eq w.line.c zero_f) (eq w.line.c one_f)
-    (not-true _ (and_right (eqb w.kind 3 || eqb w.kind 5)
-    (not (eq w.line.c zero_f || eq w.line.c one_f)) h)) in
+    neither (eq (line_of w).c zero_f) (eq (line_of w).c one_f)
+    (not-true _ (and_right (eqb (kind_of w) 3 || eqb (kind_of w) 5)
+    (not (eq (line_of w).c zero_f || eq (line_of w).c one_f)) h)) in
     record {
       is = e;
       zero = n.0;
       one = n.1;
-      kind = λ q. eqb-true _ _ (or_right (eqb w.kind 3) (eqb w.kind 5) t (ne_eqb _ _ q));
+      kind = λ q. eqb-true _ _ (or_right (eqb (kind_of w) 3) (eqb (kind_of w) 5) t (ne_eqb _ _ q));
     }
 
 module _ (a b : Block) where
@@ -148,7 +148,7 @@ module _ (a b : Block) where
   light_no w e t = rw (← e, t)
 
   -- a light way that is not the long one
-  pub light-is : ((light_way a b).kind ≡ 6 → ⊥) → Light a b (light_way a b)
+  pub light-is : ((kind_of (light_way a b)) ≡ 6 → ⊥) → Light a b (light_way a b)
   unfolding light_way
   light-is z =
       decide (is_light (chosen 1 a b))
@@ -156,7 +156,7 @@ module _ (a b : Block) where
       (λ t. absurd (z (rw t refl)))
 
 -- a linear factor that adds no row: the lengths stay
-pub short_raising : {w : Way} {n : List ℕ} {m o : ℕ} → ShortBlock w n m o → (w.kind ≡ 3 → ⊥) → Raising n w.line.variable n m o
+pub short_raising : {w : Way} {n : List ℕ} {m o : ℕ} → ShortBlock w n m o → (kind_of w ≡ 3 → ⊥) → Raising n (line_of w).variable n m o
 short_raising p k =
     record {
       var = p.var k;
@@ -169,9 +169,9 @@ short_raising p k =
     }
 
 module _ (w : Way) (n : List ℕ) (xs : List Float) {o : List Float} where
-  pub scaled-short : w.kind ≡ 3 → {m : ℕ} → m ≡ count n → o ≡ table m (scaled_at w.line.c xs) → o ≡ short_places w n xs
+  pub scaled-short : kind_of w ≡ 3 → {m : ℕ} → m ≡ count n → o ≡ table m (scaled_at (line_of w).c xs) → o ≡ short_places w n xs
   scaled-short k e h = rw (eq-eqb _ _ k, ← e) h
 
-  pub lined-short : (w.kind ≡ 3 → ⊥) → o ≡ table (count n)
-      (λ k. lined_at w.line.variable w.line.c w.line.m (block n xs) (index n k)) → o ≡ short_places w n xs
+  pub lined-short : (kind_of w ≡ 3 → ⊥) → o ≡ table (count n)
+      (λ k. lined_at (line_of w).variable (line_of w).c (line_of w).m (block n xs) (index n k)) → o ≡ short_places w n xs
   lined-short k h = rw (ne_eqb _ _ k) h

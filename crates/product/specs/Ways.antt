@@ -12,7 +12,8 @@ use Rattle.lists.specs.Table.{table, length-table}
 use Rattle.lists.specs.Part.{below-same}
 use Rattle.lists.specs.Four.{at, four, at-four, each, long, one-changed, at_same, at_other}
 use Rattle.model.specs.declared.Linear.{Linear}
-use Rattle.model.specs.declared.Way.{Way}
+use Rattle.product.specs.declared.kernel.Way.{Way}
+use Rattle.product.specs.declared.kernel.Way.TheVariants.{Right, Left, ScaledRight, ScaledLeft, LineRight, LineLeft, General}
 use Rattle.model.specs.Header.{count, ones}
 use Rattle.model.specs.Places.{index}
 use Rattle.model.specs.Limits.{sum_shape, max_shape}
@@ -23,7 +24,7 @@ use Rattle.model.specs.Linear.{no_linear, linear}
 use Rattle.model.specs.Add.{joined, joined_block}
 use Rattle.model.specs.General.{general}
 use Rattle.model.specs.Product.{is_constant, is_one, scaled, grown, raised, raised_at, constant_block, linear_product, product_of}
-use Rattle.product.specs.Chosen.{way, just_c, chosen, plain_product, product-plainly, product-chosen}
+use Rattle.product.specs.Chosen.{chosen, plain_product, product-plainly, product-chosen, kind_of, line_of}
 use Rattle.shape_words.specs.Lengths.{Lengths}
 use Rattle.blocks.specs.Rows.{count-inner, inner_of}
 use Rattle.product_general.specs.Rows.{Multiplying}
@@ -160,30 +161,29 @@ put-zero (x ∷ out) h = record { lengths = refl; is = refl }
 module _ (stage : ℕ) (a b : Block) (na nb : ℕ) where
   pub choose-is : na ≡ count a.lengths → nb ≡ count b.lengths
       → chosen stage a b
-      ≡ cond (eqb na 1 && eq (first a.places) one_f) (way 0 no_linear)
-      (cond (eqb nb 1 && eq (first b.places) one_f) (way 1 no_linear)
-      (cond (eqb na 1) (way 2 (just_c (first a.places))) (cond (eqb nb 1) (way 3 (just_c (first b.places)))
-      (cond (eqb stage 0) (way 6 no_linear) (line_way a b)))))
+      ≡ cond (eqb na 1 && eq (first a.places) one_f) Right
+      (cond (eqb nb 1 && eq (first b.places) one_f) Left
+      (cond (eqb na 1) (ScaledRight (first a.places)) (cond (eqb nb 1) (ScaledLeft (first b.places))
+      (cond (eqb stage 0) General (line_way a b)))))
   unfolding chosen
   choose-is e f = rw (e, f)
 
--- the line of a way 4 or 5
-pub record Lined (stage : ℕ) (l : Linear) (w : Way) (k : ℕ) : Type 0 where
+-- the line of a way by a line
+pub record Lined (stage : ℕ) (l : Linear) (w : Way) (k : Linear → Way) : Type 0 where
   pub some : 0 < stage
   pub yes : l.yes ≡ true
-  pub is : w ≡ way k l
+  pub is : w ≡ k l
 
 pos_of : (n : ℕ) → eqb n 0 ≡ false → 0 < n
 pos_of n e = let h = eqb-false n 0 e in omega arith
 
-chain-four : (stage : ℕ) (b1 b2 b3 b4 b5 : Bool) (l6 l7 l2 l3 : Linear) (b6 b7 : Bool) → eqb stage 0 ≡ b5 → l6.yes ≡ b6
-    → (cond b1 (way 0 no_linear) (cond b2 (way 1 no_linear)
-    (cond b3 (way 2 l2)
-    (cond b4 (way 3 l3) (cond b5 (way 6 no_linear) (cond b6 (way 4 l6) (cond b7 (way 5 l7) (way 6 no_linear)))))))
-    ).kind ≡ 4
-    → Lined stage l6 (cond b1 (way 0 no_linear)
-    (cond b2 (way 1 no_linear) (cond b3 (way 2 l2)
-    (cond b4 (way 3 l3) (cond b5 (way 6 no_linear) (cond b6 (way 4 l6) (cond b7 (way 5 l7) (way 6 no_linear)))))))) 4
+chain-four : (stage : ℕ) (b1 b2 b3 b4 b5 : Bool) (l6 l7 : Linear) (l2 l3 : Float) (b6 b7 : Bool) → eqb stage 0 ≡ b5 → l6.yes ≡ b6
+    → kind_of (cond b1 Right (cond b2 Left
+    (cond b3 (ScaledRight l2)
+    (cond b4 (ScaledLeft l3) (cond b5 General (cond b6 (LineRight l6) (cond b7 (LineLeft l7) General))))))) ≡ 4
+    → Lined stage l6 (cond b1 Right
+    (cond b2 Left (cond b3 (ScaledRight l2)
+    (cond b4 (ScaledLeft l3) (cond b5 General (cond b6 (LineRight l6) (cond b7 (LineLeft l7) General))))))) LineRight
 chain-four stage true b2 b3 b4 b5 l6 l7 l2 l3 b6 b7 e f h = absurd (omega (arith, h))
 chain-four stage false true b3 b4 b5 l6 l7 l2 l3 b6 b7 e f h = absurd (omega (arith, h))
 chain-four stage false false true b4 b5 l6 l7 l2 l3 b6 b7 e f h = absurd (omega (arith, h))
@@ -193,14 +193,13 @@ chain-four stage false false false false false l6 l7 l2 l3 true b7 e f h = recor
 chain-four stage false false false false false l6 l7 l2 l3 false true e f h = absurd (omega (arith, h))
 chain-four stage false false false false false l6 l7 l2 l3 false false e f h = absurd (omega (arith, h))
 
-chain_five : (stage : ℕ) (b1 b2 b3 b4 b5 : Bool) (l6 l7 l2 l3 : Linear) (b6 b7 : Bool) → eqb stage 0 ≡ b5 → l7.yes ≡ b7
-    → (cond b1 (way 0 no_linear) (cond b2 (way 1 no_linear)
-    (cond b3 (way 2 l2)
-    (cond b4 (way 3 l3) (cond b5 (way 6 no_linear) (cond b6 (way 4 l6) (cond b7 (way 5 l7) (way 6 no_linear)))))))
-    ).kind ≡ 5
-    → Lined stage l7 (cond b1 (way 0 no_linear)
-    (cond b2 (way 1 no_linear) (cond b3 (way 2 l2)
-    (cond b4 (way 3 l3) (cond b5 (way 6 no_linear) (cond b6 (way 4 l6) (cond b7 (way 5 l7) (way 6 no_linear)))))))) 5
+chain_five : (stage : ℕ) (b1 b2 b3 b4 b5 : Bool) (l6 l7 : Linear) (l2 l3 : Float) (b6 b7 : Bool) → eqb stage 0 ≡ b5 → l7.yes ≡ b7
+    → kind_of (cond b1 Right (cond b2 Left
+    (cond b3 (ScaledRight l2)
+    (cond b4 (ScaledLeft l3) (cond b5 General (cond b6 (LineRight l6) (cond b7 (LineLeft l7) General))))))) ≡ 5
+    → Lined stage l7 (cond b1 Right
+    (cond b2 Left (cond b3 (ScaledRight l2)
+    (cond b4 (ScaledLeft l3) (cond b5 General (cond b6 (LineRight l6) (cond b7 (LineLeft l7) General))))))) LineLeft
 chain_five stage true b2 b3 b4 b5 l6 l7 l2 l3 b6 b7 e f h = absurd (omega (arith, h))
 chain_five stage false true b3 b4 b5 l6 l7 l2 l3 b6 b7 e f h = absurd (omega (arith, h))
 chain_five stage false false true b4 b5 l6 l7 l2 l3 b6 b7 e f h = absurd (omega (arith, h))
@@ -211,17 +210,17 @@ chain_five stage false false false false false l6 l7 l2 l3 false true e f h = re
 chain_five stage false false false false false l6 l7 l2 l3 false false e f h = absurd (omega (arith, h))
 
 module _ (stage : ℕ) (a b : Block) where
-  pub chosen-four : (chosen stage a b).kind ≡ 4 → Lined stage (linear a) (chosen stage a b) 4
+  pub chosen-four : (kind_of (chosen stage a b)) ≡ 4 → Lined stage (linear a) (chosen stage a b) LineRight
   unfolding chosen
   chosen-four h =
       chain-four stage (is_one a) (is_one b) (is_constant a) (is_constant b) (eqb stage 0) (linear a) (linear b)
-      (just_c (first a.places)) (just_c (first b.places)) (linear a).yes (linear b).yes refl refl h
+      (first a.places) (first b.places) (linear a).yes (linear b).yes refl refl h
 
-  pub chosen_five : (chosen stage a b).kind ≡ 5 → Lined stage (linear b) (chosen stage a b) 5
+  pub chosen_five : (kind_of (chosen stage a b)) ≡ 5 → Lined stage (linear b) (chosen stage a b) LineLeft
   unfolding chosen
   chosen_five h =
       chain_five stage (is_one a) (is_one b) (is_constant a) (is_constant b) (eqb stage 0) (linear a) (linear b)
-      (just_c (first a.places)) (just_c (first b.places)) (linear a).yes (linear b).yes refl refl h
+      (first a.places) (first b.places) (linear a).yes (linear b).yes refl refl h
 
 -- ---- what a way makes
 
@@ -229,25 +228,25 @@ module _ (limits : List ℕ) (a b : Block) where
   abbrev pub by_c : ℕ → Float → Block → Block
   by_c s c x = product_of s limits x (constant_block c)
 
-  pub product-four : (stage : ℕ) → (chosen stage a b).kind ≡ 4
-      → product_of stage limits a b ≡ linear_product (by_c (stage - 1) (chosen stage a b).line.c) limits
-      (chosen stage a b).line b
+  pub product-four : (stage : ℕ) → (kind_of (chosen stage a b)) ≡ 4
+      → product_of stage limits a b ≡ linear_product (by_c (stage - 1) (line_of (chosen stage a b)).c) limits
+      (line_of (chosen stage a b)) b
   product-four zero h = absurd (omega (arith, (chosen-four 0 a b h).some))
   product-four (suc s) h =
       let e : suc s - 1 ≡ s = omega arith in
       product-chosen limits a b s ∙ rw (e, eq-eqb _ _ h)
 
-  pub product_five : (stage : ℕ) → (chosen stage a b).kind ≡ 5
-      → product_of stage limits a b ≡ linear_product (by_c (stage - 1) (chosen stage a b).line.c) limits
-      (chosen stage a b).line a
+  pub product_five : (stage : ℕ) → (kind_of (chosen stage a b)) ≡ 5
+      → product_of stage limits a b ≡ linear_product (by_c (stage - 1) (line_of (chosen stage a b)).c) limits
+      (line_of (chosen stage a b)) a
   product_five zero h = absurd (omega (arith, (chosen_five 0 a b h).some))
   product_five (suc s) h =
       let e : suc s - 1 ≡ s = omega arith in
-      let n : eqb (chosen (suc s) a b).kind 4 ≡ false = ap (λ (k : ℕ). eqb k 4) h in
+      let n : eqb (kind_of (chosen (suc s) a b)) 4 ≡ false = ap (λ (k : ℕ). eqb k 4) h in
       product-chosen limits a b s ∙ rw (e, n, eq-eqb _ _ h)
 
-  pub product-plain : (stage : ℕ) → ((chosen stage a b).kind ≡ 4 → ⊥) → ((chosen stage a b).kind ≡ 5 → ⊥)
-      → product_of stage limits a b ≡ plain_product limits (chosen stage a b).kind (chosen stage a b).line.c a b
+  pub product-plain : (stage : ℕ) → ((kind_of (chosen stage a b)) ≡ 4 → ⊥) → ((kind_of (chosen stage a b)) ≡ 5 → ⊥)
+      → product_of stage limits a b ≡ plain_product limits (kind_of (chosen stage a b)) (line_of (chosen stage a b)).c a b
   product-plain zero h k = product-plainly limits a b
   product-plain (suc s) h k = product-chosen limits a b s ∙ rw (ne_eqb _ _ h, ne_eqb _ _ k)
 

@@ -11,25 +11,32 @@ ghost use Rattle.model.specs.Places.{index};
 ghost use Rattle.model.specs.Refusals.{zero_f, padded};
 ghost use Rattle.model.specs.Poly.{block};
 ghost use Rattle.model.specs.Add.{joined_block};
-ghost use Rattle.model.specs.Product.{is_zero, constant_block, scaled, grown, raised_at, raised, linear_product, product_of, multiplied};
-ghost use Rattle.product.specs.Chosen.{just_c, chosen, plain_product};
+ghost use Rattle.model.specs.Product.{general_block, is_zero, constant_block, scaled, grown, raised_at, raised, linear_product, product_of, multiplied};
+ghost use Rattle.product.specs.Chosen.{kind_of, line_of, chosen, plain_product};
 ghost use Rattle.shape_words.specs.Lengths.{Lengths};
 ghost use Rattle.product_linear.specs.Raise.{Raising, lined_at};
 ghost use Rattle.product.specs.Room.{line_way, RaisesTo, Plain, Joins, Room, LineRoom, Whole, LineWhole, Times, Put, Stands, Made};
 
-use model::{Linear, Way};
+use model::Linear;
 use product_linear::{line_rows, raise_rows, scale};
 
-// A constant alone.
-fn just(c: f64) -> Linear
-    ensures { result ≡ just_c c }
-{
-    Linear {
-        yes: false,
-        c,
-        m: 0.0,
-        variable: 0,
-    }
+// How a product is made (specs/Chosen.antt numbers the ways).
+#[derive(Clone, Copy)]
+pub enum Way {
+    // The left operand is one: the right one as it is.
+    Right,
+    // The right operand is one: the left one as it is.
+    Left,
+    // The left operand is a constant: the right one times it.
+    ScaledRight(f64),
+    // The right operand is a constant: the left one times it.
+    ScaledLeft(f64),
+    // The left operand is linear: the right one times that factor.
+    LineRight(Linear),
+    // The right operand is linear: the left one times that factor.
+    LineLeft(Linear),
+    // The general product.
+    General,
 }
 
 // Which way, where neither is a constant: by a linear factor, the left one first, or in general.
@@ -42,16 +49,13 @@ fn choose_line(a: &[f64], la: [usize; 4], b: &[f64], lb: [usize; 4]) -> Way
 {
     let f = readings::line::linear_of(a, la);
     if f.yes {
-        return Way { kind: 4, line: f };
+        return Way::LineRight(f);
     }
     let g = readings::line::linear_of(b, lb);
     if g.yes {
-        return Way { kind: 5, line: g };
+        return Way::LineLeft(g);
     }
-    Way {
-        kind: 6,
-        line: Linear::none(),
-    }
+    Way::General
 }
 
 // Which way a product goes.
@@ -62,40 +66,24 @@ pub fn choose(a: &[f64], la: [usize; 4], b: &[f64], lb: [usize; 4], stage: usize
     requires fact_4 { length b.now ≡ count lb }
     ensures { result ≡ chosen stage (block la a.now) (block lb b.now) }
 {
-    let none = Linear::none();
     let x = a[0];
     let y = b[0];
     let ca = a.len() == 1;
     let cb = b.len() == 1;
     if ca & (x == 1.0) {
-        return Way {
-            kind: 0,
-            line: none,
-        };
+        return Way::Right;
     }
     if cb & (y == 1.0) {
-        return Way {
-            kind: 1,
-            line: none,
-        };
+        return Way::Left;
     }
     if ca {
-        return Way {
-            kind: 2,
-            line: just(x),
-        };
+        return Way::ScaledRight(x);
     }
     if cb {
-        return Way {
-            kind: 3,
-            line: just(y),
-        };
+        return Way::ScaledLeft(y);
     }
     if stage == 0 {
-        return Way {
-            kind: 6,
-            line: none,
-        };
+        return Way::General;
     }
     choose_line(a, la, b, lb)
 }
@@ -160,36 +148,44 @@ fn scaled_to(c: f64, a: &[f64], n: [usize; 4], out: &mut [f64]) -> [usize; 4]
     n
 }
 
+// The general product of two blocks.
+fn general_to(
+    a: &[f64],
+    la: [usize; 4],
+    b: &[f64],
+    lb: [usize; 4],
+    limits: [usize; 4],
+    out: &mut [f64],
+) -> [usize; 4]
+    requires { Plain la lb limits (length a.now) (length b.now) (length out.old) }
+    ensures { Put (general_block limits (block la a.now) (block lb b.now)) out.old out.new result }
+{
+    let r = shape::limits::sum_shape(limits, la, lb);
+    let z = shape_words::places::count_of(r);
+    product_general::general(a, la, b, lb, r, &mut out[..z]);
+    r
+}
+
 // The ways that ask for no other product.
 fn plain(
     a: &[f64],
     la: [usize; 4],
     b: &[f64],
     lb: [usize; 4],
-    kind: usize,
-    c: f64,
+    way: Way,
     limits: [usize; 4],
     out: &mut [f64],
 ) -> [usize; 4]
     requires { Plain la lb limits (length a.now) (length b.now) (length out.old) }
-    ensures { Put (plain_product limits kind c (block la a.now) (block lb b.now)) out.old out.new result }
+    ensures { Put (plain_product limits (kind_of way) (line_of way).c (block la a.now) (block lb b.now)) out.old out.new result }
 {
-    if kind == 0 {
-        return copied(b, lb, out);
+    match way {
+        Way::Right => copied(b, lb, out),
+        Way::Left => copied(a, la, out),
+        Way::ScaledRight(c) => scaled_to(c, b, lb, out),
+        Way::ScaledLeft(c) => scaled_to(c, a, la, out),
+        _ => general_to(a, la, b, lb, limits, out),
     }
-    if kind == 1 {
-        return copied(a, la, out);
-    }
-    if kind == 2 {
-        return scaled_to(c, b, lb, out);
-    }
-    if kind == 3 {
-        return scaled_to(c, a, la, out);
-    }
-    let r = shape::limits::sum_shape(limits, la, lb);
-    let z = shape_words::places::count_of(r);
-    product_general::general(a, la, b, lb, r, &mut out[..z]);
-    r
 }
 
 // The sum of two blocks.
@@ -232,16 +228,11 @@ pub fn product(
         work.new out.new result }
 {
     let w = choose(&work[pa..ea], la, &work[pb..eb], lb, stage);
-    let kind = w.kind;
-    let line = w.line;
-    if kind == 4 {
-        return linear_product(work, pb, eb, lb, line, spare, limits, stage, out);
+    match w {
+        Way::LineRight(line) => linear_product(work, pb, eb, lb, line, spare, limits, stage, out),
+        Way::LineLeft(line) => linear_product(work, pa, ea, la, line, spare, limits, stage, out),
+        _ => plain(&work[pa..ea], la, &work[pb..eb], lb, w, limits, out),
     }
-    if kind == 5 {
-        return linear_product(work, pa, ea, la, line, spare, limits, stage, out);
-    }
-    let c = line.c;
-    plain(&work[pa..ea], la, &work[pb..eb], lb, kind, c, limits, out)
 }
 
 // The block p..e times a linear factor: m times it, shifted up by one, and, unless c is zero, the product by c added.
@@ -392,16 +383,11 @@ fn product_whole(
     ensures spent { length work.new ≡ length work.old }
 {
     let w = choose(a, la, b, lb, 1);
-    let kind = w.kind;
-    let line = w.line;
-    if kind == 4 {
-        return line_whole(b, lb, line, limits, out, work);
+    match w {
+        Way::LineRight(line) => line_whole(b, lb, line, limits, out, work),
+        Way::LineLeft(line) => line_whole(a, la, line, limits, out, work),
+        _ => plain(a, la, b, lb, w, limits, out),
     }
-    if kind == 5 {
-        return line_whole(a, la, line, limits, out, work);
-    }
-    let c = line.c;
-    plain(a, la, b, lb, kind, c, limits, out)
 }
 
 // The product of two operands with the lengths la and lb, to the front of `out`: zero is tested before the cut. n is

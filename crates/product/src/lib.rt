@@ -25,11 +25,7 @@ fn multiply_opened(
     ensures cleared { scratch.new ≡ product_scratch ah a.now bh b.now
         out.old scratch.old }
 {
-    let o = gates::open_product(ah, a.len(), bh, b.len(), out.len(), scratch.len());
-    let refusal = o.refusal;
-    if refusal.number != 0 {
-        return Answer::Refused(refusal);
-    }
+    let o = gates::open_product(ah, a.len(), bh, b.len(), out.len(), scratch.len())?;
     let x = o.a;
     let y = o.b;
     let h = o.told;
@@ -51,7 +47,7 @@ fn multiply_opened(
         &mut scratch[..room],
     );
     blocks::clear(&mut scratch[..room]);
-    Answer::Done(pack(Header::with_lengths(h, r)))
+    Ok(pack(Header::with_lengths(h, r)))
 }
 
 // a * b, cut to the smaller limits: refusals 1, 2, 5, 6.
@@ -67,8 +63,8 @@ pub fn multiply(
         scratch.old result out.new scratch.new }
 {
     let w = own::short_way(ah, a, bh, b, out.len(), scratch.len());
-    if w.kind != 6 {
-        return own::multiply_short(w, ah, a, out, scratch);
+    if let kernel::Way::General = w {
+        return multiply_opened(ah, a, bh, b, out, scratch);
     }
-    multiply_opened(ah, a, bh, b, out, scratch)
+    own::multiply_short(w, ah, a, out, scratch)
 }

@@ -1,29 +1,29 @@
 // A right factor that leaves the left operand's header as it is (crate product_kept): no limit cuts, the left operand's
 // word is the answer's, and a constant or a linear factor takes one pass.
-ghost use Rattle.std.specs.Prelude.{◌≡◌, ◌++◌, ◌*◌, length, take, drop};
+ghost use Rattle.std.specs.Prelude.{Ok, ◌≡◌, ◌++◌, ◌*◌, length, take, drop};
 ghost use Rattle.model.specs.Header.{count, stored};
 ghost use Rattle.model.specs.Word.{header_of};
 ghost use Rattle.model.specs.Refusals.{zeros};
 ghost use Rattle.model.specs.Poly.{block};
-ghost use Rattle.model.specs.declared.Answer.TheVariants.{Done};
 ghost use Rattle.shape_words.specs.Lengths.{Lengths};
-ghost use Rattle.product.specs.Own.{long_way, light_way, own_count, short_way, ShortBlock, ShortRoom, short_places};
+ghost use Rattle.product.specs.Own.{is_light, light_way, own_count, short_way, ShortBlock, ShortRoom, short_places};
 
-use crate::kernel::choose;
+use crate::kernel::{Way, choose};
 use gates::stored_of;
-use model::{Answer, Linear, Way};
+use model::Answer;
 use product_kept::keeps_header;
 use product_linear::{line_rows, scale};
 use shape_words::places::strides_of;
 use shape_words::word::{header_of, is_good};
 
-// No short way.
-fn long_way() -> Way
-    ensures { result ≡ long_way }
+// Whether a way is by a constant or a linear factor on the right, c neither zero nor one.
+fn is_light(w: Way) -> bool
+    ensures { result ≡ is_light w }
 {
-    Way {
-        kind: 6,
-        line: Linear::none(),
+    match w {
+        Way::ScaledLeft(c) => !((c == 0.0) | (c == 1.0)),
+        Way::LineLeft(line) => !((line.c == 0.0) | (line.c == 1.0)),
+        _ => false,
     }
 }
 
@@ -36,13 +36,7 @@ fn light_way(a: &[f64], la: [usize; 4], b: &[f64], lb: [usize; 4]) -> Way
     ensures { result ≡ light_way (block la a.now) (block lb b.now) }
 {
     let w = choose(a, la, b, lb, 1);
-    let line = w.line;
-    let kind = w.kind;
-    let c = line.c;
-    if ((kind == 3) | (kind == 5)) & !((c == 0.0) | (c == 1.0)) {
-        return w;
-    }
-    long_way()
+    if is_light(w) { w } else { Way::General }
 }
 
 // How many places the answer has, if the call is not refused, a product by the right factor, of two places at most, has
@@ -69,7 +63,7 @@ pub fn short_way(ah: u64, a: &[f64], bh: u64, b: &[f64], lent: usize, scratch: u
 {
     let n = own_count(ah, a.len(), bh, b.len(), lent, scratch);
     if n == 0 {
-        return long_way();
+        return Way::General;
     }
     let x = header_of(ah);
     let y = header_of(bh);
@@ -84,11 +78,13 @@ fn short_into(w: Way, a: &[f64], n: [usize; 4], to: &mut [f64])
     requires { ShortBlock w n (length a.now) (length to.old) }
     ensures { to.new ≡ short_places w n a.now }
 {
-    let line = w.line;
-    if w.kind == 3 {
-        scale(line.c, a, to);
+    if let Way::ScaledLeft(c) = w {
+        scale(c, a, to);
         return;
     }
+    let Way::LineLeft(line) = w else {
+        unreachable!()
+    };
     let v = line.variable;
     let strides = strides_of(n);
     let s = strides[v];
@@ -99,7 +95,7 @@ fn short_into(w: Way, a: &[f64], n: [usize; 4], to: &mut [f64])
 // The product that `short_way` found.
 pub fn multiply_short(w: Way, ah: u64, a: &[f64], out: &mut [f64], scratch: &mut [f64]) -> Answer
     requires { ShortRoom w (header_of ah) (length a.now) (length out.old) (length scratch.old) }
-    ensures answer { result ≡ Done ah }
+    ensures answer { result ≡ Ok ah }
     ensures written { out.new ≡ short_places w (header_of ah).lengths (take (stored (header_of ah)) a.now)
         ++ drop (stored (header_of ah)) out.old }
     ensures cleared { scratch.new ≡ zeros (8 * stored (header_of ah)) ++ drop (8 * stored (header_of ah)) scratch.old }
@@ -110,5 +106,5 @@ pub fn multiply_short(w: Way, ah: u64, a: &[f64], out: &mut [f64], scratch: &mut
     let room = 8 * n;
     short_into(w, &a[..n], la, &mut out[..n]);
     blocks::clear(&mut scratch[..room]);
-    Answer::Done(ah)
+    Ok(ah)
 }

@@ -31,12 +31,10 @@ fn each_pair(
     let ty = sy[v];
     let lo = product_lines::from(k, ly[v]);
     let hi = product_lines::upto(k, lx[v]);
-    let mut j = lo;
-    while j < hi {
+    for j in lo..hi {
         let p = j * tx;
         let q = (k - j) * ty;
         rows(&xs[p..], lx, sx, &ys[q..], ly, sy, r, sr, w, row);
-        j += 1;
     }
 }
 
@@ -57,13 +55,10 @@ fn each_row(
     requires { (Strided lx sx ly sy r sr) × ((Rowing lx ly r v (length xs.now) (length ys.now) (length res.old)) × (Several r v)) }
     ensures { res.new ≡ rows_of lx ly r v xs.now ys.now res.old }
 {
-    let n = r[v];
     let s = sr[v];
-    let mut k = 0;
-    while k < n {
+    for k in 0..r[v] {
         let at = k * s;
         each_pair(xs, lx, sx, ys, ly, sy, r, sr, v, k, &mut res[at..at + s]);
-        k += 1;
     }
 }
 

@@ -21,12 +21,10 @@ pub fn each_line(
     requires { Lining tx nx ty ny k a b (length xs.now) (length ys.now) (length row.old) }
     ensures { row.new ≡ lines_of xs.now tx nx ys.now ty ny k a b row.old }
 {
-    let mut j = a;
-    while j < b {
+    for j in a..b {
         let p = j * tx;
         let q = (k - j) * ty;
         product_lines::lines(&xs[p..], nx, &ys[q..], ny, row);
-        j += 1;
     }
 }
 
@@ -47,13 +45,11 @@ pub fn plane(
     requires { Planing mx tx nx my ty ny n s (length xs.now) (length ys.now) (length res.old) }
     ensures { res.new ≡ plane_of xs.now mx tx nx ys.now my ty ny s res.old }
 {
-    let mut k = 0;
-    while k < n {
+    for k in 0..n {
         let at = k * s;
         let a = product_lines::from(k, my);
         let b = product_lines::upto(k, mx);
         each_line(xs, tx, nx, ys, ty, ny, k, a, b, &mut res[at..at + s]);
-        k += 1;
     }
 }
 

@@ -11,11 +11,8 @@ pub fn scale(c: f64, a: &[f64], to: &mut [f64])
     requires { length to.old ≡ length a.now }
     ensures { to.new ≡ table (length a.now) (scaled_at c a.now) }
 {
-    let n = to.len();
-    let mut k = 0;
-    while k < n {
-        to[k] = c * a[k];
-        k += 1;
+    for (k, place) in to.iter_mut().enumerate() {
+        *place = c * a[k];
     }
 }
 
@@ -25,15 +22,13 @@ fn raise_row(a: &[f64], m: f64, s: usize, to: &mut [f64])
     ensures { to.new ≡ table (length to.old) (raised_row m s a.now) }
 {
     blocks::clear(&mut to[..s]);
-    let n = to.len();
-    let mut k = s;
-    while k < n {
+    for k in s..to.len() {
         to[k] = a[k - s] * m;
-        k += 1;
     }
 }
 
 // Row by row, each of `width` places in `a` and of `step` in `to`.
+#[tactic(auto, using(crate::specs::Raised::row_fits))]
 pub fn raise_rows(a: &[f64], m: f64, s: usize, width: usize, step: usize, to: &mut [f64])
     requires { Rows s width step (length a.now) (length to.old) }
     ensures { to.new ≡ table (length to.old) (raised_flat m s width step a.now) }
@@ -52,11 +47,8 @@ fn line_first(c: f64, a: &[f64], to: &mut [f64])
     requires { length to.old ≤ length a.now }
     ensures { to.new ≡ table (length to.old) (lined_first c a.now) }
 {
-    let n = to.len();
-    let mut k = 0;
-    while k < n {
-        to[k] = (0.0 + 0.0) + c * a[k];
-        k += 1;
+    for (k, place) in to.iter_mut().enumerate() {
+        *place = (0.0 + 0.0) + c * a[k];
     }
 }
 
@@ -65,11 +57,8 @@ fn line_middle(m: f64, a: &[f64], c: f64, b: &[f64], to: &mut [f64])
     requires { (length to.old ≤ length a.now) × (length to.old ≤ length b.now) }
     ensures { to.new ≡ table (length to.old) (lined_middle m a.now c b.now) }
 {
-    let n = to.len();
-    let mut k = 0;
-    while k < n {
-        to[k] = (0.0 + a[k] * m) + c * b[k];
-        k += 1;
+    for (k, place) in to.iter_mut().enumerate() {
+        *place = (0.0 + a[k] * m) + c * b[k];
     }
 }
 
@@ -78,11 +67,8 @@ fn line_last(m: f64, a: &[f64], to: &mut [f64])
     requires { length to.old ≤ length a.now }
     ensures { to.new ≡ table (length to.old) (lined_last m a.now) }
 {
-    let n = to.len();
-    let mut k = 0;
-    while k < n {
-        to[k] = 0.0 + a[k] * m;
-        k += 1;
+    for (k, place) in to.iter_mut().enumerate() {
+        *place = 0.0 + a[k] * m;
     }
 }
 
@@ -99,7 +85,9 @@ fn line_row(a: &[f64], c: f64, m: f64, s: usize, to: &mut [f64])
     line_last(m, &a[w - s..w], &mut to[w..n]);
 }
 
-// Row by row, each of `width` places in `a` and of `step` in `to`.
+// Row by row, each of `width` places in `a` and of `step` in `to`. No loop shared with `raise_rows`: what a closure
+// does to a part of `to` would make its contract longer than the loop.
+#[tactic(auto, using(crate::specs::Raised::row_fits))]
 pub fn line_rows(a: &[f64], c: f64, m: f64, s: usize, width: usize, step: usize, to: &mut [f64])
     requires fact_1 { Rows s width step (length a.now) (length to.old) }
     requires fact_2 { (s ≤ width) × (width ≤ step) }

@@ -31,10 +31,8 @@ pub fn sum_on(xs: &[f64], ys: &[f64], k: usize, a: usize, b: usize, acc: f64) ->
     ensures { result ≡ walk (term xs.now ys.now k) (b - a) a acc }
 {
     let mut sum = acc;
-    let mut j = a;
-    while j < b {
+    for j in a..b {
         sum = sum + xs[j] * ys[k - j];
-        j += 1;
     }
     sum
 }

@@ -24,11 +24,8 @@ fn divide_by(c: f64, a: &[f64], to: &mut [f64])
     requires { length to.old ≡ length a.now }
     ensures { to.new ≡ table (length a.now) (divided_at c a.now) }
 {
-    let n = to.len();
-    let mut k = 0;
-    while k < n {
-        to[k] = a[k] / c;
-        k += 1;
+    for (k, place) in to.iter_mut().enumerate() {
+        *place = a[k] / c;
     }
 }
 
@@ -103,15 +100,12 @@ fn each_first(
         work.old work.new }
     ensures spent { length row.new ≡ length row.old }
 {
-    let n = r[0];
     let s = sr[0];
     let end = p + s;
-    let mut k = 0;
-    while k < n {
+    for k in 0..r[0] {
         let at = q + k * s;
         gather_first(work, lx, nx, p, q, b, f, ly, sy, r, sr, k, &mut row[..s]);
         quotient_levels::level(work, p, end, at, b, f, ly, sy, r, sr, 1, row);
-        k += 1;
     }
 }
 

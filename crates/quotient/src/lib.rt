@@ -29,11 +29,7 @@ pub fn divide(
         b.len(),
         out.len(),
         scratch.len(),
-    );
-    let refusal = o.refusal;
-    if refusal.number != 0 {
-        return Answer::Refused(refusal);
-    }
+    )?;
     let x = o.a;
     let y = o.b;
     let h = o.told;
@@ -56,5 +52,5 @@ pub fn divide(
         &mut scratch[..room],
     );
     blocks::clear(&mut scratch[..room]);
-    Answer::Done(pack(h))
+    Ok(pack(h))
 }

@@ -14,10 +14,7 @@ pub fn lessen(row: &[f64], work: &mut [f64], from: usize, to: usize)
         (λ i. add binary64 (neg (get_or row.now i nan)) (get_or work.old (from + i) nan)))
         (length work.old) work.old work.new }
 {
-    let n = row.len();
-    let mut i = 0;
-    while i < n {
-        work[to + i] = -row[i] + work[from + i];
-        i += 1;
+    for (i, x) in row.iter().enumerate() {
+        work[to + i] = -*x + work[from + i];
     }
 }

@@ -37,12 +37,10 @@ fn taken_by_rows(
     let s = sr[v];
     let t = sy[v];
     let lo = product_lines::from(k, ly[v]);
-    let mut j = lo;
-    while j < k {
+    for j in lo..k {
         let p = j * s;
         let q = (k - j) * t;
         product_general::rows(&done[p..], r, sr, &ys[q..], ly, sy, r, sr, w, row);
-        j += 1;
     }
 }
 
@@ -106,10 +104,8 @@ fn through(c: f64, v: usize) -> f64
     ensures { result ≡ walk passed (4 - (v + 1)) (v + 1) c }
 {
     let mut x = c;
-    let mut j = v + 1;
-    while j < 4 {
+    for _j in v + 1..4 {
         x = -0.0 + x;
-        j += 1;
     }
     x
 }
@@ -129,14 +125,12 @@ fn line(
     requires { Line ly r v p e q b f (length work.old) }
     ensures { Laid q (level_of ly r (part b f work.old) v (part p e work.old)) e work.old work.new }
 {
-    let mut k = 0;
-    while k < r[v] {
+    for k in 0..r[v] {
         let end = q + k;
         let lo = product_lines::from(k, ly[v]);
         let sum = product_lines::sum_on(&work[q..end], &work[b..f], k, lo, k, 0.0);
         let c = through(-sum + work[p + k], v);
         work[end] = c / work[b];
-        k += 1;
     }
 }
 
@@ -161,15 +155,12 @@ fn each_row(
     ensures spent { length row.new ≡ length row.old }
 {
     let w = v + 1;
-    let n = r[v];
     let s = sr[v];
     let end = e + s;
-    let mut k = 0;
-    while k < n {
+    for k in 0..r[v] {
         let at = q + k * s;
         gather(work, p, e, q, b, f, ly, sy, r, sr, v, k, &mut row[..s]);
         level(work, e, end, at, b, f, ly, sy, r, sr, w, row);
-        k += 1;
     }
 }
 

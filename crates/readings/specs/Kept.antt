@@ -4,7 +4,7 @@ use Rattle.std.proofs.Common.{sym, leb-true, leb-false, length-take-le}
 use Rattle.lists.specs.Test.{decide}
 use Rattle.lists.specs.Table.{length-table}
 use Rattle.model.specs.declared.Family.TheVariants.{Term, Order}
-use Rattle.model.specs.Header.{header, len, stored, no_header, zero_with, var_with}
+use Rattle.model.specs.Header.{len, stored, no_header, zero_with, var_with}
 use Rattle.model.specs.Announced.{announced}
 use Rattle.model.specs.Refusals.{zero_f}
 use Rattle.model.specs.Poly.{Poly}

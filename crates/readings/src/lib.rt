@@ -11,8 +11,7 @@ ghost use Rattle.model.specs.Promises.{ExtractLinearPromise, TailPromise, LeastP
 use gates::stored_of;
 use model::{Answer, CountReading, Family, Header, LinearReading, Reading, Refusal};
 use readings_sums::{least_at, sum_to, tail_at};
-use shape::announce::announced_of;
-use shape_words::word::{header_of, pack};
+use shape_words::word::pack;
 
 // +0.0, with no variables: refusal 5.
 pub fn zero(out: &mut [f64]) -> Answer
@@ -59,26 +58,16 @@ pub fn var_with_degrees_p1(
 ) -> Answer
     ensures { VarWithDegreesP1Promise v x vars limits out.old result out.new }
 {
-    let refusal = gates::var_with_gate(v, vars, limits, out.len());
-    if refusal.number != 0 {
-        return Answer::Refused(refusal);
-    }
-    readings_short::write_short(Header::var_with_degrees_p1(v, vars, limits), x, out)
+    let h = gates::var_with_gate(v, vars, limits, out.len())?;
+    readings_short::write_short(h, x, out)
 }
 
 // x + v, every variable up to v under one limit: refusals 1, 3, 5.
 pub fn var(v: usize, x: f64, limit: usize, out: &mut [f64]) -> Answer
     ensures { VarPromise v x limit out.old result out.new }
 {
-    let refusal = gates::var_gate(v, limit, out.len());
-    if refusal.number != 0 {
-        return Answer::Refused(refusal);
-    }
-    readings_short::write_short(
-        Header::var_with_degrees_p1(v, v + 1, [limit, limit, limit, limit]),
-        x,
-        out,
-    )
+    let h = gates::var_gate(v, limit, out.len())?;
+    readings_short::write_short(h, x, out)
 }
 
 // v itself, every variable up to it under one limit: refusals 1, 3, 5.
@@ -92,115 +81,81 @@ pub fn var_at_zero(v: usize, limit: usize, out: &mut [f64]) -> Answer
 pub fn coefficient(head: u64, a: &[f64], index: [usize; 4]) -> Reading
     ensures { CoefficientPromise head a.now index result }
 {
-    let refusal = gates::index_gate(head, a.len(), index);
-    if refusal.number != 0 {
-        return Reading::Refused(refusal);
-    }
-    let h = header_of(head);
+    let h = gates::index_gate(head, a.len(), index)?;
     let lengths = h.lengths;
     if !shape_words::places::is_inside(lengths, index) {
-        return Reading::Done(0.0);
+        return Ok(0.0);
     }
     let k = shape_words::places::place_of(lengths, index);
-    Reading::Done(a[k])
+    Ok(a[k])
 }
 
 // The coefficient at the index 0, 0, 0, 0: refusals 1, 2.
 pub fn constant_term(head: u64, a: &[f64]) -> Reading
     ensures { ConstantTermPromise head a.now result }
 {
-    let refusal = gates::read_gate(head, a.len());
-    if refusal.number != 0 {
-        return Reading::Refused(refusal);
-    }
-    Reading::Done(a[0])
+    let _h = gates::read_gate(head, a.len())?;
+    Ok(a[0])
 }
 
 // The value where every variable is 1: refusals 1, 2.
 pub fn evaluate_all_one(head: u64, a: &[f64]) -> Reading
     ensures { EvaluateAllOnePromise head a.now result }
 {
-    let refusal = gates::read_gate(head, a.len());
-    if refusal.number != 0 {
-        return Reading::Refused(refusal);
-    }
-    Reading::Done(sum_to(a, stored_of(header_of(head))))
+    let h = gates::read_gate(head, a.len())?;
+    Ok(sum_to(a, stored_of(h)))
 }
 
 // Whether the polynomial is c + m * v: refusals 1, 2.
 pub fn extract_linear(head: u64, a: &[f64]) -> LinearReading
     ensures { ExtractLinearPromise head a.now result }
 {
-    let refusal = gates::read_gate(head, a.len());
-    if refusal.number != 0 {
-        return LinearReading::Refused(refusal);
-    }
-    let h = header_of(head);
+    let h = gates::read_gate(head, a.len())?;
     let count = stored_of(h);
     let n = h.lengths;
-    LinearReading::Done(line::linear_of(&a[..count], n))
+    Ok(line::linear_of(&a[..count], n))
 }
 
 // One variable: a total less the sum of the stored coefficients 0 to k, over the total; refusals 1, 2, 3, 4.
 pub fn tail(head: u64, a: &[f64], k: usize, total: f64) -> Reading
     ensures { TailPromise head a.now k total result }
 {
-    let refusal = gates::tail_gate(head, a.len(), k, total);
-    if refusal.number != 0 {
-        return Reading::Refused(refusal);
-    }
-    let h = header_of(head);
+    let h = gates::tail_gate(head, a.len(), k, total)?;
     let n = h.lengths;
-    Reading::Done(tail_at(a, n[0], k, total))
+    Ok(tail_at(a, n[0], k, total))
 }
 
 // One variable: the least k whose running sum, of the stored coefficients 0 to k, is at least q; refusals 1, 2, 3, 11.
 pub fn least(head: u64, a: &[f64], q: f64) -> CountReading
     ensures { LeastPromise head a.now q result }
 {
-    let refusal = gates::sole_gate(head, a.len());
-    if refusal.number != 0 {
-        return CountReading::Refused(refusal);
-    }
-    let h = header_of(head);
+    let h = gates::sole_gate(head, a.len())?;
     let n = h.lengths;
     let k = least_at(a, n[0], q);
     if n[0] <= k {
-        return CountReading::Refused(Refusal::by(11));
+        return Err(Refusal::by(11));
     }
-    CountReading::Done(k)
+    Ok(k)
 }
 
 // The powers of v up to `order`: refusals 1, 2, 3, 4, 5.
 pub fn taylor_polynomial(head: u64, a: &[f64], v: usize, order: usize, out: &mut [f64]) -> Answer
     ensures { TaylorPolynomialPromise head a.now v order out.old result out.new }
 {
-    let refusal = gates::in_gate(Family::Order(v, order), v, order, head, a.len(), out.len());
-    if refusal.number != 0 {
-        return Answer::Refused(refusal);
-    }
-    let h = header_of(head);
-    let r = announced_of(Family::Order(v, order), h, Header::none());
-    let given = stored_of(h);
-    let count = stored_of(r);
+    let o = gates::open_in(Family::Order(v, order), v, order, head, a.len(), out.len())?;
+    let h = o.a;
+    let r = o.told;
     let n = h.lengths;
     let c = r.lengths;
-    blocks::load(&a[..given], n, c, &mut out[..count]);
-    Answer::Done(pack(r))
+    blocks::load(&a[..o.na], n, c, &mut out[..o.n]);
+    Ok(pack(r))
 }
 
 // The row `order` of v, a zero past the stored length: refusals 1, 2, 3, 4, 5.
 pub fn coefficients_of_term(head: u64, a: &[f64], v: usize, order: usize, out: &mut [f64]) -> Answer
     ensures { CoefficientsOfTermPromise head a.now v order out.old result out.new }
 {
-    let refusal = gates::in_gate(Family::Term(v), v, order, head, a.len(), out.len());
-    if refusal.number != 0 {
-        return Answer::Refused(refusal);
-    }
-    let h = header_of(head);
-    let r = announced_of(Family::Term(v), h, Header::none());
-    let given = stored_of(h);
-    let count = stored_of(r);
-    let x = readings_row::take_term(&a[..given], h, r, v, order, &mut out[..count]);
-    Answer::Done(pack(x))
+    let o = gates::open_in(Family::Term(v), v, order, head, a.len(), out.len())?;
+    let x = readings_row::take_term(&a[..o.na], o.a, o.told, v, order, &mut out[..o.n]);
+    Ok(pack(x))
 }

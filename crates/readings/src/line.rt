@@ -11,13 +11,10 @@ use model::Linear;
 fn zeros_but(a: &[f64], s: usize) -> bool
     ensures { result ≡ zeros_but a.now s (length a.now) }
 {
-    let mut k = 0;
-    while k < a.len() {
-        let x = a[k];
-        if !((k == 0) | (k == s) | (x == 0.0)) {
+    for (k, x) in a.iter().enumerate() {
+        if !((k == 0) | (k == s) | (*x == 0.0)) {
             return false;
         }
-        k += 1;
     }
     true
 }
@@ -39,9 +36,7 @@ pub fn linear_of(a: &[f64], n: [usize; 4]) -> Linear
     ensures { result ≡ linear (block n a.now) }
 {
     let s = shape_words::places::strides_of(n);
-    let mut left = 4;
-    while 0 < left {
-        let v = 4 - left;
+    for v in 0..4 {
         let t = s[v];
         if fits_in(a, n[v], t) {
             return Linear {
@@ -51,7 +46,6 @@ pub fn linear_of(a: &[f64], n: [usize; 4]) -> Linear
                 variable: v,
             };
         }
-        left -= 1;
     }
     Linear::none()
 }

@@ -1,7 +1,7 @@
 -- The row of one variable: where it is read, and what is copied at once: the places that differ in the last variable
 -- alone.
 use Rattle.std.specs.Prelude.{ℕ, zero, suc, ◌+◌, ◌-◌, ◌≤◌, ◌<◌, List, [], ◌∷◌, ◌≡◌, refl, length, get_or, set, take, drop, Float}
-use Rattle.std.proofs.Common.{sym, ap, ◌∙◌, arith, lit<}
+use Rattle.std.proofs.Common.{sym, ap, ◌∙◌, arith}
 use Rattle.std.specs.Float.{nan}
 use Rattle.lists.specs.Four.{at, one-changed}
 use Rattle.lists.specs.Table.{table, table_same}
@@ -11,7 +11,7 @@ use Rattle.model.specs.Places.{place, index}
 use Rattle.model.specs.Poly.{block, read_at}
 use Rattle.shape_words.specs.Lengths.{Lengths, Inside, RowAt, sizes-of, inside-four, inside-at}
 use Rattle.shape_words.specs.Places.{place-lt, index-inside, horner}
-use Rattle.blocks.specs.Rows.{AtRow, at_row, row_fits, along_row, index-row}
+use Rattle.blocks.specs.Rows.{at_row, row_fits, along_row, index-row}
 use Rattle.blocks.specs.ByRow.{ByRow}
 
 -- what `pick` asks: n and c the lengths of the blocks, m and l those of their buffers, d the row of v

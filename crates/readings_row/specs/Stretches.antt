@@ -1,8 +1,8 @@
 -- A row of a variable as it lies in its block where no length cuts it: in stretches as long as the variable's stride,
 -- one row of the variables up to it apart.
-use Prim.Native.Nat.{ℕ, zero, suc, ◌+◌, ◌-◌, ◌*◌, ◌/◌, ◌%◌, ◌≤◌, ◌<◌}
-use Rattle.std.specs.Prelude.{List, ◌++◌, ◌≡◌, refl, length, get_or, set, take, drop, Float}
-use Rattle.std.proofs.Common.{sym, ◌∙◌, arith}
+use Prim.Native.Nat.{ℕ, suc, ◌+◌, ◌*◌, ◌/◌, ◌%◌, ◌≤◌, ◌<◌}
+use Rattle.std.specs.Prelude.{List, ◌++◌, ◌≡◌, length, get_or, set, take, drop, Float}
+use Rattle.std.proofs.Common.{◌∙◌, arith}
 use Rattle.std.proofs.Math.Path.{ap}
 use Rattle.std.proofs.Math.Nat.{suc-mul, div-one, mod-one}
 use Rattle.std.proofs.Math.Arith.{digits_div, digits_mod}

@@ -1,5 +1,5 @@
 -- Where no length cuts it, a row of a variable lies in stretches: which places they are.
-use Rattle.std.specs.Prelude.{ℕ, zero, suc, ◌+◌, ◌-◌, ◌*◌, ◌/◌, ◌%◌, ◌≤◌, ◌<◌, List, [], ◌∷◌, ◌≡◌, refl, ltb, set, Float}
+use Rattle.std.specs.Prelude.{ℕ, suc, ◌+◌, ◌-◌, ◌*◌, ◌/◌, ◌%◌, ◌≤◌, ◌<◌, List, [], ◌∷◌, ◌≡◌, refl, ltb, set, Float}
 use Rattle.std.proofs.Common.{sym, subst, ◌∙◌, arith, add-mul, mul_assoc, mul-one, one-mul, zero-mul, zero-add}
 use Rattle.std.proofs.Common.{add-zero, mul-le-mul, mul-le-mul_right, suc-mul, le_trans, lit≤, ltb-true, ltb-false}
 use Rattle.std.proofs.Math.Path.{ap}

@@ -20,11 +20,9 @@ fn pick_every(a: &[f64], from: usize, step: usize, to: &mut [f64])
     requires { Stretched from 1 step (length a.now) (length to.old) }
     ensures { to.new ≡ table (length to.old) (stretch_at a.now from 1 step) }
 {
-    let mut k = 0;
     let mut at = from;
-    while k < to.len() {
-        to[k] = a[at];
-        k += 1;
+    for x in to.iter_mut() {
+        *x = a[at];
         at += step;
     }
 }

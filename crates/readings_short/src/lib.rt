@@ -1,8 +1,7 @@
 // What a constructor writes: one coefficient, or two.
 #![tactic(auto)]
 
-ghost use Rattle.std.specs.Prelude.{◌≡◌, ◌≤◌, ◌<◌, length};
-ghost use Rattle.model.specs.declared.Answer.TheVariants.{Done};
+ghost use Rattle.std.specs.Prelude.{Ok, ◌≡◌, ◌≤◌, ◌<◌, length};
 ghost use Rattle.model.specs.Header.{stored, zero_with};
 ghost use Rattle.model.specs.Word.{word_of};
 ghost use Rattle.model.specs.Refusals.{written};
@@ -17,14 +16,14 @@ use model::{Answer, Header};
 pub fn write_short(h: Header, x: f64, out: &mut [f64]) -> Answer
     requires fact_1 { HeaderReady h (length out.old) }
     requires fact_2 { stored h ≤ 2 }
-    ensures answer { result ≡ Done (word_of h) }
+    ensures answer { result ≡ Ok (word_of h) }
     ensures written { out.new ≡ written (stored h) (variable h x).coeffs out.old }
 {
     out[0] = x;
     if 2 <= gates::stored_of(h) {
         out[1] = 1.0;
     }
-    Answer::Done(shape_words::word::pack(h))
+    Ok(shape_words::word::pack(h))
 }
 
 // A constant that carries the first `vars` of the limits.
@@ -33,9 +32,6 @@ pub fn constant_with(x: f64, vars: usize, limits: [usize; 4], out: &mut [f64]) -
     ensures written { out.new ≡ out_after (with_gate vars limits (length out.old)) (zero_with vars limits)
         (constant (zero_with vars limits) x) out.old }
 {
-    let refusal = gates::with_gate(vars, limits, out.len());
-    if refusal.number != 0 {
-        return Answer::Refused(refusal);
-    }
-    write_short(Header::zero_with(vars, limits), x, out)
+    let h = gates::with_gate(vars, limits, out.len())?;
+    write_short(h, x, out)
 }

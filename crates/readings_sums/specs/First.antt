@@ -8,9 +8,9 @@ use Rattle.std.proofs.Common.{ap, ◌∙◌, ltb-true, ltb-false}
 use native.Mathlib.Omega.{arith}
 use Rattle.std.proofs.Math.ListN.{length}
 use Rattle.std.specs.Float.Ieee.{nan, le}
-use Rattle.lists.specs.Table.{table, length-table, table_at}
+use Rattle.lists.specs.Table.{length-table, table_at}
 use Rattle.lists.specs.Test.{decide, of-both}
-use Rattle.lists.specs.Walk.{walk, Walked, walked_none, walked_more, walked_end}
+use Rattle.lists.specs.Walk.{Walked, walked_none, walked_more, walked_end}
 use Rattle.model.specs.Refusals.{zero_f}
 use Rattle.model.specs.Readings.{sum_to}
 use Rattle.model.specs.Least.{running_sums, first_at_least, least_of}

@@ -12,10 +12,8 @@ pub fn sum_to(a: &[f64], n: usize) -> f64
     ensures { result ≡ sum_to a.now n }
 {
     let mut sum = 0.0;
-    let mut i = 0;
-    while i < n {
-        sum = sum + a[i];
-        i += 1;
+    for i in 0..n {
+        sum += a[i];
     }
     sum
 }
@@ -45,13 +43,11 @@ pub fn least_at(a: &[f64], n: usize, q: f64) -> usize
     ensures { result ≡ least_of a.now n q }
 {
     let mut sum = 0.0;
-    let mut k = 0;
-    while k < n {
-        sum = sum + a[k];
+    for k in 0..n {
+        sum += a[k];
         if q <= sum {
             return k;
         }
-        k += 1;
     }
     n
 }

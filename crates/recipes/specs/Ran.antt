@@ -1,10 +1,11 @@
 -- What a run answers and leaves behind: everything as it was where it is refused before its first step; else a clear
 -- scratch, and each step's value and true header or, where a step stopped it, zeros for them.
-use Rattle.std.specs.Prelude.{ℕ, ◌+◌, ◌≤◌, List, map, ◌++◌, ◌≡◌, length, drop, Float}
+use Rattle.std.specs.Prelude.{Ok, Err, OnOk, OnErr, refl, ℕ, ◌+◌, ◌≤◌, List, map, ◌++◌, ◌≡◌, length, drop, Float}
 use Rattle.std.proofs.Common.{sym, ap, ◌∙◌}
 use Rattle.model.specs.declared.Refusal.{Refusal}
-use Rattle.model_recipes.specs.declared.RunAnswer.TheVariants.{Done, Refused}
 use Rattle.model.specs.Word.{word_of}
+use Rattle.model.specs.Passes.{Says}
+use Rattle.model_recipes.specs.Results.{RunAnswer}
 use Rattle.model.specs.Refusals.{cleared}
 use Rattle.model_recipes.specs.Recipe.{Recipe, announced_steps, total, largest}
 use Rattle.model_recipes.specs.Check.{check_refusal}
@@ -23,7 +24,7 @@ module _ (it : Recipe) (cs : List Float) (pool : List Float) (words : List ℕ) 
   refusal = a.answer
 
   module _ (n : r.number ≡ 0 → ⊥) where
-    pub no_answer : Refused r ≡ run_answer it cs pool words scratch
+    pub no_answer : Err r ≡ run_answer it cs pool words scratch
     unfolding run_answer run_end
     no_answer = rw (← refusal, end_refused r (run_stop it cs) n)
 
@@ -57,7 +58,7 @@ module _ (it : Recipe) (cs : List Float) (pool : List Float) (words : List ℕ) 
       stopped_by : (run_stop it cs).number ≡ 0 → ⊥
       stopped_by y = n (ap (λ (x : Refusal). x.number) eq ∙ y)
 
-      pub stop-answer : Refused q ≡ run_answer it cs pool words scratch
+      pub stop-answer : Err q ≡ run_answer it cs pool words scratch
       unfolding run_answer run_end
       stop-answer = rw (← refusal, end-stopped r (run_stop it cs) z stopped_by, eq)
 
@@ -78,7 +79,7 @@ module _ (it : Recipe) (cs : List Float) (pool : List Float) (words : List ℕ) 
       made_all : (run_stop it cs).number ≡ 0
       made_all = ap (λ (x : Refusal). x.number) (sym eq) ∙ y
 
-      pub yes-answer : Done ≡ run_answer it cs pool words scratch
+      pub yes-answer : (Ok tt) ≡ run_answer it cs pool words scratch
       unfolding run_answer run_end
       yes-answer = rw (← refusal, end-done r (run_stop it cs) z made_all)
 
@@ -95,3 +96,17 @@ module _ (it : Recipe) (cs : List Float) (pool : List Float) (words : List ℕ) 
       pub yes-scratch : {s : List Float} → s ≡ cleared (largest (announced_steps it)) scratch → s ≡ run_scratch it cs pool words scratch
       unfolding run_scratch run_end
       yes-scratch e = rw (← refusal, end-done r (run_stop it cs) z made_all) e
+
+    -- how it ends, and what it leaves
+    pub ended : (stop : RunAnswer) {p s : List Float} {w : List ℕ}
+        → Says (λ q. q ≡ run_stop it cs) stop
+        → OnOk stop (p ≡ laid (announced_steps it) (step_values it cs) ++ drop (total (announced_steps it)) pool)
+        → OnOk stop (w ≡ map (λ v. word_of v.head) (step_values it cs) ++ drop (length it.steps) words)
+        → OnErr stop (p ≡ zero_pool (total (announced_steps it)) pool)
+        → OnErr stop (w ≡ zero_words (length it.steps) words)
+        → s ≡ cleared (largest (announced_steps it)) scratch
+        → (stop ≡ run_answer it cs pool words scratch) × ((p ≡ run_pool it cs pool words scratch)
+        × ((w ≡ run_words it cs pool words scratch) × (s ≡ run_scratch it cs pool words scratch)))
+    ended (Ok u) e v x _ _ k = (yes-answer e refl, (yes-pool e refl v, (yes-words e refl x, yes-scratch e refl k)))
+    ended (Err q) e _ _ v x k =
+        (stop-answer e.holds e.some, (stop-pool e.holds e.some v, (stop-words e.holds e.some x, stop-scratch e.holds e.some k)))

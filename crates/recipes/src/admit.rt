@@ -1,6 +1,7 @@
 // Whether a recipe is run, and the run of one that is admitted.
-ghost use Rattle.std.specs.Prelude.{◌≡◌, map, ◌++◌, ◌-◌, ◌≤◌, length, take, drop};
+ghost use Rattle.std.specs.Prelude.{◌≡◌, OnOk, OnErr, map, ◌++◌, ◌-◌, ◌≤◌, length, take, drop};
 ghost use Rattle.model.specs.Word.{word_of};
+ghost use Rattle.model.specs.Passes.{Says};
 ghost use Rattle.model.specs.Refusals.{cleared};
 ghost use Rattle.model_recipes.specs.Recipe.{recipe_of, announced_steps, total, largest};
 ghost use Rattle.model_recipes.specs.Run.{step_values, laid, zero_pool, zero_words, run_stop};
@@ -23,34 +24,31 @@ pub fn admit(
     words: usize,
     scratch: usize,
     known: &mut [u64],
-) -> Refusal
+) -> Result<(), Refusal>
     requires { 64 ≤ length known.old }
-    ensures { Admits (recipe_of edition headers.now steps.now) coefficients pool words scratch known.old
-        known.new result }
+    ensures { Says (Admits (recipe_of edition headers.now steps.now) coefficients pool words scratch known.old
+        known.new) result }
 {
-    let refusal = judge(headers, steps, edition, known);
-    if refusal.number != 0 {
-        return refusal;
-    }
+    judge(headers, steps, edition, known)?;
     if coefficients < total_of(headers) {
-        return Refusal::by(2);
+        return Err(Refusal::by(2));
     }
     let from = headers.len();
     let to = from + steps.len();
     let total = total_of(&known[from..to]);
     if !((total <= pool) & (steps.len() <= words)) {
-        return Refusal::by(5);
+        return Err(Refusal::by(5));
     }
     if scratch < 8 * largest_of(&known[from..to]) {
-        return Refusal::by(6);
+        return Err(Refusal::by(6));
     }
-    Refusal::none()
+    Ok(())
 }
 
 // How a run of a recipe that was judged ends: what stopped it, if anything did, and where the last value begins.
 #[derive(Clone, Copy)]
 pub struct Ended {
-    pub stop: Refusal,
+    pub stop: Result<(), Refusal>,
     pub last: usize,
 }
 
@@ -70,17 +68,17 @@ pub fn run_admitted(
     requires fact_1 { Admitted (recipe_of edition headers.now steps.now) coefficients.now known.old (length pool.old)
         (length scratch.old) }
     requires fact_2 { length steps.now ≤ length words.old }
-    ensures stop { result.stop ≡ run_stop (recipe_of edition headers.now steps.now) coefficients.now }
-    ensures values { result.stop.number ≡ 0 → pool.new
+    ensures stop { Says (λ r. r ≡ run_stop (recipe_of edition headers.now steps.now) coefficients.now) result.stop }
+    ensures values { OnOk result.stop (pool.new
         ≡ laid (announced_steps (recipe_of edition headers.now steps.now))
         (step_values (recipe_of edition headers.now steps.now) coefficients.now)
-        ++ drop (total (announced_steps (recipe_of edition headers.now steps.now))) pool.old }
-    ensures words { result.stop.number ≡ 0 → words.new ≡ map (λ v. word_of v.head)
+        ++ drop (total (announced_steps (recipe_of edition headers.now steps.now))) pool.old) }
+    ensures words { OnOk result.stop (words.new ≡ map (λ v. word_of v.head)
         (step_values (recipe_of edition headers.now steps.now) coefficients.now)
-        ++ drop (length steps.now) words.old }
-    ensures no_values { (result.stop.number ≡ 0 → ⊥) → pool.new
-        ≡ zero_pool (total (announced_steps (recipe_of edition headers.now steps.now))) pool.old }
-    ensures no_words { (result.stop.number ≡ 0 → ⊥) → words.new ≡ zero_words (length steps.now) words.old }
+        ++ drop (length steps.now) words.old) }
+    ensures no_values { OnErr result.stop (pool.new
+        ≡ zero_pool (total (announced_steps (recipe_of edition headers.now steps.now))) pool.old) }
+    ensures no_words { OnErr result.stop (words.new ≡ zero_words (length steps.now) words.old) }
     ensures cleared { scratch.new
         ≡ cleared (largest (announced_steps (recipe_of edition headers.now steps.now))) scratch.old }
     ensures last { result.last ≡ total (take (length steps.now - 1)
@@ -109,13 +107,10 @@ pub fn run_admitted(
         leave_zeros(total, steps.len(), pool, words);
         let place = (from + made) as u8;
         return Ended {
-            stop: Refusal::at(12, place),
+            stop: Err(Refusal::at(12, place)),
             last,
         };
     }
     note_inputs(&known[from..to], words);
-    Ended {
-        stop: Refusal::none(),
-        last,
-    }
+    Ended { stop: Ok(()), last }
 }

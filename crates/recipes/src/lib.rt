@@ -9,7 +9,7 @@ ghost use Rattle.model_recipes.specs.Recipe.{recipe_of};
 ghost use Rattle.model_recipes.specs.Promises.{CheckPromise, RunPromise};
 
 use admit::{admit, run_admitted};
-use model_recipes::{CheckAnswer, RunAnswer};
+use model_recipes::{CheckAnswer, RunAnswer, Totals};
 use recipes_check::{judge, largest_of, total_of};
 
 // What a run of the recipe in an edition takes, or why there is none: refusals 7, 1, 3, 4, 5.
@@ -17,19 +17,16 @@ pub fn check(headers: &[u64], steps: &[u64], edition: u64) -> CheckAnswer
     ensures { CheckPromise (recipe_of edition headers.now steps.now) result }
 {
     let mut known = [0u64; 64];
-    let refusal = judge(headers, steps, edition, &mut known);
-    if refusal.number != 0 {
-        return CheckAnswer::Refused(refusal);
-    }
+    judge(headers, steps, edition, &mut known)?;
     let from = headers.len();
     let to = from + steps.len();
     let pool = total_of(&known[from..to]);
     let largest = largest_of(&known[from..to]);
-    CheckAnswer::Accepted {
+    Ok(Totals {
         pool,
         largest,
         inputs: total_of(headers),
-    }
+    })
 }
 
 // The values of the steps, end to end at announced counts in the pool, and their true headers in `words`: refusals of
@@ -50,7 +47,7 @@ pub fn run(
         scratch.new }
 {
     let mut known = [0u64; 64];
-    let refused = admit(
+    admit(
         headers,
         steps,
         edition,
@@ -59,10 +56,7 @@ pub fn run(
         words.len(),
         scratch.len(),
         &mut known,
-    );
-    if refused.number != 0 {
-        return RunAnswer::Refused(refused);
-    }
+    )?;
     let ended = run_admitted(
         headers,
         coefficients,
@@ -73,9 +67,5 @@ pub fn run(
         words,
         scratch,
     );
-    let stop = ended.stop;
-    if stop.number != 0 {
-        return RunAnswer::Refused(stop);
-    }
-    RunAnswer::Done
+    ended.stop
 }

@@ -34,11 +34,9 @@ fn note_starts(headers: &[u64], starts: &mut [usize])
     ensures { Begun headers.now (length headers.now) starts.old starts.new }
 {
     let mut from = 0;
-    let mut i = 0;
-    while i < headers.len() {
+    for (i, word) in headers.iter().enumerate() {
         starts[i] = from;
-        from += stored_of(header_of(headers[i]));
-        i += 1;
+        from += stored_of(header_of(*word));
     }
 }
 
@@ -181,16 +179,15 @@ pub fn run_steps(
     ensures spent { length scratch.new ≡ length scratch.old }
 {
     let inputs = headers.len();
-    let mut i = 0;
-    while i < steps.len() {
-        let s = step_of(steps[i]);
+    for (i, word) in steps.iter().enumerate() {
+        let s = step_of(*word);
         let p = inputs + i;
         let at = starts[p];
         if is_stop(s, inputs, starts, coefficients, &pool[..at]) {
             return i;
         }
         let room = stored_of(header_of(known[p]));
-        let word = step_word(
+        known[p] = step_word(
             edition,
             s,
             inputs,
@@ -202,8 +199,6 @@ pub fn run_steps(
             room,
             scratch,
         );
-        known[p] = word;
-        i += 1;
     }
-    i
+    steps.len()
 }

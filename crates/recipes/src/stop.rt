@@ -1,7 +1,6 @@
 // A step that stops a run (document 02, W13): how it is found, and what is left then.
 ghost use Rattle.std.specs.Prelude.{◌≡◌, ◌≤◌, ◌<◌, ltb, length, get_or};
 ghost use Rattle.std.specs.Float.{nan};
-ghost use Rattle.lists.specs.Table.{table};
 ghost use Rattle.model_recipes.specs.Run.{zero_pool, zero_words};
 ghost use Rattle.shape_operands.specs.Lent.{source};
 ghost use Rattle.recipes.specs.Stopping.{constant_at, stops_by, Headed};
@@ -35,18 +34,6 @@ pub fn is_stop(s: Step, inputs: usize, starts: &[usize], coefficients: &[f64], p
     !in_range(constant)
 }
 
-// Every word 0.
-fn clear_words(words: &mut [u64])
-    ensures { words.new ≡ table (length words.old) (λ k. 0) }
-{
-    let n = words.len();
-    let mut i = 0;
-    while i < n {
-        words[i] = 0;
-        i += 1;
-    }
-}
-
 // What a stop leaves: +0.0 in the announced pool, 0 in a word for each step.
 pub fn leave_zeros(total: usize, count: usize, pool: &mut [f64], words: &mut [u64])
     requires { (total ≤ length pool.old) × (count ≤ length words.old) }
@@ -54,5 +41,5 @@ pub fn leave_zeros(total: usize, count: usize, pool: &mut [f64], words: &mut [u6
     ensures words { words.new ≡ zero_words count words.old }
 {
     blocks::clear(&mut pool[..total]);
-    clear_words(&mut words[..count]);
+    words[..count].fill(0);
 }

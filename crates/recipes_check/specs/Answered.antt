@@ -1,10 +1,9 @@
 -- The check's answer, from its refusal and the words that the places announce.
-use Rattle.std.specs.Prelude.{ℕ, zero, suc, ◌+◌, ◌-◌, ◌≤◌, List, [], ◌∷◌, map, ◌≡◌, refl, length, take, drop}
+use Rattle.std.specs.Prelude.{Err, ℕ, zero, suc, ◌+◌, ◌-◌, ◌≤◌, List, [], ◌∷◌, map, ◌≡◌, refl, length, take, drop}
 use Rattle.std.proofs.Common.{sym, ap, ◌∙◌, arith, eq-eqb, ne_eqb}
 use Rattle.lists.specs.All.{all_drop}
 use Rattle.lists.specs.Part.{drop-take}
 use Rattle.model.specs.declared.Refusal.{Refusal}
-use Rattle.model_recipes.specs.declared.CheckAnswer.TheVariants.{Accepted, Refused}
 use Rattle.model.specs.Header.{no_header}
 use Rattle.model.specs.Word.{header_of}
 use Rattle.model_recipes.specs.Recipe.{Recipe, input_heads, announced_steps, total, largest}
@@ -13,6 +12,7 @@ use Rattle.shape_words.specs.Rules.{Regular, none-regular}
 use Rattle.recipes_kinds.specs.Known.{Known}
 use Rattle.recipes_check.specs.Inputs.{inputs-known}
 use Rattle.recipes_check.specs.Judged.{Judged, accepts, places-known}
+use Rattle.model_recipes.specs.Results.{accepting}
 
 pub drop-map : {A B : Type 0} (f : A → B) (n : ℕ) (l : List A) → drop n (map f l) ≡ map f (drop n l)
 drop-map f zero l = refl
@@ -42,11 +42,11 @@ passed {it} {old} {new} {r} j z =
       inputs = inputs-known it.headers a.inputs;
     }
 
-pub answer_no : (it : Recipe) {r : Refusal} → r ≡ check_refusal it → (r.number ≡ 0 → ⊥) → Refused r ≡ check_answer it
+pub answer_no : (it : Recipe) {r : Refusal} → r ≡ check_refusal it → (r.number ≡ 0 → ⊥) → Err r ≡ check_answer it
 unfolding check_answer check_by
 answer_no it {r} e n = rw (← e) (simp (ne_eqb r.number 0 n))
 
 pub answer-yes : (it : Recipe) {r : Refusal} {x y z : ℕ} → r ≡ check_refusal it → r.number ≡ 0 → x ≡ total (announced_steps it)
-    → y ≡ largest (announced_steps it) → z ≡ total (input_heads it.headers) → Accepted x y z ≡ check_answer it
+    → y ≡ largest (announced_steps it) → z ≡ total (input_heads it.headers) → accepting x y z ≡ check_answer it
 unfolding check_answer check_by
 answer-yes it {r} e n p q u = rw (← e) (simp (eq-eqb r.number 0 n, p, q, u))

@@ -1,9 +1,8 @@
--- The check's loops over the inputs: what is left to look at decides as the whole does, and their words are noted.
-use Rattle.std.specs.Prelude.{ℕ, zero, suc, ◌+◌, ◌≤◌, ◌<◌, Bool, true, false, List, [], ◌∷◌, ◌++◌, ◌≡◌, refl, length, get_or, take, drop, set}
+-- The check's loop over the inputs: what is left to look at decides as the whole does.
+use Rattle.std.specs.Prelude.{ℕ, zero, suc, ◌+◌, ◌≤◌, ◌<◌, Bool, true, false, List, [], ◌∷◌, ◌≡◌, refl, length, get_or, drop}
 use Rattle.std.proofs.Math.Path.{sym, ap}
-use Rattle.std.proofs.Common.{◌∙◌, arith, add-one, length-take, drop_of_length-le, drop-cons, take_all, take-suc, length-take-le}
+use Rattle.std.proofs.Common.{◌∙◌, arith, add-one, drop_of_length-le, drop-cons}
 use Rattle.lists.specs.All.{All}
-use Rattle.lists.specs.Grow.{over, length_over, over-more}
 use Rattle.model.specs.Header.{no_header, span}
 use Rattle.model.specs.Word.{good_word}
 use Rattle.model.specs.Refusals.{ask_for, no_refusal}
@@ -58,26 +57,3 @@ inputs-good hs e = record { at = good-at 0 hs e }
 
 pub inputs-known : (hs : List ℕ) → (inputs_refusal 0 hs).number ≡ 0 → Known (input_heads hs)
 inputs-known hs e = record { at = λ q. (good-at 0 hs e q).regular }
-
--- the loop that notes the inputs: new is `known` after i turns
-
-pub record Noted (hs old new : List ℕ) (i : ℕ) : Type 0 where
-  pub most : i ≤ length hs
-  pub is : new ≡ over (take i hs) old
-
-module _ {hs old : List ℕ} (fit : length hs ≤ length old) where
-  pub noted-len : {new : List ℕ} {i : ℕ} → Noted hs old new i → length new ≡ length old
-  noted-len {new} {i} n = ap length n.is ∙ length_over (take i hs) old (omega (arith, length-take i hs))
-
-  pub noted_more : {new : List ℕ} {i : ℕ} → Noted hs old new i → i < length hs → Noted hs old (set new i (get_or hs i 0)) (i + 1)
-  noted_more {new} {i} n l =
-      let t : take (i + 1) hs ≡ take i hs ++ (get_or hs i 0 ∷ []) = rw (add-one i) (take-suc hs i 0 l) in
-      record {
-        most = omega arith;
-        is =
-            ap (λ (x : List ℕ). set x i (get_or hs i 0)) n.is
-            ∙ (over-more (take i hs) old (get_or hs i 0) i (length-take-le i hs (omega arith)) (omega arith) ∙ ap (λ (x : List ℕ). over x old) (sym t));
-      }
-
-  pub noted_end : {new : List ℕ} {i : ℕ} → Noted hs old new i → length hs ≤ i → new ≡ over hs old
-  noted_end {new} {i} n l = n.is ∙ ap (λ (x : List ℕ). over x old) (take_all i hs l)

@@ -1,4 +1,3 @@
 pub mod Known
 pub mod Gated
-pub mod Arms
 pub mod Packed

@@ -2,6 +2,7 @@
 ghost use Rattle.std.specs.Prelude.{◌≡◌, true, cond, map, ◌<◌, ◌≤◌, ltb, length};
 ghost use Rattle.model.specs.Header.{limit};
 ghost use Rattle.model.specs.Word.{header_of};
+ghost use Rattle.model.specs.Passes.{Says};
 ghost use Rattle.model_recipes.specs.Recipe.{head_at, announced_step};
 ghost use Rattle.model_recipes.specs.Check.{lowers, step_refusal};
 ghost use Rattle.recipes_kinds.specs.Known.{Known};
@@ -69,26 +70,26 @@ fn below_limit(s: Step, a: Header) -> bool
 }
 
 // Why a step is refused in an edition: 7, 3, 4, 5. Its place is the number of places before it.
-pub fn gate(edition: u64, word: u64, known: &[u64]) -> Refusal
+pub fn gate(edition: u64, word: u64, known: &[u64]) -> Result<(), Refusal>
     requires fact_1 { Known (map header_of known.now) }
     requires fact_2 { length known.now ≤ 64 }
-    ensures { result ≡ step_refusal edition word (map header_of known.now) }
+    ensures { Says (λ r. r ≡ step_refusal edition word (map header_of known.now)) result }
 {
     let at = known.len();
     let place = at as u8;
     if !crate::step::is_formed(word, at) {
-        return Refusal::at(7, place);
+        return Err(Refusal::at(7, place));
     }
     let s = crate::step::step_of(word);
     let a = head_at(known, s.a);
     if !has_variable(s, a) {
-        return Refusal::at(3, place);
+        return Err(Refusal::at(3, place));
     }
     if !below_limit(s, a) {
-        return Refusal::at(4, place);
+        return Err(Refusal::at(4, place));
     }
     if Header::COUNT < stored_of(announce(edition, word, known)) {
-        return Refusal::at(5, place);
+        return Err(Refusal::at(5, place));
     }
-    Refusal::none()
+    Ok(())
 }

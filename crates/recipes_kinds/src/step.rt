@@ -118,6 +118,7 @@ const ROWS: [Uses; 16] = [
 ];
 
 // Which fields a kind uses.
+#[tactic(auto, unfolding(model_recipes::specs::Steps::rows))]
 pub fn uses_of(kind: usize) -> Uses
     requires { kind < 16 }
     ensures { result ≡ uses_of kind }
@@ -126,7 +127,7 @@ pub fn uses_of(kind: usize) -> Uses
 }
 
 // A used operand names a place before `at`; an unused one is zero.
-fn is_named(at: usize, used: bool, x: usize) -> bool
+pub fn is_named(at: usize, used: bool, x: usize) -> bool
     ensures { result ≡ named_before at used x }
 {
     if used { x < at } else { x == 0 }
@@ -171,20 +172,19 @@ fn power_family(edition: u64, n: u32) -> Family
 }
 
 // The family by which a step announces in an edition.
+#[tactic(auto, unfolding(model_recipes::specs::Recipe::families))]
 pub fn family_of(edition: u64, s: Step) -> Family
     ensures { result ≡ family_of edition s }
 {
-    let kind = s.kind;
-    match kind {
+    match s.kind {
         Step::NEGATE => Family::Same,
-        Step::ADD => Family::Sum,
-        Step::SUBTRACT => Family::Sum,
+        Step::ADD | Step::SUBTRACT => Family::Sum,
         Step::MULTIPLY => Family::Product,
         Step::DIVIDE => Family::Quotient,
         Step::POWER => power_family(edition, s.n),
-        Step::DERIVATIVE => Family::Shift(s.variable, s.n as usize),
-        Step::EXPANSION => Family::Shift(s.variable, s.n as usize),
-        Step::SHIFT_DOWN => Family::Shift(s.variable, s.n as usize),
+        Step::DERIVATIVE | Step::EXPANSION | Step::SHIFT_DOWN => {
+            Family::Shift(s.variable, s.n as usize)
+        }
         Step::SUBSTITUTION => Family::Substitution(s.variable),
         Step::EXP => Family::Series,
         _ => Family::Constant,

@@ -1,8 +1,7 @@
 -- What rests on laws of specs/ (Exact).
-use Rattle.std.specs.Prelude.{ℕ, ◌≡◌, refl}
+use Rattle.std.specs.Prelude.{Err, ℕ, ◌≡◌, refl}
 use Rattle.std.proofs.Common.{sym, ap, ◌∙◌, arith}
 use Rattle.model.specs.declared.Refusal.{Refusal}
-use Rattle.model_recipes.specs.declared.CheckAnswer.TheVariants.{Refused}
 use Rattle.model_recipes.specs.Recipe.{Recipe}
 use Rattle.model_recipes.specs.Check.{check_refusal}
 use Rattle.model_recipes.specs.Reasons.{FirstReason}
@@ -28,7 +27,7 @@ check-exact it =
           λ x y z e p n w. by-refusal q (λ a. accepted-none it o a w) (λ b. let c = no it b in let f : ◌≡◌ {A = ℕ} 0 1 = cc in omega (arith, f));
       refuses =
           λ r f. by-refusal q (λ z. absurd (accepted-none it o z f.reason))
-          (λ n. sym (no it n) ∙ ap Refused (first_one (refused-first it o n) f));
+          (λ n. sym (no it n) ∙ ap Err (first_one (refused-first it o n) f));
       refused =
           λ r e. by-refusal q (λ a. let c = yes it a in let f : ◌≡◌ {A = ℕ} 0 1 = cc in absurd (omega (arith, f)))
           (λ n. let c = no it n in let f : q ≡ r = cc in rw f at (refused-first it o n));

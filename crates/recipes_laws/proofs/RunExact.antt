@@ -1,11 +1,9 @@
 -- What rests on laws of specs/ (RunExact).
-use Rattle.std.specs.Prelude.{ℕ, List, ◌≡◌, leb, length, Float}
+use Rattle.std.specs.Prelude.{Err, ℕ, List, ◌≡◌, leb, length, Float}
 use Rattle.std.proofs.Math.Path.{refl, ap}
 use Rattle.std.proofs.Common.{sym, ◌∙◌, arith}
 use borrow.Author.Tests.{le-leb, lt-leb}
 use Rattle.model.specs.declared.Refusal.{Refusal}
-use Rattle.model_recipes.specs.declared.CheckAnswer.TheVariants as check-answer
-use Rattle.model_recipes.specs.declared.RunAnswer.TheVariants.{Refused}
 use Rattle.model_recipes.specs.Recipe.{Recipe, announced_steps, total}
 use Rattle.model_recipes.specs.Check.{or_else, check_refusal}
 use Rattle.model_recipes.specs.Reasons.{FirstReason, NoReason, RunReason, of_check, few_coefficients, short_pool, few_words, short_scratch}
@@ -36,7 +34,7 @@ module _ (it : Recipe) where
 
   pub is-first : {r : Refusal} → FirstReason it r → check ≡ r
   is-first {r} f =
-      let e : check-answer.Refused check ≡ check-answer.Refused r =
+      let e : Err check ≡ Err r =
       answer_no it {r = check} refl (is-refused f) ∙ (check-exact it).refuses r f in
       cc
 
@@ -110,7 +108,7 @@ module _ (it : Recipe) (cs : List Float) (pool : List Float) (words : List ℕ) 
   pub no_stop : ((r : Refusal) → (Reason it cs pool words scratch) r → ⊥) → q.number ≡ 0 → s.number ≡ 0
   no_stop f z = by-refusal s (λ y. y) (λ n. absurd (f s (late z n)))
 
-  pub refuses-by : {r : Refusal} → (Reason it cs pool words scratch) r → run_answer it cs pool words scratch ≡ Refused r
+  pub refuses-by : {r : Refusal} → (Reason it cs pool words scratch) r → run_answer it cs pool words scratch ≡ Err r
   unfolding run_answer run_end run_refusal
   refuses-by (before r x) = rw ((is_due x).is, end_refused r s (is_due x).some)
   refuses-by (at_step i f t) =

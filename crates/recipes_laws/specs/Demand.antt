@@ -5,11 +5,9 @@
 -- outside the range or NaN.' A stop 'leaves the announced pool and the used scratch at +0.0 and the step headers at 0'.
 -- Said of definitions of the room model alone, for all words, coefficients and buffers. The theorem is `demand_3`,
 -- proofs/Demanded.antt.
-use Rattle.std.specs.Prelude.{ℕ, ◌+◌, ◌*◌, ◌≤◌, ◌<◌, true, false, List, ◌≡◌, length, take, drop, get_or, Float}
+use Rattle.std.specs.Prelude.{Ok, Err, ℕ, ◌+◌, ◌*◌, ◌≤◌, ◌<◌, true, false, List, ◌≡◌, length, take, drop, get_or, Float}
 use Rattle.model.specs.declared.Header.{Header}
 use Rattle.model_recipes.specs.declared.Step.{Step}
-use Rattle.model_recipes.specs.declared.CheckAnswer.TheVariants.{Accepted}
-use Rattle.model_recipes.specs.declared.RunAnswer.TheVariants.{Done, Refused}
 use Rattle.model.specs.Header.{len, stored, no_header, good_header}
 use Rattle.model.specs.Word.{word_of}
 use Rattle.model.specs.Refusals.{refused_at, padded, cleared}
@@ -29,6 +27,7 @@ use Rattle.model_recipes.specs.Recipe.{Recipe, head_at, announced_places, announ
 use Rattle.model_recipes.specs.Check.{check_answer}
 use Rattle.model_recipes.specs.Run.{input_values, value_at, values, zero_pool, zero_words, run_answer, run_pool, run_words, run_scratch}
 use Rattle.model_recipes.specs.Stops.{FirstStop}
+use Rattle.model_recipes.specs.Results.{accepting}
 
 -- the value v keeps to the announced header h
 pub record AsAnnounced (h : Header) (v : Poly) : Type 0 where
@@ -86,14 +85,14 @@ module _ (it : Recipe) (cs : List Float) (pool : List Float) (words : List ℕ) 
         ≡ padded (stored (head (step_place i))) (value (step_place i)).coeffs
 
   pub record Finished : Type 0 where
-    pub done : run_answer it cs pool words scratch ≡ Done
+    pub done : run_answer it cs pool words scratch ≡ (Ok tt)
     -- the first places hold the inputs
     pub inputs : take (length it.headers) (values it cs) ≡ input_values it.headers cs
     pub steps : (i : ℕ) → i < length it.steps → StepDone i
 
   -- stopped at the step number i: 12 at its place, and no value, word or scratch of this run is left
   pub record StoppedAt (i : ℕ) : Type 0 where
-    pub answer : run_answer it cs pool words scratch ≡ Refused (refused_at 12 (step_place i))
+    pub answer : run_answer it cs pool words scratch ≡ Err (refused_at 12 (step_place i))
     pub pool_zero : run_pool it cs pool words scratch ≡ zero_pool (total (announced_steps it)) pool
     pub words_zero : run_words it cs pool words scratch ≡ zero_words (length it.steps) words
     pub scratch_zero : run_scratch it cs pool words scratch ≡ cleared (largest (announced_steps it)) scratch
@@ -103,7 +102,7 @@ module _ (it : Recipe) (cs : List Float) (pool : List Float) (words : List ℕ) 
     pub places : ℕ
     pub most : ℕ
     pub inputs : ℕ
-    pub accepted : check_answer it ≡ Accepted places most inputs
+    pub accepted : check_answer it ≡ accepting places most inputs
     pub coefficients : inputs ≤ length cs
     pub pool_long : places ≤ length pool
     pub words_long : length it.steps ≤ length words

@@ -1,6 +1,6 @@
 -- The check refuses exactly for document 01's reasons: it accepts where there is none, and only there; else it answers
 -- the first place that has one, with its lowest number and, of a header, its first variable and cause.
-use Rattle.std.specs.Prelude.{ℕ, suc, ◌+◌, ◌≤◌, ◌<◌, false, List, ◌≡◌, refl, ltb, eqb, take, get_or}
+use Rattle.std.specs.Prelude.{Err, ℕ, suc, ◌+◌, ◌≤◌, ◌<◌, false, List, ◌≡◌, refl, ltb, eqb, take, get_or}
 use Rattle.std.proofs.Common.{sym, ap, ◌∙◌, arith, le_antisymm, length-take-le}
 use Rattle.std.proofs.Math.ListN.{length}
 use Rattle.std.proofs.lemmas.List.{length-map}
@@ -9,7 +9,6 @@ use Rattle.lists.specs.Chain.{chain, length-chain}
 use Rattle.lists.specs.Test.{decide}
 use Rattle.model.specs.declared.Header.{Header}
 use Rattle.model.specs.declared.Refusal.{Refusal}
-use Rattle.model_recipes.specs.declared.CheckAnswer.TheVariants.{Accepted, Refused}
 use Rattle.model.specs.Word.{header_of, good_word}
 use Rattle.model.specs.Refusals.{refused_at}
 use Rattle.model.specs.Gates.{bad_word}
@@ -23,6 +22,7 @@ use Rattle.shape_words.specs.Faults as faults
 use Rattle.shape_words.specs.Faults.{good_none, bad-first}
 use Rattle.recipes_laws.specs.StepReasons.{numbers, step_clear, Stopped, step-stopped}
 use Rattle.recipes_laws.specs.Outcome.{GoodInputs, ClearSteps, refusal_of, Outcome, by_sizes, at_input, at_step, not_refused, outcome}
+use Rattle.model_recipes.specs.Results.{accepting}
 
 turn-place : (p : ℕ) → p < 64 → turn p ≡ suc p
 turn-place p l = simp (ne_eqb p 64 (λ e. omega (arith, e)))
@@ -170,21 +170,21 @@ module _ (it : Recipe) where
   r = check_refusal it
 
   -- the answer, by whether the check's refusal is none
-  pub yes : r.number ≡ 0 → Accepted (total (announced_steps it)) (largest (announced_steps it)) (total (input_heads it.headers)) ≡ check_answer it
+  pub yes : r.number ≡ 0 → accepting (total (announced_steps it)) (largest (announced_steps it)) (total (input_heads it.headers)) ≡ check_answer it
   yes z = answer-yes it {r = r} refl z refl refl refl
 
-  pub no : (r.number ≡ 0 → ⊥) → Refused r ≡ check_answer it
+  pub no : (r.number ≡ 0 → ⊥) → Err r ≡ check_answer it
   no n = answer_no it {r = r} refl n
 
 -- any words, any number of them
 pub record Exact (it : Recipe) : Type 0 where
   -- accepted, with the sums and the maximum of announced counts, where there is no reason
   pub accepts : ((p n : ℕ) → Reason it p n → ⊥)
-      → check_answer it ≡ Accepted (total (announced_steps it))
+      → check_answer it ≡ accepting (total (announced_steps it))
       (largest (announced_steps it)) (total (input_heads it.headers))
   -- and only there
-  pub accepted : (pool most inputs : ℕ) → check_answer it ≡ Accepted pool most inputs → (p n : ℕ) → Reason it p n → ⊥
+  pub accepted : (pool most inputs : ℕ) → check_answer it ≡ accepting pool most inputs → (p n : ℕ) → Reason it p n → ⊥
   -- refused for the first reason
-  pub refuses : (r : Refusal) → FirstReason it r → check_answer it ≡ Refused r
+  pub refuses : (r : Refusal) → FirstReason it r → check_answer it ≡ Err r
   -- and for nothing else
-  pub refused : (r : Refusal) → check_answer it ≡ Refused r → FirstReason it r
+  pub refused : (r : Refusal) → check_answer it ≡ Err r → FirstReason it r

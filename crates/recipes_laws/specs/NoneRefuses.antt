@@ -5,7 +5,6 @@
 use Rattle.std.specs.Prelude.{ℕ, ◌+◌, ◌*◌, ◌≤◌, ◌<◌, List, ◌≡◌, length, take, get_or, Float}
 use Rattle.std.proofs.Common.{arith}
 use Rattle.model.specs.declared.Refusal.{Refusal}
-use Rattle.model_recipes.specs.declared.CheckAnswer.TheVariants.{Accepted}
 use Rattle.model.specs.Header.{stored}
 use Rattle.model_recipes.specs.Recipe.{Recipe, up_to, head_at, announced_places}
 use Rattle.model_recipes.specs.Check.{check_answer}
@@ -13,6 +12,7 @@ use Rattle.model_recipes.specs.Run.{values, step_gate}
 use Rattle.recipes_laws.specs.Passed.{step-passes}
 use Rattle.recipes_laws.specs.Ahead.{announced-at, ready_at}
 use Rattle.recipes_laws.specs.Numbers.{numbers}
+use Rattle.model_recipes.specs.Results.{accepting}
 
 -- cs the inputs' coefficients, m the places of scratch
 module _ (it : Recipe) (cs : List Float) (m : ℕ) where
@@ -24,7 +24,7 @@ module _ (it : Recipe) (cs : List Float) (m : ℕ) where
   abbrev pub gate_at : ℕ → Refusal
   gate_at i = step_gate it.edition (get_or it.steps i 0) (values (up_to it i) cs) (places i) m
 
-  pub none-refuses : (pool most inputs : ℕ) → check_answer it ≡ Accepted pool most inputs → inputs ≤ length cs → 8 * most ≤ m
+  pub none-refuses : (pool most inputs : ℕ) → check_answer it ≡ accepting pool most inputs → inputs ≤ length cs → 8 * most ≤ m
       → (i : ℕ) → i < length it.steps → (gate_at i).number ≡ 0
   none-refuses pool most inputs e full room i l =
       let n = numbers it pool most inputs e in

@@ -1,12 +1,10 @@
 -- A run is refused exactly for the documents' reasons: by the check, or else by 2, 5 or 6 for a buffer that is too
 -- short, or else by 12 at the first step that stops it, and for nothing else. Where there is no reason it is done.
-use Rattle.std.specs.Prelude.{ℕ, ◌*◌, Bool, true, false, ◌&&◌, List, ◌≡◌, leb, length, Float}
+use Rattle.std.specs.Prelude.{Ok, Err, ℕ, ◌*◌, Bool, true, false, ◌&&◌, List, ◌≡◌, leb, length, Float}
 use Rattle.std.proofs.Math.Path.{refl, ap}
 use Rattle.std.proofs.Common.{sym, ◌∙◌, arith}
 use borrow.Author.Tests.{le-leb, lt-leb, leb-true, leb-false}
 use Rattle.model.specs.declared.Refusal.{Refusal}
-use Rattle.model_recipes.specs.declared.CheckAnswer.TheVariants as check-answer
-use Rattle.model_recipes.specs.declared.RunAnswer.TheVariants.{Done, Refused}
 use Rattle.model.specs.Refusals.{ask, no_refusal, refused_by}
 use Rattle.model_recipes.specs.Recipe.{Recipe, input_heads, announced_steps, total, largest}
 use Rattle.model_recipes.specs.Check.{or_else, check_refusal, check_answer}
@@ -58,11 +56,11 @@ module _ (it : Recipe) (cs : List Float) (pool : List Float) (words : List ℕ) 
 
   pub record RunExact : Type 0 where
     -- done where there is no reason
-    pub done : ((r : Refusal) → Reason r → ⊥) → run_answer it cs pool words scratch ≡ Done
+    pub done : ((r : Refusal) → Reason r → ⊥) → run_answer it cs pool words scratch ≡ (Ok tt)
     -- refused for a reason
-    pub refuses : (r : Refusal) → Reason r → run_answer it cs pool words scratch ≡ Refused r
+    pub refuses : (r : Refusal) → Reason r → run_answer it cs pool words scratch ≡ Err r
     -- and for nothing else
-    pub refused : (r : Refusal) → run_answer it cs pool words scratch ≡ Refused r → Reason r
+    pub refused : (r : Refusal) → run_answer it cs pool words scratch ≡ Err r → Reason r
 
   -- before the first step
   abbrev Early : Refusal → Type 0

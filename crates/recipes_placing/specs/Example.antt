@@ -1,5 +1,5 @@
 -- Placings worked out by hand.
-use Rattle.std.specs.Prelude.{List, [], ◌∷◌, ◌≡◌, refl, ℕ}
+use Rattle.std.specs.Prelude.{[], ◌∷◌, ◌≡◌, refl}
 use Rattle.lists.specs.Chain.{chain}
 use Rattle.lists.specs.Every.{every}
 use Rattle.model_placing.specs.Least.{least}

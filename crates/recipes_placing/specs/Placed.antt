@@ -1,7 +1,7 @@
 -- Laws of the second placing: each offset is the least that is free, parts that are live together lie apart, and the
 -- pool is no longer than the sum of all counts.
 use Prim.Native.Nat.{ℕ, zero, suc, ◌+◌, ◌≤◌, ◌<◌, max}
-use Rattle.std.specs.Prelude.{Bool, true, false, ◌&&◌, ◌||◌, not, ◌≡◌, refl, ◌⊎◌, leb, length}
+use Rattle.std.specs.Prelude.{Bool, true, false, ◌&&◌, ◌||◌, not, ◌≡◌, refl, leb, length}
 use mathlib.Core.List.{List, [], ◌∷◌, ◌++◌}
 use Rattle.std.proofs.Common.{sym, ◌∙◌, inl, inr, take-suc, get_or-take, length-take-le, le-leb, leb-true, leb-false}
 use Rattle.std.proofs.Math.Path.{ap}

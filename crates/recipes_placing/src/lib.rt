@@ -31,12 +31,10 @@ fn last_reader(steps: &[u64], place: usize, own: usize) -> usize
     ensures { result ≡ last_from place (suc own) (drop (suc own) steps.now) own }
 {
     let mut last = own;
-    let mut i = own + 1;
-    while i < steps.len() {
+    for i in own + 1..steps.len() {
         if is_read(steps[i], place) {
             last = i;
         }
-        i += 1;
     }
     last
 }
@@ -46,10 +44,8 @@ fn note_readers(steps: &[u64], inputs: usize, lasts: &mut [usize])
     requires { (length steps.now ≤ length lasts.old) × (inputs ≤ 64) }
     ensures { lasts.new ≡ front (length steps.now) (last_reader inputs steps.now) lasts.old }
 {
-    let mut j = 0;
-    while j < steps.len() {
+    for j in 0..steps.len() {
         lasts[j] = last_reader(steps, inputs + j, j);
-        j += 1;
     }
 }
 
@@ -87,16 +83,10 @@ fn place(lasts: &[usize], counts: &[usize], starts: &mut [usize]) -> usize
     ensures length { result ≡ needed lasts.now counts.now }
 {
     let mut top = 0;
-    let mut i = 0;
-    while i < counts.len() {
-        let count = counts[i];
-        let at = lowest(lasts, counts, &starts[..i], count);
+    for (i, count) in counts.iter().enumerate() {
+        let at = lowest(lasts, counts, &starts[..i], *count);
         starts[i] = at;
-        let end = at + count;
-        if top < end {
-            top = end;
-        }
-        i += 1;
+        top = top.max(at + *count);
     }
     top
 }
@@ -120,10 +110,8 @@ fn note_counts(words: &[u64], counts: &mut [usize])
     requires fact_2 { length words.now ≤ length counts.old }
     ensures { counts.new ≡ front (length words.now) (λ j. stored (header_of (get_or words.now j 0))) counts.old }
 {
-    let mut j = 0;
-    while j < words.len() {
-        counts[j] = stored_of(header_of(words[j]));
-        j += 1;
+    for (j, word) in words.iter().enumerate() {
+        counts[j] = stored_of(header_of(*word));
     }
 }
 

@@ -1,6 +1,6 @@
 -- The answer of the second check, from its refusal and the words that the places announce; and that its promise admits
 -- one.
-use Rattle.std.specs.Prelude.{ℕ, ◌-◌, ◌≤◌, ◌≡◌, drop}
+use Rattle.std.specs.Prelude.{Err, ℕ, ◌-◌, ◌≤◌, ◌≡◌, drop}
 use mathlib.Core.List.{List, map}
 use Rattle.std.proofs.Common.{sym, ◌∙◌, arith, eq-eqb, ne_eqb}
 use Rattle.std.proofs.Math.Path.{ap}
@@ -11,8 +11,7 @@ use Rattle.model.specs.Header.{stored}
 use Rattle.model.specs.Word.{header_of}
 use Rattle.model_recipes.specs.Recipe.{Recipe, input_heads, announced_steps, total, largest}
 use Rattle.model_recipes.specs.Check.{check_refusal}
-use Rattle.model_placing.specs.declared.ReuseAnswer.{ReuseAnswer}
-use Rattle.model_placing.specs.declared.ReuseAnswer.TheVariants.{Accepted, Refused}
+use Rattle.model_placing.specs.Results.{ReuseAnswer, accepting}
 use Rattle.model_placing.specs.Placing.{last_readers, offsets, needed, step_readers, step_counts, step_offsets, pool_needed, last_offset}
 use Rattle.model_placing.specs.Reuse.{reuse_by, check_reuse_answer, CheckReusePromise}
 use Rattle.recipes_placing.specs.Placed.{length-offsets}
@@ -22,12 +21,12 @@ use Rattle.recipes_placing.specs.Counted.{counts_of, length-counts}
 pub check_reuse-once : (it : Recipe) {r1 r2 : ReuseAnswer} → CheckReusePromise it r1 → CheckReusePromise it r2 → r1 ≡ r2
 check_reuse-once it p q = p ∙ sym q
 
-pub reuse_no : (it : Recipe) {r : Refusal} → r ≡ check_refusal it → (r.number ≡ 0 → ⊥) → Refused r ≡ check_reuse_answer it
+pub reuse_no : (it : Recipe) {r : Refusal} → r ≡ check_refusal it → (r.number ≡ 0 → ⊥) → Err r ≡ check_reuse_answer it
 unfolding check_reuse_answer reuse_by
 reuse_no it {r} e n = rw (← e) (simp (ne_eqb r.number 0 n))
 
 pub reuse-yes : (it : Recipe) {r : Refusal} {x y z o : ℕ} → r ≡ check_refusal it → r.number ≡ 0 → x ≡ pool_needed it
-    → y ≡ largest (announced_steps it) → z ≡ total (input_heads it.headers) → o ≡ last_offset it → Accepted x y z o ≡ check_reuse_answer it
+    → y ≡ largest (announced_steps it) → z ≡ total (input_heads it.headers) → o ≡ last_offset it → accepting x y z o ≡ check_reuse_answer it
 unfolding check_reuse_answer reuse_by
 reuse-yes it {r} e n p q u w = rw (← e) (simp (eq-eqb r.number 0 n, p, q, u, w))
 

@@ -5,7 +5,7 @@
 ghost use Rattle.model_recipes.specs.Recipe.{recipe_of};
 ghost use Rattle.model_placing.specs.Reuse.{CheckReusePromise};
 
-use model_placing::ReuseAnswer;
+use model_placing::{ReuseAnswer, ReuseTotals};
 use recipes_check::{judge, largest_of, total_of};
 use recipes_placing::place_recipe;
 
@@ -15,10 +15,7 @@ pub fn check_reuse(headers: &[u64], steps: &[u64], edition: u64) -> ReuseAnswer
     ensures { CheckReusePromise (recipe_of edition headers.now steps.now) result }
 {
     let mut known = [0u64; 64];
-    let refusal = judge(headers, steps, edition, &mut known);
-    if refusal.number != 0 {
-        return ReuseAnswer::Refused(refusal);
-    }
+    judge(headers, steps, edition, &mut known)?;
     let from = headers.len();
     let count = steps.len();
     let to = from + count;
@@ -26,10 +23,10 @@ pub fn check_reuse(headers: &[u64], steps: &[u64], edition: u64) -> ReuseAnswer
     let mut starts = [0usize; 64];
     let pool = place_recipe(steps, from, &known[from..to], &mut starts);
     let last = starts[count - 1];
-    ReuseAnswer::Accepted {
+    Ok(ReuseTotals {
         pool,
         largest,
         inputs: total_of(headers),
         last,
-    }
+    })
 }

@@ -9,16 +9,13 @@
 ghost use Rattle.io.specs.Counts.{IsPrefixLen};
 
 use decimals::put_float_of;
-use replay_input::{read_full, read_next};
+use replay_input::{each_case, read_next};
 use report_lines::put::put;
 use sheet_bits::word_of;
 use sheet_text::line::word_at;
 use sheet_text::print::put_line;
 use std::io;
 use std::io::Read;
-
-// More cases than any input has.
-const CASES: u64 = 1000000000000;
 
 // The line of a float; how many bytes of it there are.
 fn float_line(word: u64, to: &mut [u8]) -> usize
@@ -43,8 +40,8 @@ fn show_word(rt: &impl Print, word: u64) -> io::Result<()> {
 // What a text is read as.
 fn show(rt: &impl Print, text: &[u8]) -> io::Result<()> {
     match decimals_reading::read(text) {
-        model_decimals::Read::Number(x) => show_word(rt, word_of(x)),
-        model_decimals::Read::Refused => rt.write_all(b"refused\n"),
+        Some(x) => show_word(rt, word_of(x)),
+        None => rt.write_all(b"refused\n"),
     }
 }
 
@@ -55,30 +52,21 @@ fn run(rt: &impl Print, input: &mut impl Read, bytes: u64) -> io::Result<()> {
     show(rt, &text[..n])
 }
 
-// The next case; whether there was one.
-fn next(rt: &impl Print, input: &mut impl Read) -> io::Result<bool> {
-    let mut begin = [0u8; 17];
-    let got = read_full(input, &mut begin)?;
-    if got < 17 {
-        return Ok(false);
+// The case behind its first 17 bytes. Fewer are none.
+fn begun(rt: &impl Print, input: &mut impl Read, begin: &[u8]) -> io::Result<()> {
+    if begin.len() < 17 {
+        return Ok(());
     }
-    let word = word_at(&begin, 0);
+    let word = word_at(begin, 0);
     if begin[16] == 32 {
-        run(rt, input, word)?;
+        run(rt, input, word)
     } else {
-        show_float(rt, word)?;
+        show_float(rt, word)
     }
-    Ok(true)
 }
 
 fn main(rt: HostRuntime) -> io::Result<()> {
-    let mut input = rt.reader();
-    let mut left = CASES;
-    while 0 < left {
-        if !next(&rt, &mut input)? {
-            return Ok(());
-        }
-        left -= 1;
-    }
-    Ok(())
+    each_case(&mut rt.reader(), &mut [0u8; 17], |input, begin| {
+        begun(&rt, input, begin)
+    })
 }

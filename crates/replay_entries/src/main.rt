@@ -5,20 +5,22 @@
 // bits), how many coefficients a and b have (8 each), how many places of result (8) and of scratch (16) are lent, how
 // many numbers follow (8). Then come the headers of a and b, the numbers, the coefficients of a and those of b. Result
 // and scratch are lent full of a sentinel.
-// No contract can say what is read or printed; the functions that do neither (text.rt, tally.rt) say what they answer.
+// No contract can say what is read or printed; the functions that do neither (tally.rt, and `sheet_reading`'s that read
+// words) say what they answer.
 #![tactic(auto)]
 
 mod show;
 mod tally;
-mod text;
 
-ghost use Rattle.std.specs.Prelude.{◌≡◌, length};
+ghost use Rattle.std.specs.Prelude.{◌≡◌, [], ◌∷◌, length};
 
-use replay_input::read_full;
+use replay_input::{each_case, read_full};
+use shape::limits::least;
+use sheet_reading::{fill_floats, fill_words};
+use sheet_text::line::word_at;
 use show::{show_all, show_answer, show_count, show_linear, show_number, show_reading};
 use std::io;
 use std::io::Read;
-use text::{count_of, four, word_at};
 
 // How many numbers a case has at most; how many coefficients or places of result; how many places of scratch.
 const NUMBERS: usize = 7;
@@ -27,8 +29,12 @@ const PLACES: usize = 64;
 
 const SCRATCH: usize = 512;
 
-// More cases than any input has.
-const CASES: u64 = 1000000000000;
+// Four limits or indices.
+fn four(p: u64, q: u64, r: u64, s: u64) -> [usize; 4]
+    ensures { result ≡ p ∷ q ∷ r ∷ s ∷ [] }
+{
+    [p as usize, q as usize, r as usize, s as usize]
+}
 
 fn show_unknown(rt: &impl Print) -> io::Result<()> {
     rt.write_all(b"unknown")
@@ -248,8 +254,8 @@ fn act(
     if (20 <= op) & (op < 30) {
         read(rt, op, ah, a, x)?;
     } else {
-        let lent = count_of(w / 16777216 % 256, PLACES);
-        let room = count_of(w / 4294967296 % 65536, SCRATCH);
+        let lent = least((w / 16777216 % 256) as usize, PLACES);
+        let room = least((w / 4294967296 % 65536) as usize, SCRATCH);
         let mut out = [1.0000000000000002f64; 64];
         let mut scratch = [1.0000000000000002f64; 512];
         make_and_show(
@@ -280,14 +286,16 @@ fn go_on(
 ) -> io::Result<()>
     requires { (4096 ≡ length rest.old) × ((64 ≡ length a.old) × (64 ≡ length b.old)) }
 {
-    let na = count_of(w / 256 % 256, PLACES);
-    let nb = count_of(w / 65536 % 256, PLACES);
-    let n = count_of(w / 281474976710656 % 256, NUMBERS);
+    let na = least((w / 256 % 256) as usize, PLACES);
+    let nb = least((w / 65536 % 256) as usize, PLACES);
+    let n = least((w / 281474976710656 % 256) as usize, NUMBERS);
+    let mut numbers = [0u64; 7];
     let end = 17 * (n + na + nb);
     read_full(input, &mut rest[..end])?;
-    text::fill(rest, 17 * n, &mut a[..na]);
-    text::fill(rest, 17 * (n + na), &mut b[..nb]);
-    act(rt, w, ah, &a[..na], bh, &b[..nb], text::numbers_of(rest, n))
+    fill_words(rest, 0, &mut numbers[..n]);
+    fill_floats(rest, n, &mut a[..na]);
+    fill_floats(rest, n + na, &mut b[..nb]);
+    act(rt, w, ah, &a[..na], bh, &b[..nb], numbers)
 }
 
 // One case, from the text of its first three words.
@@ -308,25 +316,8 @@ fn run(rt: &impl Print, input: &mut impl Read, begin: &[u8]) -> io::Result<()> {
     )
 }
 
-// The next case; whether there was one.
-fn next(rt: &impl Print, input: &mut impl Read) -> io::Result<bool> {
-    let mut begin = [0u8; 51];
-    let got = read_full(input, &mut begin)?;
-    if got == 0 {
-        return Ok(false);
-    }
-    run(rt, input, &begin[..got])?;
-    Ok(true)
-}
-
 fn main(rt: HostRuntime) -> io::Result<()> {
-    let mut input = rt.reader();
-    let mut left = CASES;
-    while 0 < left {
-        if !next(&rt, &mut input)? {
-            return Ok(());
-        }
-        left -= 1;
-    }
-    Ok(())
+    each_case(&mut rt.reader(), &mut [0u8; 51], |input, begin| {
+        run(&rt, input, begin)
+    })
 }

@@ -6,26 +6,22 @@ ghost use Rattle.replay_entries.specs.Tally.{Leads, clear_at, untouched_at};
 pub fn cleared(xs: &[f64]) -> usize
     ensures { Leads (clear_at xs.now) (length xs.now) result }
 {
-    let mut k = 0;
-    while k < xs.len() {
-        if sheet_bits::word_of(xs[k]) != 0 {
+    for (k, x) in xs.iter().enumerate() {
+        if sheet_bits::word_of(*x) != 0 {
             return k;
         }
-        k += 1;
     }
-    k
+    xs.len()
 }
 
 // How many places from the back on hold the sentinel.
 pub fn untouched(xs: &[f64]) -> usize
     ensures { Leads (untouched_at xs.now) (length xs.now) result }
 {
-    let mut k = 0;
-    while k < xs.len() {
+    for k in 0..xs.len() {
         if sheet_bits::word_of(xs[xs.len() - 1 - k]) != 4607182418800017409 {
             return k;
         }
-        k += 1;
     }
-    k
+    xs.len()
 }

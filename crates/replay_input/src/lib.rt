@@ -4,6 +4,7 @@
 ghost use Rattle.std.specs.Prelude.{◌≡◌, min, length, drop, IfOk, IfErr};
 ghost use Rattle.io.specs.Counts.{IsPrefixLen};
 
+use model::Refusal;
 use shape::limits::least;
 use std::env::{Env, FillError};
 use std::io;
@@ -36,6 +37,33 @@ pub fn read_next(from: &mut impl Read, wanted: usize, to: &mut [u8]) -> io::Resu
     let n = least(wanted, to.len());
     read_full(from, &mut to[..n])?;
     Ok(n)
+}
+
+// Runs the cases of a reader to its end, each from its first bytes: as many as `begin` has, or as are left. What is
+// read no contract can say.
+pub fn each_case<R: Read, F: FnMut(&mut R, &[u8]) -> io::Result<()>>(
+    from: &mut R,
+    begin: &mut [u8],
+    mut run: F,
+) -> io::Result<()>
+    requires { F.IsAlwaysCallable run }
+{
+    for _ in 0..u64::MAX {
+        let got = read_full(from, begin)?;
+        if got == 0 {
+            break;
+        }
+        run(from, &begin[..got])?;
+    }
+    Ok(())
+}
+
+// A refusal as the programs that run stored cases print it.
+pub fn show_refusal(rt: &impl Print, r: Refusal) -> io::Result<()> {
+    print!(rt;
+        "refused {} {} {} {}",
+        r.number, r.place, r.variable, r.cause
+    )
 }
 
 // Argument i of the program, at the front of `to`; its length, 0 where it is missing or longer than `to`. Which text it

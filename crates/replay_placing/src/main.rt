@@ -8,10 +8,9 @@
 
 ghost use Rattle.std.specs.Prelude.{◌≡◌, length};
 
-use model::Refusal;
 use model_placing::ReuseAnswer;
 use recipes_reuse::check_reuse;
-use replay_input::read_full;
+use replay_input::{each_case, read_full, show_refusal};
 use shape::limits::least;
 use sheet_reading::fill_words;
 use sheet_text::line::word_at;
@@ -23,36 +22,20 @@ const HEADERS: usize = 32;
 
 const STEPS: usize = 128;
 
-// More cases than any input has.
-const CASES: u64 = 1000000000000;
-
 fn show_number(rt: &impl Print, n: u64) -> io::Result<()> {
     print!(rt; " {n}")
 }
 
-fn show_refusal(rt: &impl Print, r: Refusal) -> io::Result<()> {
-    rt.write_all(b"refused")?;
-    show_number(rt, r.number as u64)?;
-    show_number(rt, r.place as u64)?;
-    show_number(rt, r.variable as u64)?;
-    show_number(rt, r.cause as u64)
-}
-
 fn show(rt: &impl Print, r: ReuseAnswer) -> io::Result<()> {
     match r {
-        ReuseAnswer::Accepted {
-            pool,
-            largest,
-            inputs,
-            last,
-        } => {
+        Ok(t) => {
             rt.write_all(b"accepted")?;
-            show_number(rt, pool as u64)?;
-            show_number(rt, largest as u64)?;
-            show_number(rt, inputs as u64)?;
-            show_number(rt, last as u64)?;
+            show_number(rt, t.pool as u64)?;
+            show_number(rt, t.largest as u64)?;
+            show_number(rt, t.inputs as u64)?;
+            show_number(rt, t.last as u64)?;
         }
-        ReuseAnswer::Refused(e) => show_refusal(rt, e)?,
+        Err(e) => show_refusal(rt, e)?,
     }
     rt.write_all(b"\n")
 }
@@ -92,25 +75,8 @@ fn run(rt: &impl Print, input: &mut impl Read, begin: &[u8]) -> io::Result<()> {
     )
 }
 
-// The next case; whether there was one.
-fn next(rt: &impl Print, input: &mut impl Read) -> io::Result<bool> {
-    let mut begin = [0u8; 17];
-    let got = read_full(input, &mut begin)?;
-    if got == 0 {
-        return Ok(false);
-    }
-    run(rt, input, &begin[..got])?;
-    Ok(true)
-}
-
 fn main(rt: HostRuntime) -> io::Result<()> {
-    let mut input = rt.reader();
-    let mut left = CASES;
-    while 0 < left {
-        if !next(&rt, &mut input)? {
-            return Ok(());
-        }
-        left -= 1;
-    }
-    Ok(())
+    each_case(&mut rt.reader(), &mut [0u8; 17], |input, begin| {
+        run(&rt, input, begin)
+    })
 }

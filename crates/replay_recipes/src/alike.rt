@@ -6,14 +6,12 @@ pub fn alike_words(xs: &[u64], at: usize) -> usize
     requires { at < length xs.now }
     ensures { Alike (word_in xs.now) (length xs.now) at result }
 {
-    let mut k = at + 1;
-    while k < xs.len() {
+    for k in at + 1..xs.len() {
         if xs[k] != xs[at] {
             return k;
         }
-        k += 1;
     }
-    k
+    xs.len()
 }
 
 // Floats are told apart by their bits.
@@ -22,12 +20,10 @@ pub fn alike_floats(xs: &[f64], at: usize) -> usize
     ensures { Alike (bits_in xs.now) (length xs.now) at result }
 {
     let first = sheet_bits::word_of(xs[at]);
-    let mut k = at + 1;
-    while k < xs.len() {
+    for k in at + 1..xs.len() {
         if sheet_bits::word_of(xs[k]) != first {
             return k;
         }
-        k += 1;
     }
-    k
+    xs.len()
 }

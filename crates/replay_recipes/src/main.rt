@@ -16,7 +16,7 @@ mod show;
 
 ghost use Rattle.std.specs.Prelude.{◌≡◌, length};
 
-use replay_input::read_full;
+use replay_input::{each_case, read_full};
 use shape::limits::least;
 use sheet_reading::{fill_floats, fill_words};
 use sheet_text::line::word_at;
@@ -37,9 +37,6 @@ const POOL: usize = 8192;
 const WORDS: usize = 128;
 
 const SCRATCH: usize = 40000;
-
-// More cases than any input has.
-const CASES: u64 = 1000000000000;
 
 // A case in its buffers.
 fn act(
@@ -135,25 +132,8 @@ fn run(rt: &impl Print, input: &mut impl Read, begin: &[u8]) -> io::Result<()> {
     )
 }
 
-// The next case; whether there was one.
-fn next(rt: &impl Print, input: &mut impl Read) -> io::Result<bool> {
-    let mut begin = [0u8; 34];
-    let got = read_full(input, &mut begin)?;
-    if got == 0 {
-        return Ok(false);
-    }
-    run(rt, input, &begin[..got])?;
-    Ok(true)
-}
-
 fn main(rt: HostRuntime) -> io::Result<()> {
-    let mut input = rt.reader();
-    let mut left = CASES;
-    while 0 < left {
-        if !next(&rt, &mut input)? {
-            return Ok(());
-        }
-        left -= 1;
-    }
-    Ok(())
+    each_case(&mut rt.reader(), &mut [0u8; 34], |input, begin| {
+        run(&rt, input, begin)
+    })
 }

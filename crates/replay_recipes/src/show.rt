@@ -1,7 +1,7 @@
 // Printing of answers and buffers. A buffer is printed whole, equal neighbours once with their count.
 use crate::alike::{alike_floats, alike_words};
-use model::Refusal;
 use model_recipes::{CheckAnswer, RunAnswer};
+use replay_input::show_refusal;
 use std::io;
 
 fn show_number(rt: &impl Print, n: u64) -> io::Result<()> {
@@ -37,28 +37,16 @@ pub fn show_floats(rt: &impl Print, xs: &[f64]) -> io::Result<()> {
     Ok(())
 }
 
-fn show_refusal(rt: &impl Print, r: Refusal) -> io::Result<()> {
-    rt.write_all(b"refused")?;
-    show_number(rt, r.number as u64)?;
-    show_number(rt, r.place as u64)?;
-    show_number(rt, r.variable as u64)?;
-    show_number(rt, r.cause as u64)
-}
-
 pub fn show_check(rt: &impl Print, r: CheckAnswer) -> io::Result<()> {
     rt.write_all(b"check ")?;
     match r {
-        CheckAnswer::Accepted {
-            pool,
-            largest,
-            inputs,
-        } => {
+        Ok(t) => {
             rt.write_all(b"accepted")?;
-            show_number(rt, pool as u64)?;
-            show_number(rt, largest as u64)?;
-            show_number(rt, inputs as u64)?;
+            show_number(rt, t.pool as u64)?;
+            show_number(rt, t.largest as u64)?;
+            show_number(rt, t.inputs as u64)?;
         }
-        CheckAnswer::Refused(e) => show_refusal(rt, e)?,
+        Err(e) => show_refusal(rt, e)?,
     }
     Ok(())
 }
@@ -66,10 +54,10 @@ pub fn show_check(rt: &impl Print, r: CheckAnswer) -> io::Result<()> {
 pub fn show_run(rt: &impl Print, r: RunAnswer) -> io::Result<()> {
     rt.write_all(b" run ")?;
     match r {
-        RunAnswer::Done => {
+        Ok(()) => {
             rt.write_all(b"done")?;
         }
-        RunAnswer::Refused(e) => show_refusal(rt, e)?,
+        Err(e) => show_refusal(rt, e)?,
     }
     Ok(())
 }

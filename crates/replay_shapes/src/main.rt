@@ -129,86 +129,61 @@ fn told(f: Family, a: u64, b: u64) -> Header
 
 // What follows promises nothing: no contract can speak of what is written.
 
-fn space(rt: &impl Print) -> io::Result<()> {
-    rt.write_all(b" ")
-}
-
-fn number(rt: &impl Print, n: usize) -> io::Result<()> {
-    space(rt)?;
-    print!(rt; "{n}")
-}
-
-fn word(rt: &impl Print, w: u64) -> io::Result<()> {
-    space(rt)?;
-    print!(rt; "{w:016x}")
-}
-
-fn four(rt: &impl Print, n: [usize; 4]) -> io::Result<()> {
-    number(rt, n[0])?;
-    number(rt, n[1])?;
-    number(rt, n[2])?;
-    number(rt, n[3])
+fn numbers(rt: &impl Print, ns: [usize; 4]) -> io::Result<()> {
+    for n in ns {
+        print!(rt; " {n}")?;
+    }
+    Ok(())
 }
 
 // A word, whether it is good, and what it says.
 fn show_word(rt: &impl Print, w: u64) -> io::Result<()> {
-    print!(rt; "{w:016x}")?;
-    if is_good(w) {
-        let h = header_or_none(w);
-        let l = h.limits;
-        let n = h.lengths;
-        rt.write_all(b" good")?;
-        number(rt, h.vars)?;
-        four(rt, l)?;
-        four(rt, n)?;
-        number(rt, stored_of(h))?;
-    } else {
-        rt.write_all(b" bad")?;
+    if !is_good(w) {
+        return println!(rt; "{w:016x} bad");
     }
-    rt.write_all(b"\n")
+    let h = header_or_none(w);
+    print!(rt; "{w:016x} good {}", h.vars)?;
+    numbers(rt, h.limits)?;
+    numbers(rt, h.lengths)?;
+    println!(rt; " {}", stored_of(h))
 }
 
 fn show_result(rt: &impl Print, h: Header) -> io::Result<()>
     requires { Regular h }
 {
-    word(rt, pack(h))?;
-    number(rt, stored_of(h))?;
-    rt.write_all(b"\n")
+    println!(rt; " {:016x} {}", pack(h), stored_of(h))
 }
 
 // A family on one operand: its name, the operand, exponent or variable, n or order, what is announced and its count.
-fn show_one(rt: &impl Print, name: &[u8], a: u64, x: usize, n: usize, f: Family) -> io::Result<()> {
-    rt.write_all(name)?;
-    word(rt, a)?;
-    number(rt, x)?;
-    number(rt, n)?;
+fn show_one(rt: &impl Print, name: &str, a: u64, x: usize, n: usize, f: Family) -> io::Result<()> {
+    print!(rt; "{name} {a:016x} {x} {n}")?;
     show_result(rt, told(f, a, 0))
 }
 
 fn show_shifts(rt: &impl Print, a: u64, v: usize) -> io::Result<()> {
-    show_one(rt, b"shift", a, v, 0, Family::Shift(v, 0))?;
-    show_one(rt, b"shift", a, v, 1, Family::Shift(v, 1))?;
-    show_one(rt, b"shift", a, v, 63, Family::Shift(v, 63))
+    show_one(rt, "shift", a, v, 0, Family::Shift(v, 0))?;
+    show_one(rt, "shift", a, v, 1, Family::Shift(v, 1))?;
+    show_one(rt, "shift", a, v, 63, Family::Shift(v, 63))
 }
 
 fn show_ones(rt: &impl Print, a: u64) -> io::Result<()> {
-    show_one(rt, b"same", a, 0, 0, Family::Same)?;
-    show_one(rt, b"series", a, 0, 0, Family::Series)?;
-    show_one(rt, b"power", a, 0, 0, Family::Power(0))?;
-    show_one(rt, b"power", a, 1, 0, Family::Power(1))?;
-    show_one(rt, b"power", a, 2, 0, Family::Power(2))?;
-    show_one(rt, b"power", a, 5, 0, Family::Power(5))?;
-    show_one(rt, b"power", a, 4294967295, 0, Family::Power(4294967295))?;
+    show_one(rt, "same", a, 0, 0, Family::Same)?;
+    show_one(rt, "series", a, 0, 0, Family::Series)?;
+    show_one(rt, "power", a, 0, 0, Family::Power(0))?;
+    show_one(rt, "power", a, 1, 0, Family::Power(1))?;
+    show_one(rt, "power", a, 2, 0, Family::Power(2))?;
+    show_one(rt, "power", a, 5, 0, Family::Power(5))?;
+    show_one(rt, "power", a, 4294967295, 0, Family::Power(4294967295))?;
     show_shifts(rt, a, 0)?;
     show_shifts(rt, a, 1)?;
     show_shifts(rt, a, 3)?;
-    show_one(rt, b"term", a, 0, 0, Family::Term(0))?;
-    show_one(rt, b"term", a, 2, 0, Family::Term(2))?;
-    show_one(rt, b"order", a, 0, 0, Family::Order(0, 0))?;
-    show_one(rt, b"order", a, 1, 1, Family::Order(1, 1))?;
+    show_one(rt, "term", a, 0, 0, Family::Term(0))?;
+    show_one(rt, "term", a, 2, 0, Family::Term(2))?;
+    show_one(rt, "order", a, 0, 0, Family::Order(0, 0))?;
+    show_one(rt, "order", a, 1, 1, Family::Order(1, 1))?;
     show_one(
         rt,
-        b"order",
+        "order",
         a,
         3,
         18446744073709551615,
@@ -217,56 +192,30 @@ fn show_ones(rt: &impl Print, a: u64) -> io::Result<()> {
 }
 
 // A family on two operands: its name, the operands, the variable, what is announced and its count.
-fn show_pair(rt: &impl Print, name: &[u8], a: u64, b: u64, v: usize, f: Family) -> io::Result<()> {
-    rt.write_all(name)?;
-    word(rt, a)?;
-    word(rt, b)?;
-    number(rt, v)?;
+fn show_pair(rt: &impl Print, name: &str, a: u64, b: u64, v: usize, f: Family) -> io::Result<()> {
+    print!(rt; "{name} {a:016x} {b:016x} {v}")?;
     show_result(rt, told(f, a, b))
 }
 
 fn show_pairs(rt: &impl Print, a: u64, b: u64) -> io::Result<()> {
-    show_pair(rt, b"sum", a, b, 0, Family::Sum)?;
-    show_pair(rt, b"product", a, b, 0, Family::Product)?;
-    show_pair(rt, b"quotient", a, b, 0, Family::Quotient)?;
-    show_pair(rt, b"substitution", a, b, 0, Family::Substitution(0))?;
-    show_pair(rt, b"substitution", a, b, 2, Family::Substitution(2))
-}
-
-fn show_row(rt: &impl Print, a: u64) -> io::Result<()> {
-    let mut k = 0;
-    while k < SHAPES.len() {
-        show_pairs(rt, a, SHAPES[k])?;
-        k += 1;
-    }
-    Ok(())
-}
-
-fn show_words(rt: &impl Print) -> io::Result<()> {
-    let mut k = 0;
-    while k < WORDS.len() {
-        show_word(rt, WORDS[k])?;
-        k += 1;
-    }
-    Ok(())
-}
-
-fn show_all_ones(rt: &impl Print) -> io::Result<()> {
-    let mut k = 0;
-    while k < SHAPES.len() {
-        show_ones(rt, SHAPES[k])?;
-        k += 1;
-    }
-    Ok(())
+    show_pair(rt, "sum", a, b, 0, Family::Sum)?;
+    show_pair(rt, "product", a, b, 0, Family::Product)?;
+    show_pair(rt, "quotient", a, b, 0, Family::Quotient)?;
+    show_pair(rt, "substitution", a, b, 0, Family::Substitution(0))?;
+    show_pair(rt, "substitution", a, b, 2, Family::Substitution(2))
 }
 
 fn main(rt: HostRuntime) -> io::Result<()> {
-    show_words(&rt)?;
-    show_all_ones(&rt)?;
-    let mut k = 0;
-    while k < SHAPES.len() {
-        show_row(&rt, SHAPES[k])?;
-        k += 1;
+    for word in WORDS {
+        show_word(&rt, word)?;
+    }
+    for a in SHAPES {
+        show_ones(&rt, a)?;
+    }
+    for a in SHAPES {
+        for b in SHAPES {
+            show_pairs(&rt, a, b)?;
+        }
     }
     Ok(())
 }

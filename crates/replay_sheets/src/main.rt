@@ -5,13 +5,10 @@
 // No contract can say what is read or printed; `sheet::answer` says what is printed for a text.
 #![tactic(auto)]
 
-use replay_input::{read_full, read_next};
+use replay_input::{each_case, read_next};
 use sheet_text::line::word_at;
 use std::io;
 use std::io::Read;
-
-// More sheets than any input has.
-const SHEETS: u64 = 1000000000000;
 
 fn show(rt: &impl Print, text: &[u8]) -> io::Result<()> {
     let mut output = [0u8; 4378];
@@ -26,25 +23,8 @@ fn run(rt: &impl Print, input: &mut impl Read, begin: &[u8]) -> io::Result<()> {
     show(rt, &text[..n])
 }
 
-// The next sheet; whether there was one.
-fn next(rt: &impl Print, input: &mut impl Read) -> io::Result<bool> {
-    let mut begin = [0u8; 17];
-    let got = read_full(input, &mut begin)?;
-    if got == 0 {
-        return Ok(false);
-    }
-    run(rt, input, &begin[..got])?;
-    Ok(true)
-}
-
 fn main(rt: HostRuntime) -> io::Result<()> {
-    let mut input = rt.reader();
-    let mut left = SHEETS;
-    while 0 < left {
-        if !next(&rt, &mut input)? {
-            return Ok(());
-        }
-        left -= 1;
-    }
-    Ok(())
+    each_case(&mut rt.reader(), &mut [0u8; 17], |input, begin| {
+        run(&rt, input, begin)
+    })
 }

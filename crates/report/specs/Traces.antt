@@ -4,7 +4,6 @@ use Rattle.std.specs.Prelude.{ℕ, ◌+◌, ◌-◌, ◌≤◌, ◌<◌, List, �
 use Rattle.std.proofs.Common.{arith, ltb-true, ltb-false, eq-eqb}
 use Rattle.lists.specs.Test.{decide}
 use Rattle.model.specs.declared.Header.{Header}
-use Rattle.model_recipes.specs.declared.CheckAnswer.TheVariants.{Accepted}
 use Rattle.model.specs.Header.{limit}
 use Rattle.model_recipes.specs.Steps.{step_of}
 use Rattle.model_recipes.specs.Recipe.{Recipe, up_to, head_at, input_heads, announced_places, announced_steps, total, largest}
@@ -22,9 +21,10 @@ use Rattle.sheet_solving.specs.Opened.{headers-many, steps-many}
 use Rattle.report_trace.specs.Laws.{Operand, first, second}
 use Rattle.report_trace.specs.Ends.{Ordered, Ends, decider-ends}
 use Rattle.report_trace.specs.Furthest.{Made, furthest-made, furthest-most}
+use Rattle.model_recipes.specs.Results.{accepting}
 
 module _ (it : Recipe) (z : (check_refusal it).number ≡ 0) where
-  accepted : check_answer it ≡ Accepted (total (announced_steps it)) (largest (announced_steps it)) (total (input_heads it.headers))
+  accepted : check_answer it ≡ accepting (total (announced_steps it)) (largest (announced_steps it)) (total (input_heads it.headers))
   unfolding check_answer check_by
   accepted = rw (eq-eqb (check_refusal it).number 0 z)
 

@@ -125,11 +125,10 @@ pub fn answer(text: &[u8], asked: Asked, output: &mut [u8]) -> usize
     let mut known = [0u64; 64];
     let mut pool = floats();
     let mut coefficients = floats();
-    let solved = solve(text, &mut headers, &mut steps, &mut known, &mut pool);
-    let refusal = solved.refusal;
-    if refusal.number != 0 {
-        return put_refusal_report(text, refusal, 0, output);
-    }
+    let solved = match solve(text, &mut headers, &mut steps, &mut known, &mut pool) {
+        Ok(solved) => solved,
+        Err(refusal) => return put_refusal_report(text, refusal, 0, output),
+    };
     let inputs = solved.inputs;
     let count = solved.steps;
     let n = inputs + count;

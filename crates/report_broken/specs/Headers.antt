@@ -1,28 +1,27 @@
 -- A sheet that is refused by 8 though word one and the headers stand on their lines: its headers are right, so it is
 -- known how many lines there have to be.
-use Prim.Native.Nat.{ℕ, zero, suc, ◌+◌, ◌*◌, ◌≤◌, ◌<◌}
+use Prim.Native.Nat.{ℕ, zero, suc, ◌+◌, ◌≤◌}
 use Rattle.std.proofs.Math.Bool.{true}
-use Rattle.std.specs.Prelude.{false, ◌&&◌, ◌≡◌, refl, length, take}
+use Rattle.std.specs.Prelude.{◌&&◌, ◌≡◌, length, take}
 use mathlib.Core.List.{List, map}
 use Rattle.std.proofs.Common.{sym, ◌∙◌, length-take-le}
 use Rattle.std.proofs.Math.Path.{ap}
 use native.Mathlib.Omega.{arith}
 use Rattle.std.proofs.Math.ListN.{get_or}
-use Rattle.std.proofs.lemmas.List.{length-map}
 use Rattle.lists.specs.Every.{every}
 use Rattle.lists.specs.Table.{table, length-table, table-take, table_at, table_same}
 use Rattle.lists.specs.Test.{decide, and_left, and_right}
 use Rattle.model.specs.declared.Refusal.{Refusal}
 use Rattle.model.specs.Word.{header_of, good_word}
-use Rattle.model_recipes.specs.Check.{ask_at, or_else}
+use Rattle.model_recipes.specs.Check.{or_else}
 use Rattle.model_recipes.specs.Recipe.{total}
 use Rattle.model_texts.specs.Sheet.{lined, word_on, input_count, sheet_headers, coefficient_count, rest_count, headers_refusal, read_refusal}
 use Rattle.model_faults.specs.Broken.{head_lines, all_lines}
 use Rattle.recipes_kinds.specs.Known.{Known}
 use Rattle.recipes_check.specs.Asks.{or-first, by-refusal}
 use Rattle.sheet_reading.specs.Headers.{good-known}
-use Rattle.sheet_reading.specs.Reading.{Sized, sized, sizes_test, rest_refusal, after-sizes, step_small}
-use Rattle.sheet_solving.specs.Opened.{Opened, opened-good, opened-few, headers-many}
+use Rattle.sheet_reading.specs.Reading.{Sized, sized, sizes_test, rest_refusal, after-sizes}
+use Rattle.sheet_solving.specs.Opened.{Opened, opened-good, opened-few}
 
 module _ (t : List ℕ) where
   -- headers that stand on their lines are refused by 1 at most

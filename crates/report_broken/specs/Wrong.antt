@@ -1,6 +1,6 @@
 -- What is said where a sheet is refused by 8: found line by line, it is what the definition says.
-use Rattle.std.specs.Prelude.{ℕ, ◌+◌, ◌*◌, ◌≤◌, ◌<◌, List, ◌++◌, ◌≡◌, refl}
-use Rattle.std.proofs.Common.{sym, ◌∙◌, arith}
+use Rattle.std.specs.Prelude.{ℕ, ◌+◌, ◌*◌, ◌≤◌, ◌<◌, List, ◌++◌, ◌≡◌}
+use Rattle.std.proofs.Common.{arith}
 use borrow.Author.Tests.{lt-ltb, le-ltb}
 use Rattle.model_texts.specs.Hex.{digit_at}
 use Rattle.model_texts.specs.Sheet.{lined, input_count, step_count, rest_count, read_refusal}

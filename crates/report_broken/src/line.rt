@@ -23,14 +23,12 @@ pub fn wrong_line(text: &[u8], n: usize, from: usize) -> usize
     requires { n + from ≤ 16777216 }
     ensures { result ≡ first_not (lined text.now) n from }
 {
-    let mut k = 0;
-    while k < n {
+    for k in 0..n {
         if !is_line(text, 17 * (from + k)) {
             return from + k;
         }
-        k += 1;
     }
-    from + k
+    from + n
 }
 
 // How many digits the line k begins with, 16 at most.
@@ -38,14 +36,12 @@ fn digits_on(text: &[u8], k: usize) -> usize
     requires { k ≤ 16777216 }
     ensures { result ≡ digits_on text.now k }
 {
-    let mut j = 0;
-    while j < 16 {
+    for j in 0..16 {
         if !is_digit(byte_at(text, 17 * k + j)) {
             return j;
         }
-        j += 1;
     }
-    j
+    16
 }
 
 // How many lines are needed, n, as far as is known in the line k; the first h lines say it.

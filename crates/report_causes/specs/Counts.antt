@@ -1,5 +1,5 @@
 -- The first place that takes more than 256 coefficients, and what is said of it or of the totals.
-use Rattle.std.specs.Prelude.{ℕ, suc, ◌+◌, ◌-◌, ◌*◌, ◌≤◌, ◌<◌, true, false, List, [], ◌∷◌, map, ◌≡◌, refl, leb, length, get_or, take, drop}
+use Rattle.std.specs.Prelude.{ℕ, suc, ◌-◌, ◌*◌, ◌≤◌, ◌<◌, true, false, List, [], ◌∷◌, map, ◌≡◌, length, get_or, take, drop}
 use Rattle.std.proofs.Common.{sym, ap, ◌∙◌, arith, length-take-le}
 use Rattle.std.proofs.Math.ListN.{length-map}
 use borrow.Author.Tests.{le-leb, lt-leb}
@@ -7,12 +7,11 @@ use Rattle.model.specs.declared.Header.{Header}
 use Rattle.model.specs.Header.{no_header, stored}
 use Rattle.model.specs.Word.{header_of}
 use Rattle.model_recipes.specs.Recipe.{head_at, total}
-use Rattle.model_faults.specs.Saying.{first_not}
 use Rattle.model_faults.specs.Own.{large_fault, totals_fault, small_at, first_large, own_fault}
 use Rattle.recipes_kinds.specs.Known.{Known, head_at_lem}
 use Rattle.shape_words.specs.Lengths.{lengths_of_lem, count_most}
 use Rattle.sheet_limits.specs.Limits.{front-heads, back-heads, front-known}
-use Rattle.report_say.specs.First.{Looking, front-more, front-stop, front_end}
+use Rattle.report_say.specs.First.{Looking, front-stop, front_end}
 
 -- the words of all places
 module _ (ws : List ℕ) where

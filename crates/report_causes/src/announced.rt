@@ -10,11 +10,8 @@ pub fn announce_steps(edition: u64, steps: &[u64], inputs: usize, known: &mut [u
     requires { Ready steps.now inputs known.old }
     ensures { Announced edition steps.now inputs known.old known.new }
 {
-    let mut i = 0;
-    while i < steps.len() {
-        let word = steps[i];
+    for (i, word) in steps.iter().enumerate() {
         let at = inputs + i;
-        known[at] = pack(announce(edition, word, &known[..at]));
-        i += 1;
+        known[at] = pack(announce(edition, *word, &known[..at]));
     }
 }

@@ -16,14 +16,12 @@ fn first_large(known: &[u64]) -> usize
     requires { Known (map header_of known.now) }
     ensures { result ≡ first_large (map header_of known.now) }
 {
-    let mut p = 0;
-    while p < known.len() {
-        if 256 < stored_of(header_of(known[p])) {
+    for (p, word) in known.iter().enumerate() {
+        if 256 < stored_of(header_of(*word)) {
             return p;
         }
-        p += 1;
     }
-    p
+    known.len()
 }
 
 // The place p, of which the first k are inputs with c coefficients together, takes n.

@@ -11,7 +11,7 @@ ghost use Rattle.report_lines.specs.Puts.{Puts};
 
 use gates::stored_of;
 use recipes_kinds::gate::{announce, head_at};
-use recipes_kinds::step::{step_of, uses_of};
+use recipes_kinds::step::{is_named, step_of, uses_of};
 use report_lines::put::{put, tell};
 use report_say::{say, say_two};
 
@@ -44,13 +44,6 @@ fn put_operand(used: bool, x: usize, p: usize, k: usize, at: usize, to: &mut [u8
     } else {
         put_unused(x, k, at, to)
     }
-}
-
-// A used operand names a place before p; an unused one is zero.
-fn is_named(p: usize, used: bool, x: usize) -> bool
-    ensures { result ≡ named_before p used x }
-{
-    if used { x < p } else { x == 0 }
 }
 
 // 7: the fields behind the operands.

@@ -1,5 +1,5 @@
 -- What is said of a wanted chance keeps to 80 columns.
-use Rattle.std.specs.Prelude.{ℕ, ◌-◌, ◌≤◌, ◌<◌, Bool, List, [], ◌++◌, ◌≡◌, leb, ltb, eqb, Float}
+use Rattle.std.specs.Prelude.{Some, None, ℕ, ◌-◌, ◌≤◌, ◌<◌, Bool, List, [], ◌++◌, ◌≡◌, leb, ltb, eqb, Float}
 use Rattle.std.proofs.Common.{append_assoc, sym, ap, ◌∙◌, arith, ltb-true, leb-false}
 use Rattle.std.proofs.Math.Path.{refl}
 use Rattle.std.specs.Float.Ieee.{mul, binary64}
@@ -11,10 +11,9 @@ use Rattle.model.specs.Gates.{good_total}
 use Rattle.model.specs.Least.{least_of}
 use Rattle.model_texts.specs.Trace.{decider}
 use Rattle.model_texts.specs.Whole.{first_out, is_whole}
-use Rattle.model_texts.specs.Report.{tell, place_kind_text}
+use Rattle.model_texts.specs.Report.{place_kind_text}
 use Rattle.model_decimals.specs.Text.{float_text}
-use Rattle.model_forecast.specs.declared.Given.{Given}
-use Rattle.model_forecast.specs.declared.Given.TheVariants.{Nothing, Number}
+use Rattle.model_forecast.specs.Results.{Given}
 use Rattle.model_forecast.specs.Covered.{covered_text, first_passing, cut_by_text, short_text, uncovered_text, cover_text, wanted_text, chance_text}
 use Rattle.report_trace.specs.Small.{decider-small}
 use Rattle.report_lines.specs.Columns.{in_columns, column_after, Piece, piece, piece_then, piece-either, number_piece, tell-two}
@@ -89,5 +88,5 @@ module _ (known : List Header) (ss : List ℕ) (inputs : ℕ) (fs : List ℕ) wh
 
     pub chance-lines : (g : Given) → Lines 200 (chance_text known ss inputs fs p h xs total g)
     unfolding chance_text
-    chance-lines Nothing = lines-up lines_none (omega arith)
-    chance-lines (Number q) = wanted-lines q
+    chance-lines None = lines-up lines_none (omega arith)
+    chance-lines (Some q) = wanted-lines q

@@ -1,10 +1,10 @@
 -- As many coefficients as a header says are enough for the places of its first variable.
-use Rattle.std.specs.Prelude.{ℕ, ◌*◌, ◌≤◌, ◌≡◌}
+use Rattle.std.specs.Prelude.{ℕ, ◌*◌, ◌≤◌}
 use Rattle.std.proofs.Common.{arith, mul-le-mul, le_refl}
 use Rattle.lists.specs.Four.{at}
 use Rattle.model.specs.Header.{len, stored}
 use Rattle.model.specs.Word.{header_of}
-use Rattle.shape_words.specs.Lengths.{Lengths, count-is}
+use Rattle.shape_words.specs.Lengths.{count-is}
 use Rattle.report_figures.specs.Lines.{word-lengths}
 
 one-most : (a b : ℕ) → 1 ≤ a → 1 ≤ b → 1 ≤ a * b

@@ -5,7 +5,6 @@ ghost use Rattle.std.specs.Prelude.{◌≡◌, map, ◌<◌, length};
 ghost use Rattle.model.specs.Header.{stored};
 ghost use Rattle.model.specs.Gates.{good_total};
 ghost use Rattle.model.specs.Word.{header_of};
-ghost use Rattle.model_texts.specs.Report.{place_kind_text};
 ghost use Rattle.model_forecast.specs.Covered.{covered_text, first_passing, cut_by_text, short_text, uncovered_text, cover_text, wanted_text, chance_text};
 ghost use Rattle.report_lines.specs.Puts.{Puts};
 
@@ -13,6 +12,7 @@ use decimals::put_float;
 use model_forecast::Given;
 use readings_sums::least_at;
 use report_lines::put::{put, put_either, put_number, tell};
+use report_lines::why::put_place_kind;
 use report_trace::decide::decider;
 use report_trace::whole::{first_out, passes};
 use shape_words::word::header_of;
@@ -49,14 +49,6 @@ fn first_passing(known: &[u64], full: &[usize], o: usize) -> usize
         return 2;
     }
     3
-}
-
-// A place, and whether it is an input or a step.
-fn put_place_kind(inputs: usize, p: usize, at: usize, to: &mut [u8]) -> usize
-    ensures { Puts (place_kind_text inputs p) at to.old to.new result }
-{
-    let next = tell(b"place ", p, at, to);
-    put_either(p < inputs, b" (input)", b" (step)", next, to)
 }
 
 // By which place the table was cut at the place o.
@@ -220,7 +212,7 @@ pub fn put_chance(
         xs.now total chance) at to.old to.new result }
 {
     match chance {
-        Given::Nothing => at,
-        Given::Number(q) => put_wanted(known, steps, inputs, full, p, header, xs, total, q, at, to),
+        None => at,
+        Some(q) => put_wanted(known, steps, inputs, full, p, header, xs, total, q, at, to),
     }
 }

@@ -7,7 +7,7 @@ use Rattle.lists.specs.Bytes.{bytes}
 use Rattle.lists.specs.Test.{decide}
 use Rattle.model_texts.specs.Hex.{digit_for, hex_digit}
 use Rattle.model_texts.specs.Number.{exponent_of, hex_text}
-use Rattle.model_texts.specs.Printed.{last_digit, decimal}
+use Rattle.model_texts.specs.Printed.{last_digit}
 use Rattle.model_decimals.specs.Value.{minus_of, units_of}
 use Rattle.model_decimals.specs.Text.{billionths, is_exact, places, trimmed_places, point_text, rounded_text}
 use Rattle.model_decimals.specs.Text.{endless_text, bits_text, float_word_text, float_text}

@@ -13,10 +13,8 @@ fn put_blanks(n: usize, at: usize, to: &mut [u8]) -> usize
     ensures { Puts (blanks n) at to.old to.new result }
 {
     let mut next = at;
-    let mut k = 0usize;
-    while k < n {
+    for _ in 0..n {
         next = put(b" ", next, to);
-        k += 1;
     }
     next
 }

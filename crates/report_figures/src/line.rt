@@ -32,10 +32,8 @@ fn put_parts(vars: usize, i: [usize; 4], at: usize, to: &mut [u8]) -> usize
     ensures { Puts (joined (part_text vars i) 4) at to.old to.new result }
 {
     let mut next = at;
-    let mut v = 0usize;
-    while v < 4 {
+    for v in 0..4 {
         next = put_part(vars, i, v, next, to);
-        v += 1;
     }
     next
 }
@@ -142,10 +140,8 @@ fn put_lines(h: Header, xs: &[f64], total: f64, parts: bool, at: usize, to: &mut
         to.old to.new result }
 {
     let mut next = at;
-    let mut p = 0usize;
-    while p < xs.len() {
+    for p in 0..xs.len() {
         next = put_figure(h, xs, total, parts, p, next, to);
-        p += 1;
     }
     next
 }

@@ -65,10 +65,8 @@ fn put_shown(xs: &[f64], m: usize, at: usize, to: &mut [u8]) -> usize
     ensures { Puts (joined (first_text xs.now m) m) at to.old to.new result }
 {
     let mut next = at;
-    let mut k = 0usize;
-    while k < m {
+    for k in 0..m {
         next = put_first(xs, m, k, next, to);
-        k += 1;
     }
     next
 }
@@ -111,10 +109,8 @@ fn put_each(headers: &[u64], xs: &[f64], at: usize, to: &mut [u8]) -> usize
         to.old to.new result }
 {
     let mut next = at;
-    let mut i = 0usize;
-    while i < headers.len() {
+    for i in 0..headers.len() {
         next = put_input(headers, xs, i, next, to);
-        i += 1;
     }
     next
 }

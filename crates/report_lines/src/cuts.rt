@@ -31,6 +31,7 @@ fn put_falls(
     put(b")\n", d, to)
 }
 
+#[tactic(auto, using(crate::specs::Puts::puts_then), unfolding(model_texts::specs::Report::fills_text, lists::specs::Bytes::bytes))]
 fn put_filled(limit: usize, at: usize, to: &mut [u8]) -> usize
     ensures { Puts (fills_text limit) at to.old to.new result }
 {
@@ -165,10 +166,8 @@ fn put_cuts_at(
         to.old to.new result }
 {
     let mut next = at;
-    let mut v = 0usize;
-    while v < 4 {
+    for v in 0..4 {
         next = put_cut(known, steps, inputs, full, p, v, next, to);
-        v += 1;
     }
     next
 }
@@ -188,10 +187,8 @@ pub fn put_cuts(
         at to.old to.new result }
 {
     let mut next = at;
-    let mut p = 0usize;
-    while p < n {
+    for p in 0..n {
         next = put_cuts_at(known, steps, inputs, full, p, next, to);
-        p += 1;
     }
     next
 }

@@ -102,10 +102,8 @@ pub fn put_ends(
     ensures { Puts (joined (end_text (map header_of known.now) steps.now inputs p) 4) at to.old to.new result }
 {
     let mut next = at;
-    let mut v = 0usize;
-    while v < 4 {
+    for v in 0..4 {
         next = put_end(known, steps, inputs, p, v, next, to);
-        v += 1;
     }
     next
 }

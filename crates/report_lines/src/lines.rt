@@ -28,15 +28,14 @@ fn put_pairs(h: Header, at: usize, to: &mut [u8]) -> usize
     ensures { Puts (joined (pair_text h) 4) at to.old to.new result }
 {
     let mut next = at;
-    let mut v = 0usize;
-    while v < 4 {
+    for v in 0..4 {
         next = put_pair(h, v, next, to);
-        v += 1;
     }
     next
 }
 
 // The number of variables, and of each the limit and the stored length.
+#[tactic(auto, using(crate::specs::Puts::puts_then), unfolding(model_texts::specs::Report::shape_text, lists::specs::Bytes::bytes))]
 fn put_shape(h: Header, at: usize, to: &mut [u8]) -> usize
     ensures { Puts (shape_text h) at to.old to.new result }
 {
@@ -124,10 +123,8 @@ pub fn put_places(
     ensures { Puts (joined (place_text (map header_of known.now) steps.now inputs) n) at to.old to.new result }
 {
     let mut next = at;
-    let mut p = 0usize;
-    while p < n {
+    for p in 0..n {
         next = put_place(known, steps, inputs, p, next, to);
-        p += 1;
     }
     next
 }

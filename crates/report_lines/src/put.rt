@@ -19,6 +19,7 @@ pub fn put(bytes: &[u8], at: usize, to: &mut [u8]) -> usize
 }
 
 // A text only where a test passed.
+#[tactic(auto, using(crate::specs::Puts::puts_none))]
 pub fn put_if(test: bool, bytes: &[u8], at: usize, to: &mut [u8]) -> usize
     ensures { Puts (when test bytes.now) at to.old to.new result }
 {
@@ -34,6 +35,7 @@ pub fn put_number(n: usize, at: usize, to: &mut [u8]) -> usize
 }
 
 // A phrase and a number.
+#[tactic(auto, using(crate::specs::Puts::puts_then))]
 pub fn tell(phrase: &[u8], n: usize, at: usize, to: &mut [u8]) -> usize
     ensures { Puts (phrase.now ++ decimal n) at to.old to.new result }
 {

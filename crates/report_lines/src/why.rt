@@ -18,7 +18,7 @@ pub fn put_variable(p: usize, v: usize, at: usize, to: &mut [u8]) -> usize
 }
 
 // A place, and whether it is an input or a step.
-fn put_place_kind(inputs: usize, p: usize, at: usize, to: &mut [u8]) -> usize
+pub fn put_place_kind(inputs: usize, p: usize, at: usize, to: &mut [u8]) -> usize
     ensures { Puts (place_kind_text inputs p) at to.old to.new result }
 {
     let next = tell(b"place ", p, at, to);

@@ -33,13 +33,14 @@ fn put_fault_text(text: &[u8], r: Refusal, at: usize, to: &mut [u8]) -> usize
     ensures { Puts (fault_text text.now) at to.old to.new result }
 {
     let mut headers = [0u64; 16];
-    let first = read(text, &mut headers);
-    if first.number != 0 {
-        return put_read_fault(text, r, at, to);
+    match read(text, &mut headers) {
+        Err(_) => put_read_fault(text, r, at, to),
+        Ok(()) => {
+            let edition = edition_of(text);
+            let inputs = input_count(text);
+            put_recipe_fault(text, r, &headers[..inputs], edition, at, to)
+        }
     }
-    let edition = edition_of(text);
-    let inputs = input_count(text);
-    put_recipe_fault(text, r, &headers[..inputs], edition, at, to)
 }
 
 // Both, for a sheet that r refuses.

@@ -1,6 +1,6 @@
 -- A loop that finds a place after the other, each by its word from the places before it, at the front of an array.
-use Rattle.std.specs.Prelude.{ℕ, zero, suc, ◌+◌, ◌≤◌, ◌<◌, List, [], ◌∷◌, ◌++◌, ◌≡◌, refl, length, get_or, take, drop, set, replicate}
-use Rattle.std.proofs.Common.{sym, ap, ◌∙◌, add-one, add-zero, arith, take-append-drop, take_all, take-suc, length-take-le}
+use Rattle.std.specs.Prelude.{ℕ, ◌+◌, ◌≤◌, ◌<◌, List, [], ◌∷◌, ◌++◌, ◌≡◌, length, get_or, take, drop, set, replicate}
+use Rattle.std.proofs.Common.{sym, ap, ◌∙◌, add-one, arith, take-append-drop, take_all, take-suc, length-take-le}
 use Rattle.std.proofs.lemmas.List.{length-replicate, get_or-replicate}
 use Rattle.lists.specs.Chain.{chain, chain-none, chain_cons, chain_append, length-chain}
 use Rattle.lists.specs.Grow.{over, length_over, take-over, over-more}

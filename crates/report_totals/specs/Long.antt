@@ -1,5 +1,5 @@
 -- What is said behind the verdict keeps to 80 columns, and is under 96,000 bytes long.
-use Rattle.std.specs.Prelude.{ℕ, ◌+◌, ◌-◌, ◌≤◌, ◌<◌, Bool, true, false, List, [], ◌∷◌, ◌++◌, ◌≡◌, refl, leb, ltb, eqb, Float, length}
+use Rattle.std.specs.Prelude.{Some, None, ℕ, ◌+◌, ◌-◌, ◌≤◌, ◌<◌, Bool, true, false, List, [], ◌∷◌, ◌++◌, ◌≡◌, refl, leb, ltb, eqb, Float, length}
 use Rattle.std.proofs.Common.{arith, ltb-true, leb-false}
 use Rattle.std.specs.Float.Ieee.{sub}
 use Rattle.std.specs.Float.{binary64}
@@ -9,19 +9,17 @@ use Rattle.model.specs.declared.Header.{Header}
 use Rattle.model.specs.Header.{stored}
 use Rattle.model.specs.Word.{header_of}
 use Rattle.model.specs.Gates.{good_total}
-use Rattle.model_texts.specs.Report.{tell, when, kind_names, kind_text}
-use Rattle.model_decimals.specs.Text.{float_text}
+use Rattle.model_texts.specs.Report.{when, kind_names, kind_text}
 use Rattle.model_forecast.specs.declared.Asked.{Asked}
-use Rattle.model_forecast.specs.declared.Given.{Given}
-use Rattle.model_forecast.specs.declared.Given.TheVariants.{Nothing, Number}
+use Rattle.model_forecast.specs.Results.{Given}
 use Rattle.model_forecast.specs.declared.Sums.{Sums}
 use Rattle.model_forecast.specs.Totals.{last_place}
 use Rattle.model_forecast.specs.Mixed.{first_mixed, mixed_text}
 use Rattle.model_forecast.specs.Shares.{used_total, origin_text, lost_text, shares_text, no_parts_text, total_text, bar_text, totals_text}
 use Rattle.model_forecast.specs.Reckoned.{sums_of, parts_text, reckoned_text}
-use Rattle.report_lines.specs.Columns.{in_columns, column_after, Piece, piece, piece_up, piece-either, piece-named, tell-two}
+use Rattle.report_lines.specs.Columns.{Piece, piece, piece-either, piece-named, tell-two}
 use Rattle.report_lines.specs.Columns.{Rest, newline-rest, rest_up, rest_then, rest-either, rest_broken}
-use Rattle.report_lines.specs.Columns.{Lines, lines, written, lines-up, lines_none, lines_then, lines-either, lines_if}
+use Rattle.report_lines.specs.Columns.{Lines, lines, lines-up, lines_none, lines_then, lines-either}
 use Rattle.report_cover.specs.Long.{chance-lines}
 use Rattle.report_figures.specs.Lines.{word-lengths}
 use Rattle.report_figures.specs.Number.{float_piece}
@@ -89,8 +87,8 @@ bar-lines vars p k l =
 
 totals-lines : (g : Given) (s : Sums) → Lines 200 (totals_text g s)
 unfolding totals_text
-totals-lines (Number t) s = total-lines true s.whole t s.shown
-totals-lines Nothing s =
+totals-lines (Some t) s = total-lines true s.whole t s.shown
+totals-lines None s =
     decide (leb 64 s.bar)
     (λ b. rw b (total-lines false s.whole s.amount s.shown))
     (λ b. rw b (bar-lines s.vars s.bar s.kind (leb-false 64 s.bar b)))

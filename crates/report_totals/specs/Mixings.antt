@@ -1,6 +1,6 @@
 -- The first `subst_var` of what was cut, as the code finds it.
 use Rattle.std.specs.Prelude.{ℕ, ◌≤◌, ◌<◌, min, Bool, ◌&&◌, cond, List, ◌≡◌, ltb, eqb, length, get_or}
-use Rattle.std.proofs.Common.{arith, lt-ltb, le-ltb}
+use Rattle.std.proofs.Common.{lt-ltb, le-ltb}
 use Rattle.model.specs.declared.Header.{Header}
 use Rattle.model.specs.declared.Family.{Family}
 use Rattle.model_recipes.specs.declared.Step.{Step}

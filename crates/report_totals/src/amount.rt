@@ -21,6 +21,7 @@ fn unknown() -> f64
 }
 
 // By kind: the total of a step's result, x and y those of its operands.
+#[tactic(auto, unfolding(model_forecast::specs::Totals::amount_of))]
 fn amount_of(s: Step, x: f64, y: f64) -> f64
     ensures { result ≡ amount_of s x y }
 {
@@ -76,10 +77,8 @@ fn input_sums(headers: &[u64], xs: &[f64]) -> [f64; 64]
         ≡ table (length headers.now) (input_sum headers.now xs.now)) }
 {
     let mut sums = [0.0f64; 64];
-    let mut i = 0;
-    while i < headers.len() {
+    for i in 0..headers.len() {
         sums[i] = input_sum(headers, xs, i);
-        i += 1;
     }
     sums
 }
@@ -93,11 +92,9 @@ fn amounts(headers: &[u64], xs: &[f64], steps: &[u64]) -> [f64; 64]
 {
     let inputs = headers.len();
     let mut found = input_sums(headers, xs);
-    let mut i = 0;
-    while i < steps.len() {
+    for (i, word) in steps.iter().enumerate() {
         let at = inputs + i;
-        found[at] = amount_step(steps[i], &found[..at]);
-        i += 1;
+        found[at] = amount_step(*word, &found[..at]);
     }
     found
 }

@@ -9,18 +9,15 @@ use report_trace::far::found_at;
 use shape::limits::least;
 
 // By kind: of a step at the place p, x and y those of its operands.
+#[tactic(auto, unfolding(model_forecast::specs::Totals::bar_of))]
 fn bar_of(s: Step, p: usize, x: usize, y: usize) -> usize
     ensures { result ≡ bar_of s p x y }
 {
-    let kind = s.kind;
-    let n = s.n;
-    match kind {
+    match s.kind {
         Step::CONSTANT => 64,
         Step::NEGATE => x,
-        Step::ADD => least(x, y),
-        Step::SUBTRACT => least(x, y),
-        Step::MULTIPLY => least(x, y),
-        Step::POWER => pick(n == 0, 64, x),
+        Step::ADD | Step::SUBTRACT | Step::MULTIPLY => least(x, y),
+        Step::POWER => pick(s.n == 0, 64, x),
         Step::SHIFT_DOWN => x,
         _ => p,
     }
@@ -43,11 +40,9 @@ fn bars(headers: &[u64], steps: &[u64]) -> [usize; 64]
 {
     let inputs = headers.len();
     let mut found = [64usize; 64];
-    let mut i = 0;
-    while i < steps.len() {
+    for (i, word) in steps.iter().enumerate() {
         let at = inputs + i;
-        found[at] = bar_step(steps[i], &found[..at]);
-        i += 1;
+        found[at] = bar_step(*word, &found[..at]);
     }
     found
 }

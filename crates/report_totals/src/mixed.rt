@@ -49,10 +49,8 @@ pub fn first_mixed(known: &[u64], steps: &[u64], inputs: usize, full: &[usize], 
     ensures { result ≡ first_mixed (map header_of known.now) steps.now inputs full.now p }
 {
     let mut found = [0usize; 64];
-    let mut k = 0;
-    while k < p {
+    for k in 0..p {
         found[k] = mixed_next(known, steps, inputs, full, &found[..k]);
-        k += 1;
     }
     mixed_next(known, steps, inputs, full, &found[..p])
 }

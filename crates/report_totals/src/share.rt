@@ -14,8 +14,8 @@ pub fn used_total(given: Given, s: Sums) -> f64
     ensures { result ≡ used_total given s }
 {
     match given {
-        Given::Number(total) => total,
-        Given::Nothing => if 64 <= s.bar { s.amount } else { 1.0 },
+        Some(total) => total,
+        None => if 64 <= s.bar { s.amount } else { 1.0 },
     }
 }
 
@@ -93,8 +93,8 @@ pub fn put_totals(given: Given, s: Sums, at: usize, to: &mut [u8]) -> usize
     ensures { Puts (totals_text given s) at to.old to.new result }
 {
     match given {
-        Given::Number(total) => put_total(true, s.whole, total, s.shown, at, to),
-        Given::Nothing => {
+        Some(total) => put_total(true, s.whole, total, s.shown, at, to),
+        None => {
             if 64 <= s.bar {
                 return put_total(false, s.whole, s.amount, s.shown, at, to);
             }

@@ -44,6 +44,7 @@ fn is_cut_from(known: &[u64], v: usize, p: usize, used: bool, x: usize) -> bool
 }
 
 // Whether a step is a shift in the variable v: its limit is its operand's, less n.
+#[tactic(auto, unfolding(model_texts::specs::Trace::shifts_in))]
 pub fn is_shift_in(word: u64, v: usize) -> bool
     ensures { result ≡ shifts_in v word }
 {
@@ -52,6 +53,7 @@ pub fn is_shift_in(word: u64, v: usize) -> bool
 }
 
 // Whether the limit of the place p, whose step word is given, is below that of an operand, and not by a shift.
+#[tactic(auto, unfolding(model_texts::specs::Trace::is_cut))]
 pub fn is_cut(known: &[u64], v: usize, word: u64, p: usize) -> bool
     requires { v < 4 }
     ensures { result ≡ is_cut (map header_of known.now) v word p }
@@ -63,6 +65,7 @@ pub fn is_cut(known: &[u64], v: usize, word: u64, p: usize) -> bool
 }
 
 // The operand that it is cut from.
+#[tactic(auto, unfolding(model_texts::specs::Trace::cut_operand))]
 pub fn cut_operand(known: &[u64], v: usize, word: u64, p: usize) -> usize
     requires { v < 4 }
     ensures { result ≡ cut_operand (map header_of known.now) v word p }

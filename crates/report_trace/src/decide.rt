@@ -49,15 +49,14 @@ pub fn decider(known: &[u64], v: usize, steps: &[u64], inputs: usize, p: usize) 
     ensures { result ≡ decider (map header_of known.now) v steps.now inputs p }
 {
     let mut place = p;
-    let mut k = 0usize;
-    while k < 64 {
+    for _ in 0..64usize {
         place = follow(known, v, steps, inputs, place);
-        k += 1;
     }
     place
 }
 
 // Whether the place p is a shift that lowers the limit of the variable v.
+#[tactic(auto, unfolding(model_texts::specs::Trace::lowering))]
 fn is_lowering(v: usize, steps: &[u64], inputs: usize, p: usize) -> bool
     ensures { result ≡ lowering v steps.now inputs p }
 {
@@ -83,10 +82,8 @@ pub fn lowerer(known: &[u64], v: usize, steps: &[u64], inputs: usize, p: usize) 
     ensures { result ≡ lowerer (map header_of known.now) v steps.now inputs p }
 {
     let mut place = p;
-    let mut k = 0usize;
-    while k < 64 {
+    for _ in 0..64usize {
         place = seek(known, v, steps, inputs, place);
-        k += 1;
     }
     place
 }

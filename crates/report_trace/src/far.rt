@@ -60,10 +60,8 @@ pub fn furthest(known: &[u64], v: usize, steps: &[u64], inputs: usize, p: usize)
     ensures { result ≡ furthest (map header_of known.now) v steps.now inputs p }
 {
     let mut found = [0usize; 64];
-    let mut k = 0;
-    while k < p {
+    for k in 0..p {
         found[k] = furthest_next(known, v, steps, inputs, &found[..k]);
-        k += 1;
     }
     furthest_next(known, v, steps, inputs, &found[..p])
 }

@@ -20,6 +20,7 @@ fn counted(n: usize) -> usize
     least(MANY, n)
 }
 
+#[tactic(auto, unfolding(model_texts::specs::Full::sum_full))]
 fn sum_full(a: usize, b: usize) -> usize
     ensures { result ≡ sum_full a b }
 {
@@ -29,6 +30,7 @@ fn sum_full(a: usize, b: usize) -> usize
     most(a, b)
 }
 
+#[tactic(auto, unfolding(model_texts::specs::Full::product_full))]
 fn product_full(a: usize, b: usize) -> usize
     requires { (a ≤ many) × (b ≤ many) }
     ensures { result ≡ product_full a b }
@@ -39,18 +41,21 @@ fn product_full(a: usize, b: usize) -> usize
     counted(a + b - 1)
 }
 
+#[tactic(auto, unfolding(model_texts::specs::Full::quotient_full))]
 fn quotient_full(a: usize, b: usize) -> usize
     ensures { result ≡ quotient_full a b }
 {
     if b == 1 { a } else { 0 }
 }
 
+#[tactic(auto, unfolding(model_texts::specs::Full::series_full))]
 fn series_full(a: usize) -> usize
     ensures { result ≡ series_full a }
 {
     if a == 1 { 1 } else { 0 }
 }
 
+#[tactic(auto, unfolding(model_texts::specs::Full::power_full))]
 fn power_full(e: u32, a: usize) -> usize
     requires { a ≤ many }
     ensures { result ≡ power_full e a }
@@ -65,6 +70,7 @@ fn power_full(e: u32, a: usize) -> usize
 }
 
 // What is longer than can be counted stays so.
+#[tactic(auto, unfolding(model_texts::specs::Full::shift_full))]
 fn shift_full(n: usize, a: usize) -> usize
     ensures { result ≡ shift_full n a }
 {
@@ -75,6 +81,7 @@ fn shift_full(n: usize, a: usize) -> usize
 }
 
 // p - 1 powers of b on top of a.
+#[tactic(auto, unfolding(model_texts::specs::Full::substitution_full))]
 fn substitution_full(p: usize, a: usize, b: usize) -> usize
     requires { (p ≤ many) × ((a ≤ many) × (b ≤ many)) }
     ensures { result ≡ substitution_full p a b }
@@ -89,13 +96,14 @@ fn substitution_full(p: usize, a: usize, b: usize) -> usize
 }
 
 // The full length of the variable k after an operation.
+#[tactic(auto, unfolding(model_texts::specs::Full::full_after))]
 fn full_after(f: Family, k: usize, p: usize, a: usize, b: usize) -> usize
     requires { (p ≤ many) × ((a ≤ many) × (b ≤ many)) }
     ensures { result ≡ full_after f k p a b }
 {
     match f {
-        Family::Constant => 1,
-        Family::Same => a,
+        Family::Constant | Family::One => 1,
+        Family::Same | Family::Term(_) | Family::Order(_, _) => a,
         Family::Sum => sum_full(a, b),
         Family::Product => product_full(a, b),
         Family::Quotient => quotient_full(a, b),
@@ -103,9 +111,6 @@ fn full_after(f: Family, k: usize, p: usize, a: usize, b: usize) -> usize
         Family::Power(e) => power_full(e, a),
         Family::Shift(v, n) => pick(k == v, shift_full(n, a), a),
         Family::Substitution(v) => substitution_full(p, pick(k == v, 1, a), b),
-        Family::Term(_) => a,
-        Family::Order(_, _) => a,
-        Family::One => 1,
     }
 }
 
@@ -131,6 +136,7 @@ fn step_full(full: &[usize], word: u64, v: usize) -> usize
 }
 
 // The next full length, four to a place; `full`: those before it.
+#[tactic(auto, unfolding(model_texts::specs::Full::full_next))]
 fn full_next(known: &[u64], steps: &[u64], inputs: usize, full: &[usize]) -> usize
     ensures { result ≡ full_next (map header_of known.now) steps.now inputs full.now }
 {
@@ -148,10 +154,8 @@ pub fn fulls(known: &[u64], steps: &[u64], inputs: usize, n: usize) -> [usize; 2
     ensures { take (4 * n) result ≡ fulls (map header_of known.now) steps.now inputs n }
 {
     let mut full = [0usize; 256];
-    let mut k = 0usize;
-    while k < 4 * n {
+    for k in 0..4 * n {
         full[k] = full_next(known, steps, inputs, &full[..k]);
-        k += 1;
     }
     full
 }

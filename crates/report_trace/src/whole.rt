@@ -12,46 +12,35 @@ use recipes_kinds::step::{family_of, step_of};
 use shape::limits::least;
 
 // Whether a step is made of its first operand: not where it is a power of 0.
+#[tactic(auto, unfolding(model_texts::specs::Whole::needs_first))]
 pub fn needs_first(f: Family) -> bool
     ensures { result ≡ needs_first f }
 {
     match f {
-        Family::Constant => false,
-        Family::Same => true,
-        Family::Sum => true,
-        Family::Product => true,
-        Family::Quotient => true,
-        Family::Series => true,
+        Family::Constant | Family::One => false,
         Family::Power(e) => e != 0,
-        Family::Shift(_, _) => true,
-        Family::Substitution(_) => true,
-        Family::Term(_) => true,
-        Family::Order(_, _) => true,
-        Family::One => false,
+        Family::Same | Family::Sum | Family::Product | Family::Quotient | Family::Series => true,
+        Family::Shift(_, _) | Family::Substitution(_) | Family::Term(_) | Family::Order(_, _) => {
+            true
+        }
     }
 }
 
 // And of its second: what is put for a variable counts where the polynomial has more than one row there.
+#[tactic(auto, unfolding(model_texts::specs::Whole::needs_second))]
 pub fn needs_second(f: Family, p: usize) -> bool
     ensures { result ≡ needs_second f p }
 {
     match f {
-        Family::Constant => false,
-        Family::Same => false,
-        Family::Sum => true,
-        Family::Product => true,
-        Family::Quotient => true,
-        Family::Series => false,
-        Family::Power(_) => false,
-        Family::Shift(_, _) => false,
+        Family::Sum | Family::Product | Family::Quotient => true,
         Family::Substitution(_) => p != 1,
-        Family::Term(_) => false,
-        Family::Order(_, _) => false,
-        Family::One => false,
+        Family::Constant | Family::One | Family::Same | Family::Series => false,
+        Family::Power(_) | Family::Shift(_, _) | Family::Term(_) | Family::Order(_, _) => false,
     }
 }
 
 // Whether the full length of the place p passes its limit in the variable v.
+#[tactic(auto, unfolding(model_texts::specs::Whole::passes))]
 pub fn passes(known: &[u64], full: &[usize], p: usize, v: usize) -> bool
     requires { (p < 64) × (v < 4) }
     ensures { result ≡ passes (map header_of known.now) full.now p v }
@@ -61,6 +50,7 @@ pub fn passes(known: &[u64], full: &[usize], p: usize, v: usize) -> bool
 }
 
 // In some variable.
+#[tactic(auto, unfolding(model_texts::specs::Whole::leaves_out))]
 fn leaves_out(known: &[u64], full: &[usize], p: usize) -> bool
     requires { p < 64 }
     ensures { result ≡ leaves_out (map header_of known.now) full.now p }
@@ -97,10 +87,8 @@ pub fn first_out(known: &[u64], steps: &[u64], inputs: usize, full: &[usize], p:
     ensures { result ≡ first_out (map header_of known.now) steps.now inputs full.now p }
 {
     let mut found = [0usize; 64];
-    let mut k = 0;
-    while k < p {
+    for k in 0..p {
         found[k] = first_next(known, steps, inputs, full, &found[..k]);
-        k += 1;
     }
     first_next(known, steps, inputs, full, &found[..p])
 }

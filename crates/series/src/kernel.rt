@@ -51,11 +51,7 @@ pub fn series(
     ensures cleared { scratch.new ≡ scratch_after (series_gate word a.now head out.old scratch.old)
         (announced_one Series word) scratch.old }
 {
-    let o = gates::open_work(Family::Series, word, a.len(), out.len(), scratch.len());
-    let refusal = o.refusal;
-    if refusal.number != 0 {
-        return Answer::Refused(refusal);
-    }
+    let o = gates::open_work(Family::Series, word, a.len(), out.len(), scratch.len())?;
     let x = o.a;
     let h = o.told;
     let la = x.lengths;
@@ -74,5 +70,5 @@ pub fn series(
         &mut scratch[..room],
     );
     blocks::clear(&mut scratch[..room]);
-    Answer::Done(pack(h))
+    Ok(pack(h))
 }

@@ -65,13 +65,10 @@ fn exp_rows(
 {
     let t = sx[v];
     let s = sr[v];
-    let m = r[v];
     let e = n + lx[v] * t;
     series_scaling::weigh(xs, t, &mut work[n..e]);
-    let mut k = 1;
-    while k < m {
+    for k in 1..r[v] {
         exp_row(work, n, e, lx, sx, r, sr, v, k, &mut row[..s]);
-        k += 1;
     }
 }
 

@@ -40,13 +40,11 @@ pub fn gather_rows(
     let w = v + 1;
     let t = sx[v];
     let s = sr[v];
-    let mut j = lo;
-    while j < hi {
+    for j in lo..hi {
         let i = left_row(back, k, j);
         let p = i * t;
         let q = (k - i) * s;
         product_general::rows(&xs[p..p + t], lx, sx, &ys[q..q + s], r, sr, r, sr, w, row);
-        j += 1;
     }
 }
 

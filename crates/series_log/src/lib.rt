@@ -165,11 +165,8 @@ fn log_rows(
     ensures spent { length row.new ≡ length row.old }
 {
     let s = sr[v];
-    let m = r[v];
-    let mut k = 1;
-    while k < m {
+    for k in 1..r[v] {
         log_row(xs, lx, sx, r, sr, v, k, n, work, &mut row[..s]);
-        k += 1;
     }
 }
 

@@ -32,10 +32,8 @@ fn log_sum(xs: &[f64], m: usize, done: &[f64]) -> f64
     let k = done.len();
     let lo = first_turn(k, m);
     let mut sum = 0.0;
-    let mut j = lo;
-    while j < k {
+    for j in lo..k {
         sum = sum + xs[k - j] * done[j] * (j as f64);
-        j += 1;
     }
     sum
 }
@@ -58,11 +56,8 @@ pub fn log_line(head: f64, xs: &[f64], m: usize, to: &mut [f64])
     ensures { to.new ≡ grow (length to.old - 1) (next_place m xs.now) (head ∷ []) }
 {
     to[0] = head;
-    let n = to.len();
-    let mut k = 1;
-    while k < n {
-        let z = log_next(xs, m, &to[0..k]);
+    for k in 1..to.len() {
+        let z = log_next(xs, m, &to[..k]);
         to[k] = z;
-        k += 1;
     }
 }

@@ -1,4 +1,5 @@
 // Each place times a whole number, or over one.
+// Four loops, and not one over a closure: each is one line, and its contract says which factor stands left.
 #![tactic(auto)]
 
 ghost use Rattle.std.specs.Prelude.{◌≡◌, ◌+◌, ◌*◌, ◌≤◌, ◌<◌, length, get_or};
@@ -15,12 +16,9 @@ pub fn weigh(xs: &[f64], t: usize, to: &mut [f64])
     requires fact_2 { length to.old ≤ 64 * t }
     ensures { to.new ≡ table (length to.old) (weighed_at t xs.now) }
 {
-    let n = to.len();
-    let mut i = 0;
-    while i < n {
-        let j = i / t;
-        to[i] = xs[i] * (j as f64);
-        i += 1;
+    for (i, place) in to.iter_mut().enumerate() {
+        let row = i / t;
+        *place = xs[i] * (row as f64);
     }
 }
 
@@ -30,11 +28,8 @@ pub fn divide_by(k: usize, to: &mut [f64])
     ensures { to.new ≡ over_whole k to.old }
 {
     let d = k as f64;
-    let n = to.len();
-    let mut i = 0;
-    while i < n {
-        to[i] = to[i] / d;
-        i += 1;
+    for place in to.iter_mut() {
+        *place = *place / d;
     }
 }
 
@@ -45,11 +40,8 @@ pub fn scale(k: usize, a: &[f64], to: &mut [f64])
     ensures { to.new ≡ times_whole k a.now }
 {
     let d = k as f64;
-    let n = to.len();
-    let mut i = 0;
-    while i < n {
-        to[i] = a[i] * d;
-        i += 1;
+    for (i, place) in to.iter_mut().enumerate() {
+        *place = a[i] * d;
     }
 }
 
@@ -60,10 +52,7 @@ pub fn multiply(k: usize, a: &[f64], to: &mut [f64])
     ensures { to.new ≡ table (length a.now) (λ i. mul binary64 (whole_f k) (get_or a.now i nan)) }
 {
     let d = k as f64;
-    let n = to.len();
-    let mut i = 0;
-    while i < n {
-        to[i] = d * a[i];
-        i += 1;
+    for (i, place) in to.iter_mut().enumerate() {
+        *place = d * a[i];
     }
 }

@@ -5,16 +5,9 @@ ghost use Rattle.settings.specs.Given.{Given, CallGiven, HeardGiven};
 
 use model_settings::Content;
 use replay_input::{argument, argument_count};
-use settings_command::argument::{Taken, call_of, chance_of, whole_of};
+use settings_command::argument::{call_of, chance_of, whole_of};
 use settings_command::asked::Asked;
 use std::env::Env;
-
-// What the arguments ask for, and whether each one that the call has says a number.
-#[derive(Clone, Copy)]
-pub struct Heard {
-    pub good: bool,
-    pub asked: Asked,
-}
 
 // Where nothing can be printed the steps go on: what is made of FILE does not hang on who listens.
 pub fn say(rt: &impl Print, text: &[u8]) {
@@ -22,7 +15,7 @@ pub fn say(rt: &impl Print, text: &[u8]) {
 }
 
 // Argument i as a whole number.
-fn given(rt: &impl Env, i: usize) -> Taken
+fn given(rt: &impl Env, i: usize) -> Option<u64>
     ensures { Given whole_of result }
 {
     let mut text = [0u8; 64];
@@ -31,7 +24,7 @@ fn given(rt: &impl Env, i: usize) -> Taken
 }
 
 // Argument i as the word of a chance.
-fn given_chance(rt: &impl Env, i: usize) -> Taken
+fn given_chance(rt: &impl Env, i: usize) -> Option<u64>
     ensures { Given chance_of result }
 {
     let mut text = [0u8; 64];
@@ -48,8 +41,8 @@ pub fn call_given(rt: &impl Env) -> u8
     call_of(&name[..n], argument_count(rt))
 }
 
-// What the arguments ask of a call.
-pub fn asked_of(rt: &impl Env, call: u8) -> Heard
+// What the arguments ask of a call, where each one that it has says a number.
+pub fn asked_of(rt: &impl Env, call: u8) -> Option<Asked>
     ensures { HeardGiven call result }
 {
     let department = given(rt, 3);
@@ -58,23 +51,24 @@ pub fn asked_of(rt: &impl Env, call: u8) -> Heard
     let chance = given_chance(rt, 5);
     let horizon = given(rt, 6);
     let recipe = given(rt, 7);
-    let saved = from.good & (chance.good & (horizon.good & recipe.good));
-    let brought = from.good & kept.good;
-    let content = Content {
-        chance: chance.value,
-        horizon: horizon.value,
-        recipe: recipe.value,
-    };
-    let asked = Asked {
-        call,
-        department: department.value,
-        from: from.value,
-        kept: kept.value,
-        content,
-    };
-    Heard {
-        good: (call < 3)
-            | (department.good & ((call == 3) | (((call == 4) & saved) | ((call == 5) & brought)))),
-        asked,
+    let saved = from.is_some() & (chance.is_some() & (horizon.is_some() & recipe.is_some()));
+    let brought = from.is_some() & kept.is_some();
+    let good = (call < 3)
+        | (department.is_some()
+            & ((call == 3) | (((call == 4) & saved) | ((call == 5) & brought))));
+    if !good {
+        return None;
     }
+    let content = Content {
+        chance: chance.unwrap_or(0),
+        horizon: horizon.unwrap_or(0),
+        recipe: recipe.unwrap_or(0),
+    };
+    Some(Asked {
+        call,
+        department: department.unwrap_or(0),
+        from: from.unwrap_or(0),
+        kept: kept.unwrap_or(0),
+        content,
+    })
 }

@@ -216,12 +216,10 @@ fn main(rt: HostRuntime) {
         say_usage(&rt);
         return;
     }
-    let heard = asked_of(&rt, call);
-    let asked = heard.asked;
-    if !heard.good {
+    let Some(asked) = asked_of(&rt, call) else {
         say_no_number(&rt);
         return;
-    }
+    };
     if (call == 2) | (call == 3) {
         show(&rt, &path[..n], asked);
     } else {

@@ -1,15 +1,13 @@
 -- What the arguments of the program `settings` say: definitions, and no laws.
-use Rattle.std.specs.Prelude.{ℕ, ◌+◌, ◌-◌, ◌*◌, Bool, true, false, ◌&&◌, cond, List, ltb, leb, eqb, length, get_or}
+use Rattle.std.specs.Prelude.{Some, None, ℕ, ◌+◌, ◌-◌, ◌*◌, Bool, true, false, ◌&&◌, cond, List, ltb, leb, eqb, length, get_or, Option}
 use Rattle.std.specs.Float.{binary64}
 use Rattle.std.specs.Float.Ieee.{to_bits}
 use Rattle.lists.specs.Bytes.{bytes}
 use Rattle.lists.specs.Every.{every}
 use Rattle.lists.specs.Walk.{walk}
 use Rattle.model_texts.specs.Hex.{word_at, digit_at}
-use Rattle.model_decimals.specs.declared.Read.{Read}
-use Rattle.model_decimals.specs.declared.Read.TheVariants.{Number, Refused}
+use Rattle.model_decimals.specs.Results.{Read}
 use Rattle.model_decimals.specs.Typed.{read_text}
-use Rattle.settings_command.specs.declared.argument.Taken.{Taken}
 
 -- '0' to '9'
 abbrev pub is_decimal : ℕ → Bool
@@ -20,16 +18,16 @@ unfoldable pub pushed : ℕ → ℕ → ℕ
 pushed b n = cond (ltb n 100000000000000000) (10 * n + (b - 48)) n
 
 -- whether a text says something, and what
-abbrev pub says : ℕ → Taken
-says n = record { good = true; value = n }
+abbrev pub says : ℕ → Option ℕ
+says n = Some n
 
-abbrev pub says_nothing : Taken
-says_nothing = record { good = false; value = 0 }
+abbrev pub says_nothing : Option ℕ
+says_nothing = None
 
 -- the word of a float that was read
-unfoldable pub chance_read : Read → Taken
-chance_read (Number x) = says (to_bits binary64 x)
-chance_read Refused = says_nothing
+unfoldable pub chance_read : Read → Option ℕ
+chance_read (Some x) = says (to_bits binary64 x)
+chance_read None = says_nothing
 
 module _ (t : List ℕ) where
   -- 1 to 18 decimal digits
@@ -39,7 +37,7 @@ module _ (t : List ℕ) where
   unfoldable pub number_of : ℕ
   number_of = walk (λ p n. pushed (get_or t p 0) n) (length t) 0 0
 
-  unfoldable pub whole_of : Taken
+  unfoldable pub whole_of : Option ℕ
   whole_of = cond is_number (says number_of) says_nothing
 
   -- 0x and 16 hex digits
@@ -47,7 +45,7 @@ module _ (t : List ℕ) where
   is_bits = eqb (length t) 18 && ((eqb (get_or t 0 0) 48 && eqb (get_or t 1 0) 120) && every (digit_at t) 16 2)
 
   -- a chance: the bits of a float, or a number as people type it, which is the float nearest to it
-  unfoldable pub chance_of : Taken
+  unfoldable pub chance_of : Option ℕ
   chance_of = cond is_bits (says (word_at t 2)) (chance_read (read_text t))
 
   -- whether the text is another one

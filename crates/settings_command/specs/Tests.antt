@@ -1,45 +1,95 @@
 -- What the loops over an argument carry, and which way a test went.
-use Rattle.std.specs.Prelude.{ℕ, ◌+◌, ◌-◌, ◌*◌, ◌≤◌, ◌<◌, Bool, true, false, not, ◌&&◌, cond, List, ◌≡◌, Float, length, get_or}
-use Rattle.std.proofs.Common.{sym, ap, arith}
+use Rattle.std.specs.Prelude.{Some, None, ℕ, ◌+◌, ◌-◌, ◌*◌, ◌≤◌, ◌<◌, Bool, true, false, not}
+use Rattle.std.specs.Prelude.{◌&&◌, cond, List, ◌≡◌, Float, length, get_or, zero, suc, [], ◌∷◌, drop, refl}
+use Rattle.std.proofs.Common.{sym, ap, arith, ◌∙◌, length-drop, get_or-drop}
 use Rattle.std.proofs.Math.Dec.{leb, eqb}
 use Rattle.std.specs.Float.{binary64}
 use Rattle.std.specs.Float.Ieee.{to_bits}
-use borrow.Author.Tests.{eq-eqb, ne_eqb, lt-ltb, le-ltb, not-true, not-false}
+use borrow.Author.Tests.{eqb-true, eq-eqb, ne_eqb, lt-ltb, le-ltb}
+use Rattle.std.proofs.lemmas.Bool.{eqb-false}
+use Rattle.std.specs.List.{list_all}
+use Rattle.std.specs.Cmp.Lexicographic.{pointwise}
 use Rattle.lists.specs.Bytes.{bytes}
-use Rattle.lists.specs.Every.{every}
-use Rattle.lists.specs.Test.{of-both}
-use Rattle.model_texts.specs.Hex.{digit_at, word_at}
-use Rattle.model_decimals.specs.declared.Read.{Read}
-use Rattle.model_decimals.specs.declared.Read.TheVariants.{Number, Refused}
+use Rattle.lists.specs.Every.{every, every-same}
+use Rattle.lists.specs.Test.{of-both, decide}
+use Rattle.model_texts.specs.Hex.{digit_at, word_at, is_digit}
+use Rattle.model_decimals.specs.Results.{Read}
+use Rattle.model_decimals.specs.Results.{Read}
 use Rattle.model_decimals.specs.Typed.{read_text}
 use Rattle.settings_command.specs.Argument.{is_decimal, is_number, is_bits, is_text, pushed, call_of, number_of}
 use Rattle.settings_command.specs.Argument.{says, says_nothing, whole_of, chance_read, chance_of}
 use Rattle.settings_command.specs.Sentence.{meaning, refusal_text, unread_text}
+
+-- a test of each place, over a list one longer
+every-suc : (f : ℕ → Bool) (n p : ℕ) → every f n (suc p) ≡ every (λ q. f (suc q)) n p
+unfolding every
+every-suc f zero p = refl
+every-suc f (suc n) p = rw (every-suc f n (suc p))
+
+-- a test that every element passes, place by place
+pub all-every : (f : ℕ → Bool) (t : List ℕ) → list_all f t ≡ every (λ p. f (get_or t p 0)) (length t) 0
+unfolding every
+all-every f [] = refl
+all-every f (x ∷ xs) = rw (every-suc (λ p. f (get_or (x ∷ xs) p 0)) (length xs) 0, all-every f xs)
+
+swapped : (e l v : Bool) → (e && (l && v)) ≡ (l && (e && v))
+swapped true l v = refl
+swapped false true v = refl
+swapped false false v = refl
+
+suc-eqb : (a b : ℕ) → eqb (suc a) (suc b) ≡ eqb a b
+suc-eqb a b =
+    decide (eqb a b) (λ t. eq-eqb (suc a) (suc b) (ap suc (eqb-true a b t)) ∙ sym t)
+    (λ t. ne_eqb (suc a) (suc b) (λ e. eqb-false a b t (omega (arith, e))) ∙ sym t)
+
+-- two texts compared, head by head
+pub text-compare : (t u : List ℕ) → pointwise eqb t u ≡ is_text t u
+unfolding every is_text
+text-compare [] [] = refl
+text-compare [] (y ∷ ys) = rw (ne_eqb 0 (suc (length ys)) (λ e. absurd (omega (arith, e))))
+text-compare (x ∷ xs) [] = rw (ne_eqb (suc (length xs)) 0 (λ e. absurd (omega (arith, e))))
+text-compare (x ∷ xs) (y ∷ ys) =
+    rw (suc-eqb (length xs) (length ys), every-suc (λ p. eqb (get_or (x ∷ xs) p 0) (get_or (y ∷ ys) p 0)) (length xs) 0, text-compare xs ys)
+    (swapped (eqb x y) (eqb (length xs) (length ys)) (every (λ p. eqb (get_or xs p 0) (get_or ys p 0)) (length xs) 0))
+
+-- the digits behind the first two bytes
+digits-behind : (t : List ℕ) → every (λ p. is_digit (get_or (drop 2 t) p 0)) 16 0 ≡ every (digit_at t) 16 2
+digits-behind t =
+    every-same (λ p. is_digit (get_or (drop 2 t) p 0)) (λ q. digit_at t (suc (suc q))) 16 0
+    (λ q a b. let e : 2 + q ≡ suc (suc q) = omega arith in
+    ap is_digit (get_or-drop 2 t q 0 ∙ ap (λ (j : ℕ). get_or t j 0) e))
+    ∙ sym (every-suc (digit_at t) 16 1 ∙ every-suc (λ q. digit_at t (suc q)) 16 0)
 
 module _ (t : List ℕ) where
   pub bits-short : (length t ≡ 18 → ⊥) → false ≡ is_bits t
   unfolding is_bits
   bits-short h = rw (ne_eqb _ _ h)
 
-  pub bits-other : length t ≡ 18 → not (eqb (get_or t 0 0) 48 && eqb (get_or t 1 0) 120) ≡ true → false ≡ is_bits t
+  pub bits-other :
+      length t ≡ 18 → (eqb (get_or t 0 0) 48 && eqb (get_or t 1 0) 120) ≡ false
+      → (eqb (get_or t 0 0) 48 && eqb (get_or t 1 0) 120) ≡ is_bits t
   unfolding is_bits
-  bits-other h e = rw (eq-eqb _ _ h, not-true (eqb (get_or t 0 0) 48 && eqb (get_or t 1 0) 120) e)
+  bits-other h e = rw (eq-eqb _ _ h, e)
 
-  pub bits_is :
-      {b : Bool} → length t ≡ 18 → not (eqb (get_or t 0 0) 48 && eqb (get_or t 1 0) 120) ≡ false
-      → every (digit_at t) 16 2 ≡ b → b ≡ is_bits t
+  pub bits_are :
+      {r : Bool} → length t ≡ 18 → (eqb (get_or t 0 0) 48 && eqb (get_or t 1 0) 120) ≡ true
+      → r ≡ list_all is_digit (drop 2 t) → r ≡ is_bits t
   unfolding is_bits
-  bits_is h e f = rw (eq-eqb _ _ h, not-false (eqb (get_or t 0 0) 48 && eqb (get_or t 1 0) 120) e) (sym f)
+  bits_are h e f =
+      let n : length (drop 2 t) ≡ 16 = simp length-drop (omega arith) in
+      let all : list_all is_digit (drop 2 t) ≡ every (λ p. is_digit (get_or (drop 2 t) p 0)) 16 0 =
+      all-every is_digit (drop 2 t) ∙ ap (λ (k : ℕ). every (λ p. is_digit (get_or (drop 2 t) p 0)) k 0) n in
+      rw (eq-eqb _ _ h, e) (f ∙ (all ∙ digits-behind t))
 
-  pub number-long : not (leb 1 (length t) && leb (length t) 18) ≡ true → false ≡ is_number t
+  pub number-long :
+      (leb 1 (length t) && leb (length t) 18) ≡ false → (leb 1 (length t) && leb (length t) 18) ≡ is_number t
   unfolding is_number
-  number-long h = rw (not-true (leb 1 (length t) && leb (length t) 18) h)
+  number-long h = rw h
 
   pub number_is :
-      {b : Bool} → not (leb 1 (length t) && leb (length t) 18) ≡ false → every (λ p. is_decimal (get_or t p 0))
-      (length t) 0 ≡ b → b ≡ is_number t
+      {r : Bool} → (leb 1 (length t) && leb (length t) 18) ≡ true → r ≡ list_all (λ b. is_decimal b) t → r ≡ is_number t
   unfolding is_number
-  number_is h e = rw (not-false (leb 1 (length t) && leb (length t) 18) h) (sym e)
+  number_is h e = rw h (e ∙ all-every (λ b. is_decimal b) t)
 
   pub whole-nothing : is_number t ≡ false → says_nothing ≡ whole_of t
   unfolding whole_of
@@ -54,24 +104,14 @@ module _ (t : List ℕ) where
   chance-bits h e = rw h (ap says e)
 
   pub chance-typed :
-      {r : Read} {x : Float} {n : ℕ} → is_bits t ≡ false → r ≡ read_text t → r ≡ Number x → n ≡ to_bits binary64 x
+      {r : Read} {x : Float} {n : ℕ} → is_bits t ≡ false → r ≡ read_text t → r ≡ Some x → n ≡ to_bits binary64 x
       → says n ≡ chance_of t
   unfolding chance_of chance_read
   chance-typed {r} h e f g = rw (h, ← e, f) (ap says g)
 
-  pub chance-refused : {r : Read} → is_bits t ≡ false → r ≡ read_text t → r ≡ Refused → says_nothing ≡ chance_of t
+  pub chance-refused : {r : Read} → is_bits t ≡ false → r ≡ read_text t → r ≡ None → says_nothing ≡ chance_of t
   unfolding chance_of chance_read
   chance-refused {r} h e f = rw (h, ← e, f)
-
-  pub text-short : (u : List ℕ) → (length t ≡ length u → ⊥) → false ≡ is_text t u
-  unfolding is_text
-  text-short u h = rw (ne_eqb _ _ h)
-
-  pub text-is :
-      (u : List ℕ) {b : Bool} → length t ≡ length u → every (λ p. eqb (get_or t p 0) (get_or u p 0)) (length t) 0 ≡ b
-      → b ≡ is_text t u
-  unfolding is_text
-  text-is u h e = rw (eq-eqb _ _ h) (sym e)
 
 -- which name it was: the tests before it failed
 module _ (t : List ℕ) (n : ℕ) where

@@ -1,7 +1,7 @@
 // Arguments of the program: words, whole numbers, and a chance as people type it or as the 16 hex digits of its word.
 ghost use Rattle.std.specs.Prelude.{◌≡◌, cond, ◌-◌, eqb};
 ghost use Rattle.settings_command.specs.Argument.{is_number, pushed, number_of, whole_of, is_bits, chance_of, is_text, call_of};
-ghost use Rattle.settings_command.specs.Argument.{says_nothing, folder_length};
+ghost use Rattle.settings_command.specs.Argument.{folder_length};
 ghost use Rattle.model_texts.specs.Hex.{is_digit};
 ghost use Rattle.io.specs.Counts.{IsPrefixLen};
 
@@ -9,38 +9,11 @@ use model_decimals::Read;
 use sheet_bits::word_of;
 use sheet_text::line::word_at;
 
-// What an argument says: whether it is a number, and which.
-#[derive(Clone, Copy)]
-pub struct Taken {
-    pub good: bool,
-    pub value: u64,
-}
-
-fn nothing() -> Taken
-    ensures { result ≡ says_nothing }
-{
-    Taken {
-        good: false,
-        value: 0,
-    }
-}
-
 // Whether a text is another one.
 fn is_text(text: &[u8], other: &[u8]) -> bool
     ensures { result ≡ is_text text.now other.now }
 {
-    if text.len() != other.len() {
-        return false;
-    }
-    let n = text.len();
-    let mut k = 0;
-    while k < n {
-        if text[k] != other[k] {
-            return false;
-        }
-        k += 1;
-    }
-    true
+    text == other
 }
 
 // Whether a text is 1 to 18 decimal digits.
@@ -48,28 +21,14 @@ fn is_number(text: &[u8]) -> bool
     ensures { result ≡ is_number text.now }
 {
     let n = text.len();
-    if !((1 <= n) & (n <= 18)) {
-        return false;
-    }
-    let mut k = 0;
-    while k < n {
-        let b = text[k];
-        if !((48 <= b) & (b <= 57)) {
-            return false;
-        }
-        k += 1;
-    }
-    true
+    ((1 <= n) & (n <= 18)) && text.iter().all(|b| (48 <= *b) & (*b <= 57))
 }
 
 // What a decimal digit says, 0 for a byte below.
 fn low(b: u8) -> u64
     ensures { result ≡ b - 48 }
 {
-    if b < 48 {
-        return 0;
-    }
-    (b - 48) as u64
+    b.saturating_sub(48) as u64
 }
 
 // One digit more at the low end. 18 digits never come near the bound.
@@ -86,12 +45,9 @@ fn push(value: u64, b: u8) -> u64
 fn number(text: &[u8]) -> u64
     ensures { result ≡ number_of text.now }
 {
-    let n = text.len();
     let mut value = 0;
-    let mut k = 0;
-    while k < n {
-        value = push(value, text[k]);
-        k += 1;
+    for b in text {
+        value = push(value, *b);
     }
     value
 }
@@ -109,49 +65,31 @@ fn is_bits(text: &[u8]) -> bool
     if text.len() != 18 {
         return false;
     }
-    if !((text[0] == 48) & (text[1] == 120)) {
-        return false;
-    }
-    let mut k = 0;
-    while k < 16 {
-        if !is_hex(text[2 + k]) {
-            return false;
-        }
-        k += 1;
-    }
-    true
+    ((text[0] == b'0') & (text[1] == b'x')) && text[2..].iter().all(|b| is_hex(*b))
 }
 
 // A whole number of 1 to 18 digits.
-pub fn whole_of(text: &[u8]) -> Taken
+pub fn whole_of(text: &[u8]) -> Option<u64>
     ensures { result ≡ whole_of text.now }
 {
-    if !is_number(text) {
-        return nothing();
-    }
-    Taken {
-        good: true,
-        value: number(text),
+    if is_number(text) {
+        Some(number(text))
+    } else {
+        None
     }
 }
 
 // The word of a chance: its bits, or those of the float nearest to what was typed.
-pub fn chance_of(text: &[u8]) -> Taken
+pub fn chance_of(text: &[u8]) -> Option<u64>
     ensures { result ≡ chance_of text.now }
 {
     if is_bits(text) {
-        return Taken {
-            good: true,
-            value: word_at(text, 2),
-        };
+        return Some(word_at(text, 2));
     }
     let read = decimals_reading::read(text);
     match read {
-        Read::Number(x) => Taken {
-            good: true,
-            value: word_of(x),
-        },
-        Read::Refused => nothing(),
+        Some(x) => Some(word_of(x)),
+        None => None,
     }
 }
 
@@ -190,11 +128,8 @@ pub fn folder_length(path: &[u8]) -> usize
     ensures within { IsPrefixLen result path.now }
 {
     let mut n = 0;
-    let mut k = 0;
-    while k < path.len() {
-        let next = k + 1;
-        n = behind_slash(path[k], next, n);
-        k = next;
+    for (k, b) in path.iter().enumerate() {
+        n = behind_slash(*b, k + 1, n);
     }
     n
 }

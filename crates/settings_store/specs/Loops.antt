@@ -1,9 +1,9 @@
 -- What the loops of the test and of a fresh store carry.
-use Rattle.std.specs.Prelude.{ℕ, ◌+◌, ◌≤◌, ◌<◌, Bool, true, false, ◌&&◌, List, ◌≡◌, length, ltb, eqb}
-use Rattle.std.proofs.Common.{sym, ap, ◌∙◌, zero-add, le-leb, lt-ltb, le-ltb}
+use Rattle.std.specs.Prelude.{ℕ, ◌+◌, ◌≤◌, ◌<◌, Bool, true, false, ◌&&◌, List, ◌++◌, ◌≡◌, length, take, drop, ltb, eqb}
+use Rattle.std.proofs.Common.{sym, ap, ◌∙◌, zero-add, le-leb, lt-ltb, le-ltb, arith, length-take}
 use Rattle.std.proofs.lemmas.Bool.{lt-leb}
 use Rattle.lists.specs.Every.{every}
-use Rattle.lists.specs.Table.{front}
+use Rattle.lists.specs.Table.{table}
 use Rattle.model_settings.specs.declared.Content.{Content}
 use Rattle.model_settings.specs.Store.{last_version, blank, fresh_content, in_range, told, refuse, ask}
 use Rattle.model_settings.specs.Words.{slot_at, same_content, good_slot, good_department, valid, version_of, fresh_word}
@@ -53,9 +53,13 @@ module _ (v : ℕ) (c : Content) (k : ℕ) where
   unfolding good_slot
   slot-range h e = rw (le-ltb _ _ h, e)
 
-pub fresh_words_lem : (w : List ℕ) → 544 ≤ length w → front 544 fresh_word w ≡ fresh_words w
+-- the first 544 words are written
+pub fresh-words :
+    (w out : List ℕ) → 544 ≤ length w → out ≡ table (length (take 544 w)) fresh_word → out ++ drop 544 w ≡ fresh_words w
 unfolding fresh_words
-fresh_words_lem w h = rw (le-leb _ _ h)
+fresh-words w out h e =
+    let n : length (take 544 w) ≡ 544 = simp length-take (omega arith) in
+    rw (le-leb _ _ h, e, n)
 
 pub fresh-none : (w : List ℕ) → length w < 544 → w ≡ fresh_words w
 unfolding fresh_words

@@ -21,10 +21,8 @@ pub fn fresh(words: &mut [u64]) -> Settled
     if words.len() < 544 {
         return refused(18);
     }
-    let mut i = 0;
-    while i < 544 {
-        words[i] = fresh_word(i);
-        i += 1;
+    for (i, word) in words[..544].iter_mut().enumerate() {
+        *word = fresh_word(i);
     }
     tell(
         0,

@@ -58,12 +58,10 @@ fn good_department(words: &[u64], d: usize) -> bool
     if 4294967295 < v {
         return false;
     }
-    let mut k = 0;
-    while k < 8 {
+    for k in 0..8 {
         if !good_slot(v, slot(words, d, k), k as u64) {
             return false;
         }
-        k += 1;
     }
     true
 }
@@ -75,12 +73,10 @@ pub fn is_valid(words: &[u64]) -> bool
     if words.len() < 544 {
         return false;
     }
-    let mut d = 0;
-    while d < 32 {
+    for d in 0..32 {
         if !good_department(words, d) {
             return false;
         }
-        d += 1;
     }
     true
 }

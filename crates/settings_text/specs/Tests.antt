@@ -1,13 +1,13 @@
 -- What the loops over a text carry, and which way a test went.
-use Rattle.std.specs.Prelude.{ℕ, ◌+◌, ◌-◌, ◌*◌, ◌≤◌, ◌<◌, Bool, true, false, List, [], ◌≡◌, refl, length, take}
+use Rattle.std.specs.Prelude.{ℕ, ◌+◌, ◌-◌, ◌*◌, ◌≤◌, ◌<◌, Bool, true, false, List, [], ◌++◌, ◌≡◌, length, take, drop}
 use Rattle.std.proofs.Common.{sym, ap, ◌∙◌, zero-add, length-take, length-take-le, eq-eqb, ne_eqb, le-leb}
 use native.Mathlib.Omega.{arith}
 use Rattle.std.proofs.lemmas.Bool.{lt-leb}
 use Rattle.lists.specs.Every.{every}
+use Rattle.lists.specs.Table.{table}
 use Rattle.lists.specs.Grow.{length_over}
-use Rattle.model_texts.specs.Hex.{is_line}
+use Rattle.model_texts.specs.Hex.{is_line, word_at}
 use Rattle.io.specs.Counts.{IsPrefixLen}
-use Rattle.model_texts.specs.Report.{when}
 use Rattle.report_lines.specs.Puts.{Puts, Printed, printed-none}
 use Rattle.model_settings.specs.Words.{version_of}
 use Rattle.settings_text.specs.Text.{is_store, store_words, taken_words, kept_text, version_text}
@@ -24,6 +24,11 @@ module _ (t : List ℕ) where
   pub store_is : {b : Bool} → length t ≡ 9248 → every (λ i. is_line t (17 * i)) 544 0 ≡ b → b ≡ is_store t
   unfolding is_store
   store_is h e = rw (eq-eqb _ _ h) (sym e)
+
+  -- the first 544 words are read
+  pub read-words : (w out : List ℕ) → 544 ≤ length w → out ≡ table (length (take 544 w)) (λ i. word_at t (17 * i)) → out ++ drop 544 w ≡ store_words t w
+  unfolding store_words
+  read-words w out h e = let n : length (take 544 w) ≡ 544 = length-take-le 544 w h in rw (e, n)
 
   -- which way the test of a file went, and what was read
   pub not_taken : (w : List ℕ) → is_store t ≡ false → w ≡ taken_words t w

@@ -15,12 +15,10 @@ fn is_store(text: &[u8]) -> bool
     if text.len() != 9248 {
         return false;
     }
-    let mut k = 0;
-    while k < 544 {
+    for k in 0..544 {
         if !is_line(text, 17 * k) {
             return false;
         }
-        k += 1;
     }
     true
 }
@@ -30,10 +28,8 @@ fn read_store(text: &[u8], words: &mut [u64])
     requires { 544 ≤ length words.old }
     ensures { words.new ≡ store_words text.now words.old }
 {
-    let mut k = 0;
-    while k < 544 {
-        words[k] = word_at(text, 17 * k);
-        k += 1;
+    for (k, word) in words[..544].iter_mut().enumerate() {
+        *word = word_at(text, 17 * k);
     }
 }
 
@@ -65,10 +61,8 @@ pub fn put_store(words: &[u64], at: usize, to: &mut [u8]) -> usize
     ensures { Puts (store_text words.now) at to.old to.new result }
 {
     let mut next = at;
-    let mut k = 0;
-    while k < 544 {
+    for k in 0..544 {
         next = put_hex_line(words[k], next, to);
-        k += 1;
     }
     next
 }

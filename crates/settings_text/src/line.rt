@@ -59,10 +59,8 @@ pub fn put_departments(words: &[u64], at: usize, to: &mut [u8]) -> usize
     ensures { Puts (departments_text words.now) at to.old to.new result }
 {
     let mut next = at;
-    let mut d = 0;
-    while d < 32 {
+    for d in 0..32 {
         next = put_department(words, d, next, to);
-        d += 1;
     }
     next
 }
@@ -102,10 +100,8 @@ pub fn put_versions(words: &[u64], d: usize, at: usize, to: &mut [u8]) -> usize
     ensures { Puts (versions_text words.now d) at to.old to.new result }
 {
     let mut next = at;
-    let mut k = 0u64;
-    while k < 8 {
+    for k in 0..8 {
         next = put_kept(words, d, k, next, to);
-        k += 1;
     }
     next
 }

@@ -8,7 +8,7 @@ use Rattle.model.specs.Announced.{announced}
 use Rattle.model.specs.Poly.{held}
 use Rattle.shape_words.specs.Rules.{Good}
 use Rattle.gates.specs.declared.Opened.{Opened}
-use Rattle.gates.specs.Open.{Opens, told-by, opened-ready, opened-fits}
+use Rattle.gates.specs.Open.{PairOpen, told-by, opened-ready, opened-fits}
 use Rattle.shape_operands.specs.declared.Operand.{Operand}
 use Rattle.shape_operands.specs.Lent.{Lent, given-aside}
 use Rattle.shape_operands.specs.Operand.{taken, AsideAt}
@@ -26,26 +26,26 @@ abbrev pub given : Header → ℕ → Operand
 given x k = record { head = x; count = k; input = true; from = 0 }
 
 -- w and u the words, m and l the coefficients given, n and s the places lent
-module _ {f : Family} {w m u l n s : ℕ} {r : Opened} (o : Opens f w m u l n s r) (z : r.refusal.number ≡ 0) where
+module _ {f : Family} {w m u l n s : ℕ} {r : Opened} (o : PairOpen f w m u l n s r) where
   pub opened-announces : Announces f r.a r.b r.told r.n
   opened-announces =
-      let t = o.tells z in
-      let g = opened-ready o z in
+      let t = o.tells in
+      let g = opened-ready o in
       record { left = rw t.left g.good_a; right = rw t.right g.good_b; is = told-by f t; most = rw t.told g.announced.most; all = t.count }
 
   pub opened-left : {i mp : ℕ} → AsideAt (given r.a r.na) 0 i m mp
-  opened-left = let e = (o.tells z).count_a in record { full = e; aside = given-aside (omega (arith, e, (opened-fits o z).0)) }
+  opened-left = let e = o.tells.count_a in record { full = e; aside = given-aside (omega (arith, e, (opened-fits o).0)) }
 
   pub opened-right : {i mp : ℕ} → AsideAt (given r.b r.nb) 0 i l mp
-  opened-right = let e = (o.tells z).count_b in record { full = e; aside = given-aside (omega (arith, e, (opened-fits o z).1)) }
+  opened-right = let e = o.tells.count_b in record { full = e; aside = given-aside (omega (arith, e, (opened-fits o).1)) }
 
   pub opened-lent : {k : ℕ} → k ≡ 8 * r.n → Lent r.n 0 n k
   opened-lent e =
       let a = opened-announces in
-      record { room = omega (arith, (opened-fits o z).2); spare = omega (arith, e); small = omega (arith, a.all, a.most) }
+      record { room = omega (arith, (opened-fits o).2); spare = omega (arith, e); small = omega (arith, a.all, a.most) }
 
   pub opened-held : (a before : List Float) → taken (given r.a r.na) a before ≡ held w a
-  opened-held a before = rw (o.tells z).left
+  opened-held a before = rw o.tells.left
 
   pub opened-held-right : (b before : List Float) → taken (given r.b r.nb) b before ≡ held u b
-  opened-held-right b before = rw (o.tells z).right
+  opened-held-right b before = rw o.tells.right

@@ -23,11 +23,10 @@ pub fn answer(text: &[u8], output: &mut [u8; 4378]) -> usize
     let mut steps = places();
     let mut known = places();
     let mut pool = floats();
-    let solved = solve(text, &mut headers, &mut steps, &mut known, &mut pool);
-    let refusal = solved.refusal;
-    if refusal.number != 0 {
-        return put_refusal(refusal, output);
-    }
+    let solved = match solve(text, &mut headers, &mut steps, &mut known, &mut pool) {
+        Ok(solved) => solved,
+        Err(refusal) => return put_refusal(refusal, output),
+    };
     let from = solved.from;
     let end = from + solved.count;
     put_done(solved.steps as u8, solved.header, &pool[from..end], output)

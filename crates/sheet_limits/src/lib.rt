@@ -3,6 +3,7 @@
 
 ghost use Rattle.std.specs.Prelude.{◌≡◌, map, ◌≤◌, length};
 ghost use Rattle.model.specs.Word.{header_of};
+ghost use Rattle.model.specs.Passes.{Says};
 ghost use Rattle.model_recipes.specs.Recipe.{recipe_of};
 ghost use Rattle.recipes_kinds.specs.Known.{Known};
 ghost use Rattle.sheet_limits.specs.Limits.{within_limits, OwnJudged};
@@ -23,18 +24,20 @@ fn is_within(places: &[u64], inputs: usize) -> bool
 }
 
 // Why a recipe is not run; where there is no reason, the words that all places announce stand in `known`.
-pub fn judge_own(headers: &[u64], steps: &[u64], edition: u64, known: &mut [u64]) -> Refusal
+pub fn judge_own(
+    headers: &[u64],
+    steps: &[u64],
+    edition: u64,
+    known: &mut [u64],
+) -> Result<(), Refusal>
     requires { 64 ≤ length known.old }
-    ensures { OwnJudged (recipe_of edition headers.now steps.now) known.old known.new result }
+    ensures { Says (OwnJudged (recipe_of edition headers.now steps.now) known.old known.new) result }
 {
-    let refusal = judge(headers, steps, edition, known);
-    if refusal.number != 0 {
-        return refusal;
-    }
+    judge(headers, steps, edition, known)?;
     let inputs = headers.len();
     let end = inputs + steps.len();
     if !is_within(&known[..end], inputs) {
-        return Refusal::by(5);
+        return Err(Refusal::by(5));
     }
-    Refusal::none()
+    Ok(())
 }

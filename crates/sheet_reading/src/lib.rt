@@ -6,6 +6,7 @@ ghost use Rattle.std.specs.Float.Ieee.{of_bits};
 ghost use Rattle.std.specs.Float.{binary64};
 ghost use Rattle.lists.specs.Every.{every};
 ghost use Rattle.lists.specs.Table.{table};
+ghost use Rattle.model.specs.Passes.{Says};
 ghost use Rattle.model_texts.specs.Sheet.{lined, word_on, input_count, step_count, sheet_edition};
 ghost use Rattle.sheet_reading.specs.Headers.{HeadersRead};
 ghost use Rattle.sheet_reading.specs.Reading.{Read, sizes_test, rest_refusal};
@@ -50,24 +51,22 @@ fn is_sized(text: &[u8]) -> bool
 }
 
 // The input headers, as many as `headers` has places, each tested as soon as its line is read.
-fn read_headers(text: &[u8], headers: &mut [u64]) -> Refusal
+fn read_headers(text: &[u8], headers: &mut [u64]) -> Result<(), Refusal>
     requires { length headers.old ≤ 16 }
-    ensures { HeadersRead text.now (length headers.old) headers.new result }
+    ensures { Says (HeadersRead text.now (length headers.old) headers.new) result }
 {
-    let mut i = 0;
-    while i < headers.len() {
+    for i in 0..headers.len() {
         let at = 17 * (1 + i);
         if !is_line(text, at) {
-            return Refusal::by(8);
+            return Err(Refusal::by(8));
         }
         let word = word_at(text, at);
         if !is_good(word) {
-            return bad_word(word, i as u8);
+            return Err(bad_word(word, i as u8));
         }
         headers[i] = word;
-        i += 1;
     }
-    Refusal::none()
+    Ok(())
 }
 
 // Whether n lines stand from the line `from` on.
@@ -75,46 +74,41 @@ fn all_lined(text: &[u8], n: usize, from: usize) -> bool
     requires { n + from ≤ 16777216 }
     ensures { result ≡ every (lined text.now) n from }
 {
-    let mut k = 0;
-    while k < n {
+    for k in 0..n {
         if !is_line(text, 17 * (from + k)) {
             return false;
         }
-        k += 1;
     }
     true
 }
 
 // After the headers: n lines more, from the line `from` on, and no byte behind them.
-fn rest_refusal(text: &[u8], n: usize, from: usize) -> Refusal
+fn rest_refusal(text: &[u8], n: usize, from: usize) -> Result<(), Refusal>
     requires { n + from ≤ 16777216 }
-    ensures { result ≡ rest_refusal text.now n from }
+    ensures { Says (λ r. r ≡ rest_refusal text.now n from) result }
 {
     if !all_lined(text, n, from) {
-        return Refusal::by(8);
+        return Err(Refusal::by(8));
     }
     if 17 * (from + n) < text.len() {
-        return Refusal::by(8);
+        return Err(Refusal::by(8));
     }
-    Refusal::none()
+    Ok(())
 }
 
 // Why a text is no sheet. Where it is one, its input headers stand at the front of `headers`.
-pub fn read(text: &[u8], headers: &mut [u64]) -> Refusal
+pub fn read(text: &[u8], headers: &mut [u64]) -> Result<(), Refusal>
     requires { 16 ≤ length headers.old }
-    ensures { Read text.now headers.old headers.new result }
+    ensures { Says (Read text.now headers.old headers.new) result }
 {
     if !is_line(text, 0) {
-        return Refusal::by(8);
+        return Err(Refusal::by(8));
     }
     if !is_sized(text) {
-        return Refusal::by(7);
+        return Err(Refusal::by(7));
     }
     let inputs = input_count(text);
-    let first = read_headers(text, &mut headers[..inputs]);
-    if first.number != 0 {
-        return first;
-    }
+    read_headers(text, &mut headers[..inputs])?;
     let rest = total_of(&headers[..inputs]) + step_count(text);
     rest_refusal(text, rest, 1 + inputs)
 }
@@ -124,11 +118,8 @@ pub fn fill_words(text: &[u8], from: usize, to: &mut [u64])
     requires { from + length to.old ≤ 16777216 }
     ensures { to.new ≡ table (length to.old) (λ j. word_on text.now (from + j)) }
 {
-    let n = to.len();
-    let mut k = 0;
-    while k < n {
-        to[k] = word_at(text, 17 * (from + k));
-        k += 1;
+    for (k, place) in to.iter_mut().enumerate() {
+        *place = word_at(text, 17 * (from + k));
     }
 }
 
@@ -137,10 +128,7 @@ pub fn fill_floats(text: &[u8], from: usize, to: &mut [f64])
     requires { from + length to.old ≤ 16777216 }
     ensures { to.new ≡ table (length to.old) (λ j. of_bits binary64 (word_on text.now (from + j))) }
 {
-    let n = to.len();
-    let mut k = 0;
-    while k < n {
-        to[k] = sheet_bits::float_of(word_at(text, 17 * (from + k)));
-        k += 1;
+    for (k, place) in to.iter_mut().enumerate() {
+        *place = sheet_bits::float_of(word_at(text, 17 * (from + k)));
     }
 }

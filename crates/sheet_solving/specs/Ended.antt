@@ -1,5 +1,5 @@
 -- By what a sheet is refused, where it is read, judged or run.
-use Rattle.std.specs.Prelude.{ℕ, ◌+◌, ◌*◌, ◌≤◌, ◌≡◌, eqb, Float, take, drop}
+use Rattle.std.specs.Prelude.{Result, ℕ, ◌+◌, ◌*◌, ◌≤◌, ◌≡◌, eqb, Float, take, drop}
 use mathlib.Core.List.{List, ◌++◌, map}
 use Rattle.std.proofs.Math.Path.{refl, ap}
 use Rattle.std.proofs.Common.{sym, ◌∙◌, arith, length-append, length-drop, length-take-le, take_all, eqb-true, eq-eqb, ne_eqb}
@@ -23,7 +23,8 @@ use Rattle.sheet_solving.specs.Opened.{Opened, opened, opened-good, opened-few, 
 use Rattle.sheet_limits.specs.Limits.{OwnJudged}
 use Rattle.sheet_solving.specs.declared.Solved.{Solved}
 use Rattle.sheet_solving.specs.Running.{Opening, Running, running-is, running-passed, running-known}
-use Rattle.sheet_solving.specs.Solves.{before_run, left_pool, Ends, Ended}
+use Rattle.std.proofs.lemmas.Result.{IfOk-weaker}
+use Rattle.sheet_solving.specs.Solves.{before_run, left_pool, Ends, Ended, Ending, Solution}
 
 -- refused as it is read
 pub read-refused : (t : List ℕ) {r : Refusal} → r ≡ read_refusal t → (r.number ≡ 0 → ⊥) → r ≡ sheet_refusal t
@@ -144,33 +145,34 @@ module _ {t hs : List ℕ} {ed : ℕ} (o : Opening t hs ed) where
       }
 
 -- the run has ended: its n steps stand at the front of `steps`, the words of its k places at the front of `known`
-module _ {t hs : List ℕ} {ed : ℕ} (steps known : List ℕ) (old : List Float) {pool : List Float} {n k c : ℕ} {s : Solved}
-    (r : Running t (recipe_of ed hs (take n steps)) (take k known) c)
-    (en : n ≡ step_count t) (ek : k ≡ length hs + n) (e : Ends t hs (take n steps) old pool s) where
+module _ {t hs : List ℕ} {ed : ℕ} (steps known : List ℕ) (old : List Float) {n k c : ℕ}
+    (r : Running t (recipe_of ed hs (take n steps)) (take k known) c) (en : n ≡ step_count t) (ek : k ≡ length hs + n) where
   ended-steps : length (take n steps) ≡ n
   ended-steps = ap length r.steps ∙ (steps-many t ∙ sym en)
 
-  pub ended-done : Ended t hs steps known old pool s
-  ended-done =
+  ended-solved : {pool : List Float} {s : Solved} → Ending t hs (take n steps) pool s → Solution t hs steps known pool s
+  ended-solved {pool} {s} d =
+      let i : s.inputs ≡ length hs = d.inputs in
+      let m : s.steps ≡ n = d.steps ∙ ended-steps in
+      let both : s.inputs + s.steps ≡ k = omega (arith, i, m, ek) in
+      let some = (running-passed r).accepts.sizes.some in
       record {
-        refusal = e.refusal;
+        inputs = i ∙ (ap length r.opened.headers ∙ headers-many t);
+        few = omega (arith, i, opening-few r.opened);
+        steps = m ∙ en;
+        some = omega (arith, d.steps, some);
+        fit = omega (arith, i, m, en, opening-fit r.opened);
+        header_words = take_all s.inputs hs (omega (arith, i)) ∙ r.opened.headers;
+        step_words = ap (λ (x : ℕ). take x steps) m ∙ r.steps;
+        places = rw both (r.places ∙ ap announced_places (running-is r));
+        known = rw both (running-known r);
+        last = d.last;
+      }
+
+  pub ended-done : {pool : List Float} {x : Result Solved Refusal} → Ends t hs (take n steps) old pool x → Ended t hs steps known old pool x
+  ended-done {pool} {x} e =
+      record {
+        says = e.says;
         refused = e.refused;
-        done = λ z.
-            let d = e.done z in
-            let i : s.inputs ≡ length hs = d.inputs in
-            let m : s.steps ≡ n = d.steps ∙ ended-steps in
-            let both : s.inputs + s.steps ≡ k = omega (arith, i, m, ek) in
-            let some = (running-passed r).accepts.sizes.some in
-            record {
-              inputs = i ∙ (ap length r.opened.headers ∙ headers-many t);
-              few = omega (arith, i, opening-few r.opened);
-              steps = m ∙ en;
-              some = omega (arith, d.steps, some);
-              fit = omega (arith, i, m, en, opening-fit r.opened);
-              header_words = take_all s.inputs hs (omega (arith, i)) ∙ r.opened.headers;
-              step_words = ap (λ (x : ℕ). take x steps) m ∙ r.steps;
-              places = rw both (r.places ∙ ap announced_places (running-is r));
-              known = rw both (running-known r);
-              last = d.last;
-            };
+        done = IfOk-weaker x (λ s. Ending t hs (take n steps) pool s) (λ s. Solution t hs steps known pool s) (λ s d. ended-solved d) e.done;
       }

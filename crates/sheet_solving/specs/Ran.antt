@@ -1,5 +1,5 @@
 -- A run of a sheet's recipe, stopped or done, and where its last value lies.
-use Rattle.std.specs.Prelude.{ℕ, zero, suc, ◌+◌, ◌-◌, ◌*◌, ◌≤◌, ◌<◌, List, [], ◌∷◌, ◌++◌, map, ◌≡◌, Float, get_or, take, drop}
+use Rattle.std.specs.Prelude.{Ok, Err, ℕ, zero, suc, ◌+◌, ◌-◌, ◌*◌, ◌≤◌, ◌<◌, List, [], ◌∷◌, ◌++◌, map, ◌≡◌, Float, get_or, take, drop}
 use Rattle.std.proofs.Math.Path.{refl, sym, ap}
 use Rattle.std.proofs.Common.{◌∙◌, take-take, take_at, get_or-drop}
 use native.Mathlib.Omega.{arith}
@@ -32,7 +32,7 @@ use Rattle.recipes.specs.Running.{Admitted}
 use Rattle.sheet_solving.specs.Opened.{headers-many, steps-many}
 use Rattle.sheet_solving.specs.declared.Solved.{Solved}
 use Rattle.sheet_solving.specs.Running.{RunningIn, Passed, passed, steps-largest}
-use Rattle.sheet_solving.specs.Solves.{unsolved, solved_by, LastAt, Ends}
+use Rattle.sheet_solving.specs.Solves.{solved_by, LastAt, Ends}
 use Rattle.sheet_solving.specs.Ended.{ran_refusal, left-zeros, opening-few, opening-count, opening-before, opening-refusal}
 
 -- the places of a value end before the pool does
@@ -124,12 +124,12 @@ module _ {t : List ℕ} {it : Recipe} {known : List ℕ} {c : ℕ} (pool : List 
         sym (opening-refusal r.opened r.steps ∙ (or-next _ _ r.judged ∙ rw (← e) stop))
 
     -- it stopped, and the announced places of the pool were cleared
-    pub ran-stopped : {q : Refusal} {ps : List Float} {s : Solved} → q ≡ run_stop it cs → (q.number ≡ 0 → ⊥)
-        → ps ≡ zero_pool (total (announced_steps it)) pool → s ≡ unsolved q → Ends t it.headers it.steps pool ps s
-    ran-stopped eq n ep es =
+    pub ran-stopped : {q : Refusal} {ps : List Float} → q ≡ run_stop it cs → (q.number ≡ 0 → ⊥)
+        → ps ≡ zero_pool (total (announced_steps it)) pool → Ends t it.headers it.steps pool ps (Err q)
+    ran-stopped eq n ep =
         let before = ap (λ (x : Refusal). x.number) (opening-before r.opened r.steps) ∙ r.judged in
         let left = ap (λ (x : Recipe). zero_pool (total (announced_steps x)) pool) in_is ∙ left-zeros t pool before in
-        rw es (record { refusal = eq ∙ ran_refusal_lem; refused = λ z. record { numbers = refl; pool = ep ∙ left }; done = λ z. absurd (n z) })
+        record { says = record { some = n; holds = eq ∙ ran_refusal_lem }; refused = ep ∙ left; done = tt }
 
     -- ws, ps: words and pool as the run left them, which did not stop; the last value lies from the place f on
     module _ {ws : List ℕ} {ps : List Float} {f : ℕ} (y : (run_stop it cs).number ≡ 0)
@@ -217,11 +217,11 @@ module _ {t : List ℕ} {it : Recipe} {known : List ℕ} {c : ℕ} (pool : List 
           }
 
       pub ran-done : {s : Solved} → s ≡ solved_by (length it.headers) (length it.steps) (get_or ws (length it.steps - 1) 0) f
-          → Ends t it.headers it.steps pool ps s
+          → Ends t it.headers it.steps pool ps (Ok s)
       ran-done e =
           rw e
           (record {
-            refusal = no_stop (stopping it cs) y ∙ ran_refusal_lem;
-            refused = λ z. absurd (z refl);
-            done = λ z. record { inputs = refl; steps = refl; last = ran-last };
+            says = no_stop (stopping it cs) y ∙ ran_refusal_lem;
+            refused = tt;
+            done = record { inputs = refl; steps = refl; last = ran-last };
           })

@@ -1,9 +1,10 @@
 -- How a sheet ends, and where its last value lies: what `solve` ensures, and the functions below it.
-use Rattle.std.specs.Prelude.{ℕ, ◌+◌, ◌≤◌, List, map, ◌≡◌, cond, Float, length, take, drop}
+use Rattle.std.specs.Prelude.{Result, OnErr, IfOk, ℕ, ◌+◌, ◌≤◌, List, map, ◌≡◌, cond, Float, length, take, drop}
 use Rattle.model.specs.declared.Refusal.{Refusal}
 use Rattle.model.specs.Header.{stored}
 use Rattle.model.specs.Word.{header_of, word_of}
-use Rattle.model.specs.Refusals.{no_refusal, is_none}
+use Rattle.model.specs.Passes.{Says}
+use Rattle.model.specs.Refusals.{is_none}
 use Rattle.model_recipes.specs.Recipe.{announced_places, announced_steps, total}
 use Rattle.model_recipes.specs.Check.{or_else, check_refusal}
 use Rattle.model_recipes.specs.Run.{zero_pool}
@@ -11,13 +12,9 @@ use Rattle.model_texts.specs.Sheet.{input_count, step_count, sheet_headers, shee
 use Rattle.recipes_kinds.specs.Known.{Known}
 use Rattle.sheet_solving.specs.declared.Solved.{Solved}
 
--- refused by r: every number is 0
-abbrev pub unsolved : Refusal → Solved
-unsolved r = record { refusal = r; inputs = 0; steps = 0; header = 0; from = 0; count = 0 }
-
 -- i inputs, n steps, the last value's header word w, its coefficients from the place f on
 abbrev pub solved_by : ℕ → ℕ → ℕ → ℕ → Solved
-solved_by i n w f = record { refusal = no_refusal; inputs = i; steps = n; header = w; from = f; count = stored (header_of w) }
+solved_by i n w f = record { inputs = i; steps = n; header = w; from = f; count = stored (header_of w) }
 
 -- the last value of the sheet t: its header word w, and c coefficients in the pool from the place f on
 pub record LastAt (t : List ℕ) (pool : List Float) (w f c : ℕ) : Type 0 where
@@ -45,21 +42,13 @@ before_run t = or_else (read_refusal t) (or_else (check_refusal (sheet_recipe t)
 unfoldable pub left_pool : List ℕ → List Float → List Float
 left_pool t ps = cond (is_none (before_run t)) (zero_pool (total (announced_steps (sheet_recipe t))) ps) ps
 
--- every number 0, and the pool, which was ps
-pub record Unsolved (t : List ℕ) (ps ps' : List Float) (s : Solved) : Type 0 where
-  pub numbers : s ≡ unsolved s.refusal
-  pub pool : ps' ≡ left_pool t ps
-
-pub unsolved-by : {s : Solved} {r : Refusal} → s ≡ unsolved r → s ≡ unsolved s.refusal
-unsolved-by e = rw e
-
 -- ---- how it ends
 
 -- of the run of a sheet that is not refused before it; ps: the pool as it came
-pub record Ends (t hs ss : List ℕ) (ps pool : List Float) (s : Solved) : Type 0 where
-  pub refusal : s.refusal ≡ sheet_refusal t
-  pub refused : (s.refusal.number ≡ 0 → ⊥) → Unsolved t ps pool s
-  pub done : s.refusal.number ≡ 0 → Ending t hs ss pool s
+pub record Ends (t hs ss : List ℕ) (ps pool : List Float) (r : Result Solved Refusal) : Type 0 where
+  pub says : Says (λ q. q ≡ sheet_refusal t) r
+  pub refused : OnErr r (pool ≡ left_pool t ps)
+  pub done : IfOk r (λ s. Ending t hs ss pool s)
 
 -- the sheet t is not refused; hs, ss, ks, ps: the buffers for headers, steps, places and the pool, as they are left
 pub record Solution (t hs ss ks : List ℕ) (ps : List Float) (s : Solved) : Type 0 where
@@ -91,10 +80,10 @@ solution-front hs' d h =
       last = d.last;
     }
 
-pub record Ended (t hs ss ks : List ℕ) (ps ps' : List Float) (s : Solved) : Type 0 where
-  pub refusal : s.refusal ≡ sheet_refusal t
-  pub refused : (s.refusal.number ≡ 0 → ⊥) → Unsolved t ps ps' s
-  pub done : s.refusal.number ≡ 0 → Solution t hs ss ks ps' s
+pub record Ended (t hs ss ks : List ℕ) (ps ps' : List Float) (r : Result Solved Refusal) : Type 0 where
+  pub says : Says (λ q. q ≡ sheet_refusal t) r
+  pub refused : OnErr r (ps' ≡ left_pool t ps)
+  pub done : IfOk r (λ s. Solution t hs ss ks ps' s)
 
 -- as long as any sheet takes: buffers of m steps, k places and p places of a pool; of n headers besides
 pub record Lent (m k p : ℕ) : Type 0 where
@@ -110,11 +99,11 @@ pub record Buffers (n m k p : ℕ) : Type 0 where
 
 -- hs, ss, ks, ps: the buffers as they came; hs', ss', ks', ps': as they are left. Of hs', ss' and ks' after a refusal
 -- only the lengths are promised
-pub record Solves (t hs ss ks : List ℕ) (ps : List Float) (hs' ss' ks' : List ℕ) (ps' : List Float) (s : Solved) : Type 0 where
-  pub refusal : s.refusal ≡ sheet_refusal t
+pub record Solves (t hs ss ks : List ℕ) (ps : List Float) (hs' ss' ks' : List ℕ) (ps' : List Float) (r : Result Solved Refusal) : Type 0 where
+  pub says : Says (λ q. q ≡ sheet_refusal t) r
   pub headers_len : length hs' ≡ length hs
   pub steps_len : length ss' ≡ length ss
   pub known_len : length ks' ≡ length ks
   pub pool_len : length ps' ≡ length ps
-  pub refused : (s.refusal.number ≡ 0 → ⊥) → Unsolved t ps ps' s
-  pub done : s.refusal.number ≡ 0 → Solution t hs' ss' ks' ps' s
+  pub refused : OnErr r (ps' ≡ left_pool t ps)
+  pub done : IfOk r (λ s. Solution t hs' ss' ks' ps' s)

@@ -6,7 +6,7 @@ mod run;
 ghost use Rattle.std.specs.Prelude.{◌≡◌, length};
 ghost use Rattle.model.specs.Word.{header_of};
 ghost use Rattle.shape_words.specs.Rules.{Ruled};
-ghost use Rattle.sheet_solving.specs.Solves.{unsolved, solved_by, Buffers, Solves};
+ghost use Rattle.sheet_solving.specs.Solves.{solved_by, Buffers, Solves};
 
 use gates::stored_of;
 use model::Refusal;
@@ -28,11 +28,10 @@ pub fn places() -> [u64; 64]
     [0u64; 64]
 }
 
-// Why a sheet is refused; then all numbers are 0. Where it is not: how many inputs and steps it has, the header word of
-// the last value, where in the pool its coefficients lie, and how many they are.
+// A sheet that is not refused: how many inputs and steps it has, the header word of the last value, where in the pool
+// its coefficients lie, and how many they are.
 #[derive(Clone, Copy)]
 pub struct Solved {
-    pub refusal: Refusal,
     pub inputs: usize,
     pub steps: usize,
     pub header: u64,
@@ -41,25 +40,11 @@ pub struct Solved {
 }
 
 impl Solved {
-    fn refused(refusal: Refusal) -> Solved
-        ensures { result ≡ unsolved refusal }
-    {
-        Solved {
-            refusal,
-            inputs: 0,
-            steps: 0,
-            header: 0,
-            from: 0,
-            count: 0,
-        }
-    }
-
     fn done(inputs: usize, steps: usize, header: u64, from: usize) -> Solved
         requires { Ruled (header_of header) }
         ensures { result ≡ solved_by inputs steps header from }
     {
         Solved {
-            refusal: Refusal::none(),
             inputs,
             steps,
             header,
@@ -79,15 +64,12 @@ pub fn solve(
     steps: &mut [u64],
     known: &mut [u64],
     pool: &mut [f64],
-) -> Solved
+) -> Result<Solved, Refusal>
     requires { Buffers (length headers.old) (length steps.old) (length known.old) (length pool.old) }
     ensures { Solves text.now headers.old steps.old known.old
         pool.old headers.new steps.new known.new pool.new result }
 {
-    let refusal = read(text, headers);
-    if refusal.number != 0 {
-        return Solved::refused(refusal);
-    }
+    read(text, headers)?;
     let edition = edition_of(text);
     let inputs = input_count(text);
     run_read(text, &headers[..inputs], edition, steps, known, pool)

@@ -5,6 +5,7 @@ ghost use Rattle.sheet_solving.specs.Running.{Opening, Running, RunningIn};
 ghost use Rattle.sheet_solving.specs.Solves.{Lent, Ends, Ended};
 
 use crate::{Solved, floats, places};
+use model::Refusal;
 use recipes::admit::run_admitted;
 use recipes_check::{note_inputs, total_of};
 use sheet_limits::judge_own;
@@ -22,7 +23,7 @@ fn run_in(
     pool: &mut [f64],
     words: &mut [u64],
     scratch: &mut [f64],
-) -> Solved
+) -> Result<Solved, Refusal>
     requires { RunningIn text.now (recipe_of edition headers.now steps.now) known.old (length coefficients.old) (length pool.old)
         (length words.old) (length scratch.old) }
     ensures ends { Ends text.now headers.now steps.now pool.old pool.new result }
@@ -43,10 +44,8 @@ fn run_in(
         words,
         scratch,
     );
-    if ran.stop.number != 0 {
-        return Solved::refused(ran.stop);
-    }
-    Solved::done(headers.len(), n, words[n - 1], ran.last)
+    ran.stop?;
+    Ok(Solved::done(headers.len(), n, words[n - 1], ran.last))
 }
 
 // The same with memory of its own but for the pool; `known` are the words that the places announce, `given` how many
@@ -59,7 +58,7 @@ fn run_judged(
     known: &[u64],
     given: usize,
     pool: &mut [f64],
-) -> Solved
+) -> Result<Solved, Refusal>
     requires fact_1 { Running text.now (recipe_of edition headers.now steps.now) known.now given }
     requires fact_2 { 2048 ≤ length pool.old }
     ensures { Ends text.now headers.now steps.now pool.old pool.new result }
@@ -90,7 +89,7 @@ pub fn run_read(
     steps: &mut [u64],
     known: &mut [u64],
     pool: &mut [f64],
-) -> Solved
+) -> Result<Solved, Refusal>
     requires fact_1 { Opening text.now headers.now edition }
     requires fact_2 { Lent (length steps.old) (length known.old) (length pool.old) }
     ensures { Ended text.now headers.now steps.new known.new pool.old pool.new result }
@@ -99,10 +98,7 @@ pub fn run_read(
     let end = headers.len() + n;
     let given = total_of(headers);
     fill_words(text, 1 + headers.len() + given, &mut steps[..n]);
-    let refusal = judge_own(headers, &steps[..n], edition, known);
-    if refusal.number != 0 {
-        return Solved::refused(refusal);
-    }
+    judge_own(headers, &steps[..n], edition, known)?;
     run_judged(
         text,
         headers,

@@ -9,14 +9,14 @@ pub fn sheet_memory() -> [u8; 1115218]
     [0u8; 1115218]
 }
 
-fn is_digit(b: u8) -> bool
+pub fn is_digit(b: u8) -> bool
     ensures { result ≡ is_digit b }
 {
     ((48 <= b) & (b <= 57)) | ((97 <= b) & (b <= 102))
 }
 
 // What a digit says, 0 for any other byte.
-fn digit_of(b: u8) -> u64
+pub fn digit_of(b: u8) -> u64
     ensures { result ≡ digit_of b }
 {
     if (48 <= b) & (b <= 57) {
@@ -28,7 +28,7 @@ fn digit_of(b: u8) -> u64
     0
 }
 
-fn byte_at(text: &[u8], at: usize) -> u8
+pub fn byte_at(text: &[u8], at: usize) -> u8
     ensures { result ≡ byte_at text.now at }
 {
     if at < text.len() { text[at] } else { 0 }
@@ -39,12 +39,10 @@ pub fn is_line(text: &[u8], at: usize) -> bool
     requires { at ≤ 4294967296 }
     ensures { result ≡ is_line text.now at }
 {
-    let mut k = 0;
-    while k < 16 {
+    for k in 0..16 {
         if !is_digit(byte_at(text, at + k)) {
             return false;
         }
-        k += 1;
     }
     byte_at(text, at + 16) == 10
 }
@@ -55,10 +53,8 @@ pub fn word_at(text: &[u8], at: usize) -> u64
     ensures { result ≡ word_at text.now at }
 {
     let mut word = 0;
-    let mut k = at;
-    while k < at + 16 {
+    for k in at..at + 16 {
         word = 16 * word + digit_of(byte_at(text, k));
-        k += 1;
     }
     word
 }

@@ -19,24 +19,17 @@ pub fn put_bytes(bytes: &[u8], at: usize, to: &mut [u8]) -> usize
     requires { at + length bytes.now ≤ length to.old }
     ensures { Put at bytes.now to.old to.new result }
 {
-    let mut k = 0;
-    while k < bytes.len() {
-        to[at + k] = bytes[k];
-        k += 1;
-    }
-    at + k
+    let end = at + bytes.len();
+    to[at..end].copy_from_slice(bytes);
+    end
 }
 
 pub fn put_spaces(n: usize, at: usize, to: &mut [u8]) -> usize
     requires { at + n ≤ length to.old }
     ensures { Put at (table n (λ k. 32)) to.old to.new result }
 {
-    let mut k = 0;
-    while k < n {
-        to[at + k] = 32;
-        k += 1;
-    }
-    at + k
+    to[at..at + n].fill(32);
+    at + n
 }
 
 // The last decimal digit of n.
@@ -59,7 +52,7 @@ pub fn put_decimal(n: u64, at: usize, to: &mut [u8]) -> usize
 }
 
 // The digit that says d.
-fn digit_for(d: u8) -> u8
+pub fn digit_for(d: u8) -> u8
     requires { d < 16 }
     ensures { result ≡ digit_for d }
 {
@@ -67,7 +60,7 @@ fn digit_for(d: u8) -> u8
 }
 
 // Digit number k of a word, most significant first.
-fn hex_digit(word: u64, k: u64) -> u8
+pub fn hex_digit(word: u64, k: u64) -> u8
     requires { k < 16 }
     ensures { result ≡ hex_digit word k }
 {
@@ -78,12 +71,10 @@ pub fn put_word(word: u64, at: usize, to: &mut [u8]) -> usize
     requires { at + 16 ≤ length to.old }
     ensures { Put at (table 16 (hex_digit word)) to.old to.new result }
 {
-    let mut k = 0;
-    while k < 16 {
+    for k in 0..16 {
         to[at + k] = hex_digit(word, k as u64);
-        k += 1;
     }
-    at + k
+    at + 16
 }
 
 // The line of a word.
@@ -101,10 +92,8 @@ pub fn put_floats(xs: &[f64], at: usize, to: &mut [u8]) -> usize
     ensures { Put at (hex_lines (map (to_bits binary64) xs.now)) to.old to.new result }
 {
     let mut next = at;
-    let mut k = 0;
-    while k < xs.len() {
-        next = put_line(sheet_bits::word_of(xs[k]), next, to);
-        k += 1;
+    for x in xs {
+        next = put_line(sheet_bits::word_of(*x), next, to);
     }
     next
 }

@@ -7,7 +7,7 @@ use Rattle.lists.specs.Four.{at as length_at}
 use Rattle.lists.specs.Table.{table}
 use Rattle.lists.specs.Part.{part, length_part, below_then, Kept}
 use Rattle.model.specs.declared.Header.{Header}
-use Rattle.model.specs.declared.Way.{Way}
+use Rattle.substitution_way.specs.declared.Way.{Way}
 use Rattle.model.specs.declared.Family.TheVariants.{Substitution}
 use Rattle.model.specs.Header.{count, stored, with_lengths}
 use Rattle.model.specs.Places.{index}
@@ -18,7 +18,7 @@ use Rattle.model.specs.Product.{is_zero, constant_block}
 use Rattle.model.specs.Substitute.{row_at, powered, horner, substitute_poly}
 use Rattle.shape_words.specs.Lengths.{Lengths}
 use Rattle.product.specs.Room.{Stands}
-use Rattle.substitution_way.specs.Way.{way_of, put_for}
+use Rattle.substitution_way.specs.Way.{kind_of, slope_of, way_of, put_for}
 use Rattle.substitution.specs.Room.{row_of, Given, Puts, Cuts, turns, Hornering}
 use Rattle.substitution_turn.specs.Room.{turn_of, Turned}
 use Rattle.substitution_way.specs.Ways.{lacks, value_0, has_1, value_1, has_2, line_2, value_2, has_3, some_3, value_3}
@@ -47,23 +47,24 @@ substituting-given g e =
 -- ---- the ways that ask the polynomial alone
 
 unfoldable pub plain_of : Way → List ℕ → ℕ → Block → Block
-plain_of w l v a = cond (eqb w.kind 0) a (cond (eqb w.kind 1) (row_at l v a 0) (powered l v a w.line.m))
+plain_of w l v a = cond (eqb (kind_of w) 0) a (cond (eqb (kind_of w) 1) (row_at l v a 0) (powered l v a (slope_of w)))
 
 pub record Plain (w : Way) (la l : List ℕ) (v ma mo : ℕ) : Type 0 where
-  pub same : w.kind ≡ 0 → mo ≡ ma
-  pub row : w.kind ≡ 1 → Cuts la (row_of l v la) v ma mo
-  pub line : (w.kind ≡ 0 → ⊥) → (w.kind ≡ 1 → ⊥) → Cuts la (cut_to l la) v ma mo
+  pub low : kind_of w ≤ 2
+  pub same : kind_of w ≡ 0 → mo ≡ ma
+  pub row : kind_of w ≡ 1 → Cuts la (row_of l v la) v ma mo
+  pub line : (kind_of w ≡ 0 → ⊥) → (kind_of w ≡ 1 → ⊥) → Cuts la (cut_to l la) v ma mo
 
 module _ (w : Way) (l : List ℕ) (v : ℕ) (a : Block) where
-  pub plain_0 : w.kind ≡ 0 → plain_of w l v a ≡ a
+  pub plain_0 : kind_of w ≡ 0 → plain_of w l v a ≡ a
   unfolding plain_of
   plain_0 h = rw (eq-eqb _ _ h)
 
-  pub plain_1 : w.kind ≡ 1 → plain_of w l v a ≡ row_at l v a 0
+  pub plain_1 : kind_of w ≡ 1 → plain_of w l v a ≡ row_at l v a 0
   unfolding plain_of
   plain_1 h = rw h
 
-  pub plain_2 : (w.kind ≡ 0 → ⊥) → (w.kind ≡ 1 → ⊥) → plain_of w l v a ≡ powered l v a w.line.m
+  pub plain_2 : (kind_of w ≡ 0 → ⊥) → (kind_of w ≡ 1 → ⊥) → plain_of w l v a ≡ powered l v a (slope_of w)
   unfolding plain_of
   plain_2 h i = rw (ne_eqb _ _ h, ne_eqb _ _ i)
 
@@ -72,7 +73,7 @@ is_2 {k} h i j = omega arith
 
 -- what the chosen way makes, and that it has room
 module _ {x y h : Header} {v n mw : ℕ} (g : Given x y h v n (stored x) (stored y) n mw) (a b : List Float) {w : Way}
-    (e : w ≡ way_of x.vars v (block y.lengths b)) (low : w.kind ≤ 2) where
+    (e : w ≡ way_of x.vars v (block y.lengths b)) (low : kind_of w ≤ 2) where
   abbrev A : Block
   A = block x.lengths a
 
@@ -81,31 +82,32 @@ module _ {x y h : Header} {v n mw : ℕ} (g : Given x y h v n (stored x) (stored
 
   pub plain-is : plain_of w h.limits v A ≡ put_for x.vars h.limits v A B
   plain-is =
-      decide (eqb w.kind 0)
+      decide (eqb (kind_of w) 0)
       (λ t. let z = eqb-true _ _ t in plain_0 w h.limits v A z ∙ sym (value_0 x.vars v h.limits A B e z))
-      (λ t. decide (eqb w.kind 1)
+      (λ t. decide (eqb (kind_of w) 1)
       (λ u. let z = eqb-true _ _ u in plain_1 w h.limits v A z ∙ sym (value_1 x.vars v h.limits A B e z))
       (λ u. let i = eqb-false _ _ t in let j = eqb-false _ _ u in plain_2 w h.limits v A i j ∙ sym (value_2 x.vars v h.limits A B e (is_2 low i j))))
 
   pub plain-room : {mo : ℕ} → mo ≡ n → Plain w x.lengths h.limits v (stored x) mo
   plain-room p = rw p (record {
+    low = low;
     same = λ z. given-same g (lacks x.vars v h.limits A B e z);
     row = λ z. row-cuts (given-puts g (has_1 x.vars v h.limits A B e z));
     line = λ i j. let z = is_2 low i j in
-        line-cuts (given-puts g (has_2 x.vars v h.limits A B e z)) a b w.line.m
+        line-cuts (given-puts g (has_2 x.vars v h.limits A B e z)) a b (slope_of w)
         (line_2 x.vars v h.limits A B e z);
   })
 
 -- Horner's rule
 module _ {x y h : Header} {v n mw : ℕ} (g : Given x y h v n (stored x) (stored y) n mw) (a b : List Float) {w : Way}
-    (e : w ≡ way_of x.vars v (block y.lengths b)) (high : 2 < w.kind) where
-  none_0 : w.kind ≡ 0 → ⊥
+    (e : w ≡ way_of x.vars v (block y.lengths b)) (high : 2 < kind_of w) where
+  none_0 : kind_of w ≡ 0 → ⊥
   none_0 z = omega (arith, z, high)
 
-  none_1 : w.kind ≡ 1 → ⊥
+  none_1 : kind_of w ≡ 1 → ⊥
   none_1 z = omega (arith, z, high)
 
-  none_2 : w.kind ≡ 2 → ⊥
+  none_2 : kind_of w ≡ 2 → ⊥
   none_2 z = omega (arith, z, high)
 
   pub horner-puts : Puts x.lengths y.lengths h.limits v n (stored x) (stored y) n mw

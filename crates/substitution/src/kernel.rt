@@ -27,11 +27,12 @@ ghost use Rattle.substitution_way.specs.Way.{way_of, put_for};
 ghost use Rattle.substitution.specs.Room.{row_of, Given, Puts, Cuts, turns, Hornering};
 ghost use Rattle.substitution.specs.Placed.{plain_of, Plain, Wrote};
 
-use model::{Header, Way};
+use model::Header;
 use readings_row::pick;
 use shape::limits::cut_to;
 use shape_operands::Operand;
 use shape_words::places::count_of;
+use substitution_way::Way;
 
 // The lengths of a row of v: 1 there, cut to the limits elsewhere.
 fn row_lengths(limits: [usize; 4], v: usize, n: [usize; 4]) -> [usize; 4]
@@ -114,16 +115,15 @@ fn plain_put(
     requires { Plain w la limits v (length a.now) (length out.old) }
     ensures { Stands (plain_of w limits v (block la a.now)) out.new result }
 {
-    let kind = w.kind;
-    if kind == 0 {
-        blocks::copy(a, out);
-        return la;
+    match w {
+        Way::Same => {
+            blocks::copy(a, out);
+            la
+        }
+        Way::Zero => zero_put(a, la, v, limits, out),
+        Way::Powers(m) => line_put(a, la, v, m, limits, out),
+        Way::Horner => unreachable!(),
     }
-    if kind == 1 {
-        return zero_put(a, la, v, limits, out);
-    }
-    let line = w.line;
-    line_put(a, la, v, line.m, limits, out)
 }
 
 // Which way what is put goes for v, from where it lies.
@@ -271,11 +271,10 @@ fn rows_to(
 {
     let row = 2 * n;
     let end = at + n;
-    let mut left = k;
     let mut value = r;
-    while 0 < left {
-        left -= 1;
+    for left in (0..k).rev() {
         row_from(p, c, v, left, a, out, row, work);
+        // not into `value` at once: the borrow checker does not cover a call's array laid in a loop's variable
         let next = substitution_turn::turn(work, n, value, b, c, limits, &mut out[at..end]);
         value = next;
     }
@@ -347,7 +346,7 @@ fn front_to(
     let x = p.head;
     let limits = h.limits;
     let w = way_from(x.vars, v, q, b, out);
-    if 2 < w.kind {
+    if let Way::Horner = w {
         return horner_to(v, p, q, limits, n, a, b, out, at, work);
     }
     if p.input {

@@ -31,11 +31,7 @@ pub fn subst_var(
         b.len(),
         out.len(),
         scratch.len(),
-    );
-    let refusal = o.refusal;
-    if refusal.number != 0 {
-        return Answer::Refused(refusal);
-    }
+    )?;
     let x = o.a;
     let y = o.b;
     let h = o.told;
@@ -55,5 +51,5 @@ pub fn subst_var(
     };
     let r = kernel::substitute_to(v, p, q, h, n, a, b, out, 0, &mut scratch[..room]);
     blocks::clear(&mut scratch[..room]);
-    Answer::Done(pack(r))
+    Ok(pack(r))
 }

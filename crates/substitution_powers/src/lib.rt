@@ -12,15 +12,13 @@ ghost use Rattle.substitution_powers.specs.Powers.{by_row, by_part, Whole};
 fn times_each(factor: f64, to: &mut [f64])
     ensures { to.new ≡ table (length to.old) (λ k. mul binary64 (get_or to.old k nan) factor) }
 {
-    let n = to.len();
-    let mut k = 0;
-    while k < n {
-        to[k] = to[k] * factor;
-        k += 1;
+    for place in to.iter_mut() {
+        *place = *place * factor;
     }
 }
 
 // Rows of s places: row k times m to the k, by running products from 1.0.
+#[tactic(auto, using(crate::proofs::Fits::parts_fit))]
 fn power_rows(m: f64, s: usize, to: &mut [f64])
     requires { Whole s (length to.old) }
     ensures { to.new ≡ table (length to.old) (by_row m s to.old) }
@@ -35,6 +33,7 @@ fn power_rows(m: f64, s: usize, to: &mut [f64])
 }
 
 // Parts of `width` places, each of them rows of s places.
+#[tactic(auto, using(crate::proofs::Fits::parts_fit))]
 pub fn power_parts(m: f64, s: usize, width: usize, to: &mut [f64])
     requires fact_1 { Whole s width }
     requires fact_2 { Whole width (length to.old) }

@@ -1,24 +1,37 @@
 -- Which way a substitution goes, and its value.
-use Rattle.std.specs.Prelude.{ℕ, List, ◌&&◌, cond, ltb, eqb}
+use Rattle.std.specs.Prelude.{ℕ, List, ◌&&◌, cond, ltb, eqb, Float}
 use Rattle.std.specs.Float.Ieee.{eq}
-use Rattle.model.specs.declared.Way.{Way}
+use Rattle.substitution_way.specs.declared.Way.{Way}
+use Rattle.substitution_way.specs.declared.Way.TheVariants.{Same, Zero, Powers, Horner}
 use Rattle.model.specs.Refusals.{zero_f}
 use Rattle.model.specs.Poly.{Block}
-use Rattle.model.specs.Linear.{no_linear, linear}
+use Rattle.model.specs.Linear.{linear}
 use Rattle.model.specs.Product.{is_zero}
-use Rattle.product.specs.Chosen.{way}
 use Rattle.model.specs.Substitute.{substituted}
 
--- Which way b goes for v, of `vars` variables: 0 the variable is not there, 1 b is zero, 2 b is linear in v with c
--- zero, 3 Horner; with the line.
+-- the number of a way: 0 the variable is not there, 1 b is zero, 2 b is linear in v with c zero, 3 Horner
+abbrev pub kind_of : Way → ℕ
+kind_of Same = 0
+kind_of Zero = 1
+kind_of (Powers m) = 2
+kind_of Horner = 3
+
+-- the number that b is v times
+abbrev pub slope_of : Way → Float
+slope_of Same = zero_f
+slope_of Zero = zero_f
+slope_of (Powers m) = m
+slope_of Horner = zero_f
+
+-- Which way b goes for v, of `vars` variables.
 unfoldable pub way_of : ℕ → ℕ → Block → Way
 way_of vars v b =
     let line = linear b in
     cond (ltb v vars)
-    (cond (is_zero b) (way 1 no_linear)
-    (cond ((line.yes && eqb line.variable v) && eq line.c zero_f) (way 2 line)
-    (way 3 no_linear)))
-    (way 0 no_linear)
+    (cond (is_zero b) Zero
+    (cond ((line.yes && eqb line.variable v) && eq line.c zero_f) (Powers line.m)
+    Horner))
+    Same
 
 -- the value, where a has `vars` variables
 unfoldable pub put_for : ℕ → List ℕ → ℕ → Block → Block → Block

@@ -7,8 +7,20 @@ ghost use Rattle.model.specs.Poly.{block};
 ghost use Rattle.shape_words.specs.Lengths.{Lengths};
 ghost use Rattle.substitution_way.specs.Way.{way_of};
 
-use model::{Linear, Way};
 use product::kernel::is_zero;
+
+// How b is put for v (specs/Way.antt numbers the ways).
+#[derive(Clone, Copy)]
+pub enum Way {
+    // The variable is not there: the polynomial as it is.
+    Same,
+    // b is zero: the row 0 of v.
+    Zero,
+    // b is v times a number: the rows times its powers.
+    Powers(f64),
+    // Horner's rule.
+    Horner,
+}
 
 // Which way b goes for v.
 pub fn choose(vars: usize, v: usize, b: &[f64], lb: [usize; 4]) -> Way
@@ -16,26 +28,16 @@ pub fn choose(vars: usize, v: usize, b: &[f64], lb: [usize; 4]) -> Way
     requires fact_2 { length b.now ≡ count lb }
     ensures { result ≡ way_of vars v (block lb b.now) }
 {
-    let none = Linear::none();
     if vars <= v {
-        return Way {
-            kind: 0,
-            line: none,
-        };
+        return Way::Same;
     }
     if is_zero(b, lb) {
-        return Way {
-            kind: 1,
-            line: none,
-        };
+        return Way::Zero;
     }
     let line = readings::line::linear_of(b, lb);
     let c = line.c;
     if line.yes & (line.variable == v) & (c == 0.0) {
-        return Way { kind: 2, line };
+        return Way::Powers(line.m);
     }
-    Way {
-        kind: 3,
-        line: none,
-    }
+    Way::Horner
 }

@@ -1,12 +1,11 @@
 -- What `negate` shows at its returns, over plain values.
 use Prim.Native.Nat.{ℕ, ◌^◌, ◌≤◌, ◌<◌}
-use Rattle.std.specs.Prelude.{List, ◌≡◌, length, take, Float}
+use Rattle.std.specs.Prelude.{Ok, Err, List, ◌≡◌, length, take, Float}
 use Rattle.std.proofs.Common.{sym, ◌∙◌, arith, get_or-take}
 use Rattle.std.proofs.Math.Path.{ap}
 use Rattle.std.specs.Float.Ieee.{nan, neg}
 use Rattle.lists.specs.Table.{table, front, table_same, length-table}
 use Rattle.model.specs.declared.Refusal.{Refusal}
-use Rattle.model.specs.declared.Answer.TheVariants.{Done, Refused}
 use Rattle.model.specs.declared.Family.TheVariants.{Same}
 use Rattle.model.specs.Header.{stored, no_header}
 use Rattle.model.specs.Word.{header_of, word_of}
@@ -19,7 +18,7 @@ use Rattle.gates.specs.Gate.{OneReady, one-ready, answer_no, answer-yes, leaves_
 
 -- refused
 module _ (w : ℕ) (a out : List Float) {r : Refusal} (e : r ≡ negate_gate w a out) (n : r.number ≡ 0 → ⊥) where
-  pub negate-refused : Refused r ≡ negate_answer w a out
+  pub negate-refused : Err r ≡ negate_answer w a out
   unfolding negate_answer
   negate-refused = rw (← e) (answer_no r _ n)
 
@@ -32,12 +31,12 @@ module _ (w : ℕ) (a out : List Float) {r : Refusal} (fit : w < 2 ^ 64) (e : r 
   pub negate-ready : OneReady Same w (length a) (length out)
   negate-ready = one-ready Same w (length a) (length out) (ap (λ (x : Refusal). x.number) (sym e) ∙ z)
 
-  pub negate-done : Done w ≡ negate_answer w a out
+  pub negate-done : Ok w ≡ negate_answer w a out
   unfolding negate_answer negated
   negate-done =
       let g = negate-ready in
       let h : word_of (announced Same (header_of w) no_header) ≡ w = ap word_of (same-header g.good.regular) ∙ pack_unpack w fit g.word in
-      rw (← e) (ap Done (sym h) ∙ answer-yes r _ z)
+      rw (← e) (ap Ok (sym h) ∙ answer-yes r _ z)
 
   pub negate_out_lem : {n : ℕ} → n ≡ stored (header_of w) → front n (negated_at a) out ≡ negate_out w a out
   unfolding negate_out negated

@@ -11,13 +11,9 @@ use model::{Answer, Family};
 pub fn negate(head: u64, a: &[f64], out: &mut [f64]) -> Answer
     ensures { NegatePromise head a.now out.old result out.new }
 {
-    let refusal = gates::one_gate(Family::Same, head, a.len(), out.len());
-    if refusal.number != 0 {
-        return Answer::Refused(refusal);
-    }
-    let n = gates::stored_of(shape_words::word::header_of(head));
-    sums_negation::negate_into(a, n, out);
-    Answer::Done(head)
+    let o = gates::open_one(Family::Same, head, a.len(), out.len())?;
+    sums_negation::negate_into(a, o.na, out);
+    Ok(head)
 }
 
 // a + b, cut to the smaller limits: refusals 1, 2, 5, 6.

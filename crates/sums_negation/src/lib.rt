@@ -10,9 +10,7 @@ pub fn negate_into(a: &[f64], n: usize, out: &mut [f64])
     requires { (n ≤ length a.now) × (n ≤ length out.old) }
     ensures { out.new ≡ front n (negated_at a.now) out.old }
 {
-    let mut i = 0;
-    while i < n {
+    for i in 0..n {
         out[i] = -a[i];
-        i += 1;
     }
 }

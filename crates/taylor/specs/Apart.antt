@@ -2,19 +2,17 @@
 -- 0 where there is none: a header word ends in five zero bits, and gates refuse by 1 to 6, `least` by 11 too,
 -- `exp_constant` by 12 alone. What was answered is read back from the word.
 use Prim.Native.Nat.{ℕ, zero, suc, ◌+◌, ◌*◌, ◌/◌, ◌%◌, ◌^◌, ◌≤◌, ◌<◌}
-use Rattle.std.specs.Prelude.{List, Bool, true, false, cond, ◌≡◌, refl, eqb, leb, ltb, length, Float}
+use Rattle.std.specs.Prelude.{Ok, Err, List, Bool, true, false, cond, ◌≡◌, refl, eqb, leb, ltb, length, Float}
 use Rattle.std.proofs.Common.{ap, arith}
 use Rattle.std.proofs.Math.Dec.{lit<}
 use borrow.Author.Tests.{eqb-true, eqb-false, ne_eqb}
 use Rattle.lists.specs.Test.{decide, of-both}
 use Rattle.model.specs.declared.Header.{Header}
 use Rattle.model.specs.declared.Refusal.{Refusal}
-use Rattle.model.specs.declared.Answer.{Answer}
-use Rattle.model.specs.declared.Answer.TheVariants.{Done, Refused}
+use Rattle.model.specs.Results.{Answer}
 use Rattle.model.specs.declared.Linear.{Linear}
-use Rattle.model.specs.declared.LinearReading.{LinearReading}
-use Rattle.model.specs.declared.Reading.{Reading}
-use Rattle.model.specs.declared.Reading.TheVariants as reading
+use Rattle.model.specs.Results.{LinearReading}
+use Rattle.model.specs.Results.{Reading}
 use Rattle.model.specs.declared.Family.{Family}
 use Rattle.model.specs.declared.Family.TheVariants.{Same, Sum, Product, Quotient, Series, Power, Shift, Substitution, Term, Order}
 use Rattle.model.specs.Header.{limit, len, zero_with, var_with}
@@ -83,19 +81,19 @@ refusal_from_lem r few =
 
 -- the answer that a word stands for
 unfoldable pub answer_from : ℕ → Answer
-answer_from w = cond (eqb (w % 32) 0) (Done w) (Refused (refusal_from w))
+answer_from w = cond (eqb (w % 32) 0) (Ok w) (Err (refusal_from w))
 
 -- done
-word_back : (w : ℕ) → w % 32 ≡ 0 → answer_from w ≡ Done w
+word_back : (w : ℕ) → w % 32 ≡ 0 → answer_from w ≡ Ok w
 unfolding answer_from
 word_back w e = rw e
 
 -- refused
-refusal-back : (r : Refusal) → Few r → (r.number ≡ 0 → ⊥) → answer_from (word_of_refusal r) ≡ Refused r
+refusal-back : (r : Refusal) → Few r → (r.number ≡ 0 → ⊥) → answer_from (word_of_refusal r) ≡ Err r
 unfolding answer_from
 refusal-back r few n =
     let a : word_of_refusal r % 32 ≡ r.number = omega (arith, few.number) in
-    rw (a, ne_eqb _ _ n) (ap Refused (refusal_from_lem r few))
+    rw (a, ne_eqb _ _ n) (ap Err (refusal_from_lem r few))
 
 pub back : (r : Refusal) → Few r → (h : Header) → answer_from (word_of_answer (answer_by r (word_of h))) ≡ answer_by r (word_of h)
 unfolding answer_by word_of
@@ -305,7 +303,7 @@ module _ (w : ℕ) (a : List Float) where
 
 -- the reading that a word and a number stand for
 unfoldable pub reading_from : ℕ → Float → Reading
-reading_from w x = cond (eqb w 0) (reading.Done x) (reading.Refused (refusal_from w))
+reading_from w x = cond (eqb w 0) (Ok x) (Err (refusal_from w))
 
 reading-back : (r : Refusal) → Few r → (x old : Float)
     → reading_from (word_of_reading (read_by r x)) (value_after (read_by r x) old) ≡ read_by r x
@@ -314,7 +312,7 @@ reading-back r few x old =
     decide (is_none r) (λ t. rw t) (λ t.
     let n = eqb-false r.number 0 t in
     let z : eqb (word_of_refusal r) 0 ≡ false = ne_eqb (word_of_refusal r) 0 (λ e. n (omega (arith, e))) in
-    rw (t, z) (ap reading.Refused (refusal_from_lem r few)))
+    rw (t, z) (ap Err (refusal_from_lem r few)))
 
 -- 12 alone
 constant-few : (x : Float) → Few (constant_gate x)

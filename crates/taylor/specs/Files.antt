@@ -1,17 +1,16 @@
 -- The face: what reading and writing an array file answered is read back, from the word and, of writing, from the
 -- length that was written. Reading refuses by 5 and 10, writing by 1, 2 and 5, so that a word that is done stands for
 -- nothing else. What stood where the length goes makes no difference.
-use Rattle.std.specs.Prelude.{ℕ, false, cond, List, ◌≡◌, eqb, leb, length, Float}
+use Rattle.std.specs.Prelude.{Ok, Err, ℕ, false, cond, List, ◌≡◌, eqb, leb, length, Float}
 use Rattle.std.proofs.Common.{ap, ◌∙◌, arith, ne_eqb}
 use Rattle.std.proofs.lemmas.Bool.{eqb-false}
 use Rattle.lists.specs.Test.{decide}
-use Rattle.model.specs.declared.Answer.{Answer}
+use Rattle.model.specs.Results.{Answer}
 use Rattle.model.specs.declared.Refusal.{Refusal}
 use Rattle.model.specs.Header.{no_header}
 use Rattle.model.specs.Refusals.{refused_by, no_refusal, is_none, answer_by}
 use Rattle.model.specs.Gates.{full}
-use Rattle.npy_files.specs.declared.Written.{Written}
-use Rattle.npy_files.specs.declared.Written.TheVariants as written
+use Rattle.npy_files.specs.Results.{Written}
 use Rattle.npy_files.specs.Shapes.{head_of}
 use Rattle.npy_files.specs.Reads as npy
 use Rattle.npy_files.specs.Writes.{file_length, write_gate, write_answer}
@@ -36,7 +35,7 @@ module _ {t : List ℕ} {old : List Float} where
 
 -- what a word and a length stand for
 unfoldable pub written_from : ℕ → ℕ → Written
-written_from w n = cond (eqb w 0) (written.Done n) (written.Refused (refusal_from w))
+written_from w n = cond (eqb w 0) (Ok n) (Err (refusal_from w))
 
 gate-few : (w m n : ℕ) → Few (write_gate w m n)
 unfolding write_gate
@@ -51,4 +50,4 @@ written_back w a file n =
     (λ t. rw t)
     (λ t.
     let z : eqb (word_of_refusal r) 0 ≡ false = ne_eqb (word_of_refusal r) 0 (λ e. eqb-false r.number 0 t (omega (arith, e))) in
-    rw (t, z) (ap written.Refused (refusal_from_lem r (gate-few w (length a) (length file)))))
+    rw (t, z) (ap Err (refusal_from_lem r (gate-few w (length a) (length file)))))

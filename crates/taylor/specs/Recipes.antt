@@ -1,15 +1,13 @@
 -- The face: what the check and the run of a recipe answered is read back, from the word and, of the check, from the
 -- totals that were written. The check refuses by 1 to 7, the run by these or by 12, so that the 0 of accepted or done
 -- stands for nothing else. What stood where the totals go makes no difference.
-use Rattle.std.specs.Prelude.{ℕ, true, false, cond, List, ◌≡◌, eqb, Float}
+use Rattle.std.specs.Prelude.{Ok, Err, ℕ, true, false, cond, List, ◌≡◌, eqb, Float}
 use Rattle.std.proofs.Common.{ap, arith, eqb-true, ne_eqb}
 use Rattle.std.proofs.lemmas.Bool.{eqb-false}
 use Rattle.lists.specs.Test.{decide}
 use Rattle.model.specs.declared.Refusal.{Refusal}
-use Rattle.model_recipes.specs.declared.CheckAnswer.{CheckAnswer}
-use Rattle.model_recipes.specs.declared.CheckAnswer.TheVariants as check-answer
-use Rattle.model_recipes.specs.declared.RunAnswer.{RunAnswer}
-use Rattle.model_recipes.specs.declared.RunAnswer.TheVariants as run-answer
+use Rattle.model_recipes.specs.Results.{CheckAnswer, accepting}
+use Rattle.model_recipes.specs.Results.{RunAnswer}
 use Rattle.model.specs.Refusals.{is_none}
 use Rattle.model_recipes.specs.Recipe.{Recipe}
 use Rattle.model_recipes.specs.Check.{check_refusal, check_by, check_answer}
@@ -21,11 +19,11 @@ use Rattle.taylor.specs.Apart.{Few, refusal_from, refusal_from_lem}
 
 -- what a word and three totals stand for
 unfoldable pub check_from : ℕ → ℕ → ℕ → ℕ → CheckAnswer
-check_from w pool largest inputs = cond (eqb w 0) (check-answer.Accepted pool largest inputs) (check-answer.Refused (refusal_from w))
+check_from w pool largest inputs = cond (eqb w 0) (accepting pool largest inputs) (Err (refusal_from w))
 
 -- what a word stands for
 unfoldable pub run_from : ℕ → RunAnswer
-run_from w = cond (eqb w 0) run-answer.Done (run-answer.Refused (refusal_from w))
+run_from w = cond (eqb w 0) (Ok tt) (Err (refusal_from w))
 
 -- the answer x, read back; pool, largest, inputs: what stood where the totals go
 abbrev CheckBack : CheckAnswer → ℕ → ℕ → ℕ → Type 0
@@ -39,15 +37,15 @@ module _ (r : Refusal) (few : Few r) where
   by-check : (p l i pool largest inputs : ℕ) → CheckBack (check_by r p l i) pool largest inputs
   unfolding check_by check_from
   by-check p l i pool largest inputs =
-      decide (is_none r) (λ t. rw t) (λ t. rw (t, word-not-zero t) (ap check-answer.Refused (refusal_from_lem r few)))
+      decide (is_none r) (λ t. rw t) (λ t. rw (t, word-not-zero t) (ap Err (refusal_from_lem r few)))
 
 -- the refusal before the first step, and then the stop
 by-run : (r s : Refusal) → Few r → (is_none r ≡ true → Few s) → run_from (word_of_run (end_answer (end_by r s))) ≡ end_answer (end_by r s)
 unfolding end_by run_from
 by-run r s few late =
     decide (is_none r)
-    (λ t. decide (is_none s) (λ u. rw (t, u)) (λ u. rw (t, u, word-not-zero s (late t) u) (ap run-answer.Refused (refusal_from_lem s (late t)))))
-    (λ t. rw (t, word-not-zero r few t) (ap run-answer.Refused (refusal_from_lem r few)))
+    (λ t. decide (is_none s) (λ u. rw (t, u)) (λ u. rw (t, u, word-not-zero s (late t) u) (ap Err (refusal_from_lem s (late t)))))
+    (λ t. rw (t, word-not-zero r few t) (ap Err (refusal_from_lem r few)))
 
 -- ---- the entries
 

@@ -24,8 +24,8 @@ pub fn word_of(r: Answer) -> u64
     ensures { result ≡ word_of_answer r }
 {
     match r {
-        Answer::Done(w) => w,
-        Answer::Refused(e) => refusal_word(e),
+        Ok(w) => w,
+        Err(e) => refusal_word(e),
     }
 }
 
@@ -35,11 +35,11 @@ pub fn put(r: Reading, value: &mut f64) -> u64
     ensures value { value.new ≡ value_after r value.old }
 {
     match r {
-        Reading::Done(x) => {
+        Ok(x) => {
             *value = x;
             0
         }
-        Reading::Refused(e) => refusal_word(e),
+        Err(e) => refusal_word(e),
     }
 }
 
@@ -49,11 +49,11 @@ pub fn put_count(r: CountReading, count: &mut u64) -> u64
     ensures count { count.new ≡ count_after r count.old }
 {
     match r {
-        CountReading::Done(k) => {
+        Ok(k) => {
             *count = k as u64;
             0
         }
-        CountReading::Refused(e) => refusal_word(e),
+        Err(e) => refusal_word(e),
     }
 }
 
@@ -65,12 +65,12 @@ pub fn put_linear(r: LinearReading, c: &mut f64, m: &mut f64) -> u64
     ensures factor { m.new ≡ factor_after r m.old }
 {
     match r {
-        LinearReading::Done(l) => {
+        Ok(l) => {
             *c = l.c;
             *m = l.m;
             if l.yes { 1 + (l.variable as u64) } else { 0 }
         }
-        LinearReading::Refused(e) => refusal_word(e) + 4294967296,
+        Err(e) => refusal_word(e) + 4294967296,
     }
 }
 
@@ -82,17 +82,13 @@ pub fn put_totals(r: CheckAnswer, pool: &mut u64, largest: &mut u64, inputs: &mu
     ensures inputs { inputs.new ≡ inputs_after r inputs.old }
 {
     match r {
-        CheckAnswer::Accepted {
-            pool: p,
-            largest: l,
-            inputs: i,
-        } => {
-            *pool = p as u64;
-            *largest = l as u64;
-            *inputs = i as u64;
+        Ok(t) => {
+            *pool = t.pool as u64;
+            *largest = t.largest as u64;
+            *inputs = t.inputs as u64;
             0
         }
-        CheckAnswer::Refused(e) => refusal_word(e),
+        Err(e) => refusal_word(e),
     }
 }
 
@@ -101,8 +97,8 @@ pub fn word_of_run(r: RunAnswer) -> u64
     ensures { result ≡ word_of_run r }
 {
     match r {
-        RunAnswer::Done => 0,
-        RunAnswer::Refused(e) => refusal_word(e),
+        Ok(()) => 0,
+        Err(e) => refusal_word(e),
     }
 }
 
@@ -112,10 +108,10 @@ pub fn put_written(r: Written, length: &mut u64) -> u64
     ensures length { length.new ≡ length_after r length.old }
 {
     match r {
-        Written::Done(n) => {
+        Ok(n) => {
             *length = n as u64;
             0
         }
-        Written::Refused(e) => refusal_word(e),
+        Err(e) => refusal_word(e),
     }
 }

@@ -5,28 +5,35 @@
 // 4,096 coefficients of 17; one byte more is read, so that a longer one is seen to be longer.
 #![tactic(auto)]
 
-use npy_bytes::starts_with;
 use replay_input::{argument, argument_count, read_full};
 use std::env::Env;
 use std::io;
 
-// Which version is asked for: 1 where there is no argument, 2 where there is one, `2.0`, and 0 for any others.
-fn asked(rt: &impl Env) -> u8 {
+// A version of the format.
+#[derive(Clone, Copy)]
+enum Version {
+    One,
+    Two,
+}
+
+// Which version is asked for: 1.0 where there is no argument, 2.0 where there is one, `2.0`.
+fn asked(rt: &impl Env) -> Option<Version> {
     let count = argument_count(rt);
     if count < 2 {
-        return 1;
+        return Some(Version::One);
     }
     let mut text = [0u8; 8];
     let n = argument(rt, 1, &mut text);
-    if (count == 2) & (n == 3) & starts_with(&text[..n], b"2.0") {
-        return 2;
+    if (count == 2) & (&text[..n] == b"2.0".as_slice()) {
+        Some(Version::Two)
+    } else {
+        None
     }
-    0
 }
 
 fn say_usage(rt: &impl Print) -> io::Result<()> {
-    rt.write_all(b"to_npy < ANSWER > FILE      an array file of version 1.0\n")?;
-    rt.write_all(b"to_npy 2.0 < ANSWER > FILE  of version 2.0. Nothing was read.\n")
+    println!(rt; "to_npy < ANSWER > FILE      an array file of version 1.0")?;
+    println!(rt; "to_npy 2.0 < ANSWER > FILE  of version 2.0. Nothing was read.")
 }
 
 fn convert(rt: &(impl Input + Print), newer: bool) -> io::Result<()> {
@@ -39,10 +46,9 @@ fn convert(rt: &(impl Input + Print), newer: bool) -> io::Result<()> {
 }
 
 fn main(rt: HostRuntime) -> io::Result<()> {
-    let version = asked(&rt);
-    if version == 0 {
-        say_usage(&rt)
-    } else {
-        convert(&rt, version == 2)
+    match asked(&rt) {
+        Some(Version::One) => convert(&rt, false),
+        Some(Version::Two) => convert(&rt, true),
+        None => say_usage(&rt),
     }
 }

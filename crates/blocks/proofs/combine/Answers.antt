@@ -23,9 +23,6 @@ returns-then-a-eq1 c =
     (λ e. c.if-b-eq1.false (c.requires.full_b ∙ e))
     (sym c.requires.full_a ∙ c.if-a-eq1.true)
 
-pub join_both-requires : goal.join_both-requires
-join_both-requires c = c.requires
-
 pub returns : goal.returns
 returns c =
     c.join_both.ensures ∙ way-both c.args.minus c.args.r (block c.args.n c.args.a.now)

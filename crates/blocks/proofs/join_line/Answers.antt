@@ -1,29 +1,19 @@
+use Rattle.std.proofs.Common.{arith, ◌∙◌}
 use Rattle.lists.specs.Table.{filled_none, filled_more}
 use Rattle.lists.specs.Fill.{filled-here, filled-front}
-use native.Mathlib.Omega.{arith}
-use mathlib.Core.Path.{refl, ◌∙◌}
-use Prim.Native.Nat.{◌-◌}
 use lib.Ieee.{nan}
 use Rattle.blocks.specs.Line.{line-more, line-rest}
 use Rattle.blocks.proofs.join_line.Goals as goal
 
 pub loop-k-init : goal.loop-k-init
-loop-k-init c = (omega arith, (refl, filled_none))
+loop-k-init c = filled_none
 
 pub loop-k-preserved : goal.loop-k-preserved
-loop-k-preserved c = (
-  omega arith,
-  (
-    c.loop-k.invariant.1.0,
-    filled_more c.loop-k.invariant.1.1 (c.joined.ensures
-        ∙ line-more c.args.minus c.args.with.now c.args.to.now c.loop-k.k
-        (filled-here nan c.loop-k.invariant.1.1 (omega arith)) (omega arith)) (omega arith),
-  ),
-)
-
-pub shape_of-to : goal.shape_of-to
-shape_of-to c = c.loop-k.invariant.1.1.len
+loop-k-preserved c =
+    filled_more c.loop-k.invariant (c.joined.ensures
+    ∙ line-more c.args.minus c.args.with.now c.args.to.now c.loop-k.k
+    (filled-here nan c.loop-k.invariant (omega arith)) (omega arith)) (omega arith)
 
 pub returns : goal.returns
 returns c =
-    filled-front nan c.loop-k.invariant.1.1 (omega arith) (λ k p q. line-rest c.args.minus c.args.with.now c.args.to.now k (omega arith))
+    filled-front nan c.loop-k.invariant (omega arith) (λ k p q. line-rest c.args.minus c.args.with.now c.args.to.now k (omega arith))

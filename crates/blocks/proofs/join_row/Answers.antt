@@ -1,4 +1,4 @@
-use lib.ListN.{length, take, drop, length-take, length-drop}
+use lib.ListN.{length, take, drop}
 use mathlib.Core.List.{List}
 use Rattle.model.specs.Places.{place}
 use native.Mathlib.Omega.{arith}
@@ -42,9 +42,6 @@ slice_bounds-join_line-end c =
     let fits : c.place_of-from.result + at c.args.n 3 ≤ length c.args.a.now =
     omega (arith, c.place_of-from.ensures, along-fits c.requires.fact_1 (within) c.requires.fact_3 (le_refl _), c.requires.fact_2) in
     fits
-
-pub join_line-requires : goal.join_line-requires
-join_line-requires c = let p = c.requires.fact_2.1 in simp (length-take, length-drop) (omega arith)
 
 pub returns-then-is_inside : goal.returns-then-is_inside
 returns-then-is_inside c =

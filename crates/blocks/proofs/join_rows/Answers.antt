@@ -1,5 +1,5 @@
 use native.Mathlib.Omega.{arith}
-use mathlib.Core.Path.{◌≡◌, refl, sym, ◌∙◌}
+use mathlib.Core.Path.{◌≡◌, refl, ◌∙◌}
 use Prim.Native.Nat.{ℕ, ◌+◌, ◌-◌, ◌≤◌, ◌<◌}
 use lib.ListN.{length, take, drop, get_or, length-take, length-drop}
 use lib.Ieee.{nan}
@@ -9,27 +9,11 @@ use Rattle.model.specs.Header.{count}
 use Rattle.model.specs.Poly.{block}
 use Rattle.model.specs.Add.{join_at}
 use Rattle.blocks.specs.Rows.{along_row}
-use Rattle.blocks.specs.ByRow.{by-none, by-put, by_end, by_fits, by-len, join-begins, joined-row}
+use Rattle.blocks.specs.ByRow.{by-none, by-put, by_fits, by-len, join-begins, joined-row}
 use Rattle.blocks.proofs.join_rows.Goals as goal
 
 pub loop-at-init : goal.loop-at-init
 loop-at-init c = (refl, by-none c.requires.to c.requires.full)
-
-pub overflow_add-at : goal.overflow_add-at
-overflow_add-at c =
-    let more : c.loop-at.at < count c.args.r =
-    let n = by-len c.requires.to c.requires.full c.loop-at.invariant.1 in omega arith in
-    let to-fits : c.loop-at.at + at c.args.r 3 ≤ length c.loop-at.to =
-    by_fits c.requires.to c.requires.full c.loop-at.invariant.1 (more) in
-    omega (arith, to-fits)
-
-pub offset_bounds-to-at : goal.offset_bounds-to-at
-offset_bounds-to-at c =
-    let more : c.loop-at.at < count c.args.r =
-    let n = by-len c.requires.to c.requires.full c.loop-at.invariant.1 in omega arith in
-    let to-fits : c.loop-at.at + at c.args.r 3 ≤ length c.loop-at.to =
-    by_fits c.requires.to c.requires.full c.loop-at.invariant.1 (more) in
-    omega (arith, to-fits)
 
 pub slice_bounds-join_row-end : goal.slice_bounds-join_row-end
 slice_bounds-join_row-end c =
@@ -54,14 +38,6 @@ join_row-requires c =
       fact_3 = (join-begins c.args.minus c.args.n c.args.r c.args.a.now c.args.to.now (c.requires) c.loop-at.invariant.1 (more)).begins;
     }
 
-pub overflow_add-at-in-loop-at : goal.overflow_add-at-in-loop-at
-overflow_add-at-in-loop-at c =
-    let more : c.loop-at.at < count c.args.r =
-    let n = by-len c.requires.to c.requires.full c.loop-at.invariant.1 in omega arith in
-    let to-fits : c.loop-at.at + at c.args.r 3 ≤ length c.loop-at.to =
-    by_fits c.requires.to c.requires.full c.loop-at.invariant.1 (more) in
-    omega (arith, to-fits)
-
 pub next_row-next-requires : goal.next_row-next-requires
 next_row-next-requires c =
     let more : c.loop-at.at < count c.args.r =
@@ -71,16 +47,6 @@ next_row-next-requires c =
       fact_2 = join-begins c.args.minus c.args.n c.args.r c.args.a.now c.args.to.now (c.requires)
           c.loop-at.invariant.1 (more);
     }
-
-pub loop-at-smaller : goal.loop-at-smaller
-loop-at-smaller c =
-    let more : c.loop-at.at < count c.args.r =
-    let n = by-len c.requires.to c.requires.full c.loop-at.invariant.1 in omega arith in
-    let to-fits : c.loop-at.at + at c.args.r 3 ≤ length c.loop-at.to =
-    by_fits c.requires.to c.requires.full c.loop-at.invariant.1 (more) in
-    let to_len : length c.loop-at.to ≡ length c.args.to.now =
-    by-len c.requires.to c.requires.full c.loop-at.invariant.1 ∙ sym c.requires.full in
-    let q = c.requires.to.p3 in omega (arith, to-fits, to_len)
 
 pub loop-at-preserved : goal.loop-at-preserved
 loop-at-preserved c =
@@ -106,11 +72,3 @@ loop-at-preserved c =
           (joined-row c.args.minus c.args.n c.args.r c.args.a.now c.args.to.now (c.requires) c.loop-at.invariant.1 (more)
           (rowed)) c.next_row-next.ensures,
     )
-
-pub shape_of-to : goal.shape_of-to
-shape_of-to c =
-    by-len c.requires.to c.requires.full c.loop-at.invariant.1 ∙ sym c.requires.full
-
-pub returns : goal.returns
-returns c =
-    by_end c.requires.to c.requires.full c.loop-at.invariant.1 (let n = by-len c.requires.to c.requires.full c.loop-at.invariant.1 in omega arith)

@@ -5,7 +5,7 @@ use lib.ListN.{length, take}
 use Rattle.model.specs.Header.{count}
 use Rattle.shape_words.specs.Lengths.{sizes-of}
 use Rattle.blocks.specs.Same.{Same, same-is, same_count, cut-front}
-use Rattle.blocks.specs.Merge.{cutting-merged, cut-merged}
+use Rattle.blocks.specs.Merge.{cut-merged}
 use Rattle.blocks.proofs.load.Goals as goal
 
 pub copy-requires : goal.copy-requires
@@ -21,14 +21,10 @@ returns-then-is_same c =
     let e : take (length c.args.to.now) c.args.a.now ≡ take (count c.args.c) c.args.a.now = ap (λ (k : ℕ). take k c.args.a.now) c.requires.full in
     c.copy.ensures ∙ (e ∙ cut-front c.args.n c.args.c c.args.a.now (same) (omega (arith, c.requires.room, same_count (same))))
 
-pub longest_rows-r-requires : goal.longest_rows-r-requires
-longest_rows-r-requires c =
+pub longest_rows-rows-requires : goal.longest_rows-rows-requires
+longest_rows-rows-requires c =
     record { fact_1 = sizes-of c.requires.from; fact_2 = sizes-of c.requires.to }
-
-pub load_rows-requires : goal.load_rows-requires
-load_rows-requires c =
-    cutting-merged c.longest_rows-r.ensures c.requires
 
 pub returns : goal.returns
 returns c =
-    c.load_rows.ensures ∙ cut-merged c.longest_rows-r.ensures c.args.a.now
+    c.load_rows.ensures ∙ cut-merged c.longest_rows-rows.ensures c.args.a.now

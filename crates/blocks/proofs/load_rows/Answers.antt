@@ -1,12 +1,12 @@
 use native.Mathlib.Omega.{arith}
-use mathlib.Core.Path.{◌≡◌, refl, sym, ◌∙◌}
+use mathlib.Core.Path.{◌≡◌, refl, ◌∙◌}
 use Prim.Native.Nat.{ℕ, ◌+◌, ◌-◌, ◌≤◌, ◌<◌}
 use lib.ListN.{length, take, drop, length-take, length-drop}
 use lib.Seq.{take-take}
 use Rattle.lists.specs.Four.{at}
 use Rattle.model.specs.Header.{count}
 use Rattle.model.specs.Places.{place}
-use Rattle.blocks.specs.ByRow.{by-none, by-put, by_end, by_fits, by-len, cut-begins, cut_inside, cut_from_lem, cut-row}
+use Rattle.blocks.specs.ByRow.{by-none, by-put, by_fits, by-len, cut-begins, cut_inside, cut_from_lem, cut-row}
 use Rattle.blocks.proofs.load_rows.Goals as goal
 
 pub loop-at-init : goal.loop-at-init
@@ -42,42 +42,8 @@ slice_bounds-copy-end c =
     omega (arith, c.place_of-from.ensures, cut_from_lem c.args.n c.args.c c.args.a.now c.args.to.now c.requires c.loop-at.invariant.1 (more)) in
     omega (arith, from-fits)
 
-pub overflow_add-at : goal.overflow_add-at
-overflow_add-at c =
-    let more : c.loop-at.at < count c.args.c =
-    let n = by-len c.requires.to c.requires.full c.loop-at.invariant.1 in omega arith in
-    let to-fits : c.loop-at.at + at c.args.c 3 ≤ length c.loop-at.to =
-    by_fits c.requires.to c.requires.full c.loop-at.invariant.1 (more) in
-    omega (arith, to-fits)
-
-pub offset_bounds-to-at : goal.offset_bounds-to-at
-offset_bounds-to-at c =
-    let more : c.loop-at.at < count c.args.c =
-    let n = by-len c.requires.to c.requires.full c.loop-at.invariant.1 in omega arith in
-    let to-fits : c.loop-at.at + at c.args.c 3 ≤ length c.loop-at.to =
-    by_fits c.requires.to c.requires.full c.loop-at.invariant.1 (more) in
-    omega (arith, to-fits)
-
 pub slice_bounds-copy-end-in-loop-at : goal.slice_bounds-copy-end-in-loop-at
 slice_bounds-copy-end-in-loop-at c =
-    let more : c.loop-at.at < count c.args.c =
-    let n = by-len c.requires.to c.requires.full c.loop-at.invariant.1 in omega arith in
-    let to-fits : c.loop-at.at + at c.args.c 3 ≤ length c.loop-at.to =
-    by_fits c.requires.to c.requires.full c.loop-at.invariant.1 (more) in
-    omega (arith, to-fits)
-
-pub copy-requires : goal.copy-requires
-copy-requires c =
-    let more : c.loop-at.at < count c.args.c =
-    let n = by-len c.requires.to c.requires.full c.loop-at.invariant.1 in omega arith in
-    let from-fits : c.place_of-from.result + at c.args.c 3 ≤ length c.args.a.now =
-    omega (arith, c.place_of-from.ensures, cut_from_lem c.args.n c.args.c c.args.a.now c.args.to.now c.requires c.loop-at.invariant.1 (more)) in
-    let to-fits : c.loop-at.at + at c.args.c 3 ≤ length c.loop-at.to =
-    by_fits c.requires.to c.requires.full c.loop-at.invariant.1 (more) in
-    let p = from-fits in let q = to-fits in simp (length-take, length-drop) (omega arith)
-
-pub overflow_add-at-in-loop-at : goal.overflow_add-at-in-loop-at
-overflow_add-at-in-loop-at c =
     let more : c.loop-at.at < count c.args.c =
     let n = by-len c.requires.to c.requires.full c.loop-at.invariant.1 in omega arith in
     let to-fits : c.loop-at.at + at c.args.c 3 ≤ length c.loop-at.to =
@@ -94,16 +60,6 @@ next_row-next-requires c =
           c.loop-at.invariant.1
           (more);
     }
-
-pub loop-at-smaller : goal.loop-at-smaller
-loop-at-smaller c =
-    let more : c.loop-at.at < count c.args.c =
-    let n = by-len c.requires.to c.requires.full c.loop-at.invariant.1 in omega arith in
-    let to-fits : c.loop-at.at + at c.args.c 3 ≤ length c.loop-at.to =
-    by_fits c.requires.to c.requires.full c.loop-at.invariant.1 (more) in
-    let to_len : length c.loop-at.to ≡ length c.args.to.now =
-    by-len c.requires.to c.requires.full c.loop-at.invariant.1 ∙ sym c.requires.full in
-    let q = c.requires.to.p3 in omega (arith, to-fits, to_len)
 
 pub loop-at-preserved : goal.loop-at-preserved
 loop-at-preserved c =
@@ -125,11 +81,3 @@ loop-at-preserved c =
           (cut-row c.args.n c.args.c c.args.a.now c.args.to.now (c.requires) c.loop-at.invariant.1 (more)
           (copied)) c.next_row-next.ensures,
     )
-
-pub shape_of-to : goal.shape_of-to
-shape_of-to c =
-    by-len c.requires.to c.requires.full c.loop-at.invariant.1 ∙ sym c.requires.full
-
-pub returns : goal.returns
-returns c =
-    by_end c.requires.to c.requires.full c.loop-at.invariant.1 (let n = by-len c.requires.to c.requires.full c.loop-at.invariant.1 in omega arith)

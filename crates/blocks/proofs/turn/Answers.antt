@@ -1,25 +1,11 @@
+use Rattle.std.proofs.Common.{ap, arith}
 use Rattle.lists.specs.Table.{filled_none, filled_more}
-use Rattle.lists.specs.Fill.{filled-all, filled-here}
-use native.Mathlib.Omega.{arith}
-use mathlib.Core.Path.{refl, ap}
-use Prim.Native.Nat.{◌-◌}
+use Rattle.lists.specs.Fill.{filled-here}
 use lib.Ieee.{nan, neg}
 use Rattle.blocks.proofs.turn.Goals as goal
 
-pub loop-k-init : goal.loop-k-init
-loop-k-init c = (omega arith, (refl, filled_none))
+pub loop-x-init : goal.loop-x-init
+loop-x-init c = filled_none
 
-pub loop-k-preserved : goal.loop-k-preserved
-loop-k-preserved c = (
-  omega arith,
-  (
-    c.loop-k.invariant.1.0,
-    filled_more c.loop-k.invariant.1.1 (ap neg (filled-here nan c.loop-k.invariant.1.1 (omega arith))) (omega arith),
-  ),
-)
-
-pub shape_of-to : goal.shape_of-to
-shape_of-to c = c.loop-k.invariant.1.1.len
-
-pub returns : goal.returns
-returns c = filled-all c.loop-k.invariant.1.1 (omega arith) (omega arith)
+pub loop-x-preserved : goal.loop-x-preserved
+loop-x-preserved c = filled_more c.loop-x.invariant (ap neg (filled-here nan c.loop-x.invariant (omega arith))) (omega arith)

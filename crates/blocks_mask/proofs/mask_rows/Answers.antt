@@ -1,12 +1,12 @@
 use native.Mathlib.Omega.{arith}
-use mathlib.Core.Path.{◌≡◌, refl, sym, ◌∙◌}
+use mathlib.Core.Path.{◌≡◌, refl, ◌∙◌}
 use Prim.Native.Nat.{ℕ, ◌+◌, ◌-◌, ◌≤◌, ◌<◌}
 use lib.ListN.{length, take, drop, length-take, length-drop}
 use Rattle.lists.specs.Four.{at}
 use Rattle.lists.specs.Table.{table}
 use Rattle.model.specs.Header.{count}
 use Rattle.shape_words.specs.Lengths.{RowAt, sizes-of}
-use Rattle.blocks.specs.ByRow.{by-none, by-put, by_end, by_fits, by-len}
+use Rattle.blocks.specs.ByRow.{by-none, by-put, by_fits, by-len}
 use Rattle.blocks_mask.specs.Masks.{masked_at, mask-begins, masked_row}
 use Rattle.blocks_mask.proofs.mask_rows.Goals as goal
 
@@ -38,22 +38,6 @@ overflow_add-i-in-loop-at c =
     omega (arith, i, l) in
     omega (arith, small)
 
-pub overflow_add-at : goal.overflow_add-at
-overflow_add-at c =
-    let more : c.loop-at.at < count c.args.n =
-    let n = by-len (sizes-of c.requires.to) c.requires.full c.loop-at.invariant.1 in omega arith in
-    let to-fits : c.loop-at.at + at c.args.n 3 ≤ length c.loop-at.to =
-    by_fits (sizes-of c.requires.to) c.requires.full c.loop-at.invariant.1 (more) in
-    omega (arith, to-fits)
-
-pub offset_bounds-to-at : goal.offset_bounds-to-at
-offset_bounds-to-at c =
-    let more : c.loop-at.at < count c.args.n =
-    let n = by-len (sizes-of c.requires.to) c.requires.full c.loop-at.invariant.1 in omega arith in
-    let to-fits : c.loop-at.at + at c.args.n 3 ≤ length c.loop-at.to =
-    by_fits (sizes-of c.requires.to) c.requires.full c.loop-at.invariant.1 (more) in
-    omega (arith, to-fits)
-
 pub slice_bounds-mask_row-end : goal.slice_bounds-mask_row-end
 slice_bounds-mask_row-end c =
     let more : c.loop-at.at < count c.args.n =
@@ -74,14 +58,6 @@ mask_row-requires c =
     omega (arith, i, l) in
     omega (arith, small)
 
-pub overflow_add-at-in-loop-at : goal.overflow_add-at-in-loop-at
-overflow_add-at-in-loop-at c =
-    let more : c.loop-at.at < count c.args.n =
-    let n = by-len (sizes-of c.requires.to) c.requires.full c.loop-at.invariant.1 in omega arith in
-    let to-fits : c.loop-at.at + at c.args.n 3 ≤ length c.loop-at.to =
-    by_fits (sizes-of c.requires.to) c.requires.full c.loop-at.invariant.1 (more) in
-    omega (arith, to-fits)
-
 pub next_row-next-requires : goal.next_row-next-requires
 next_row-next-requires c =
     let more : c.loop-at.at < count c.args.n =
@@ -89,17 +65,6 @@ next_row-next-requires c =
     let begins : RowAt c.args.n c.loop-at.i =
     mask-begins c.args.n c.args.cap c.args.to.now c.requires c.loop-at.invariant.1 (more) in
     record { fact_1 = sizes-of c.requires.to; fact_2 = begins }
-
-pub loop-at-smaller : goal.loop-at-smaller
-loop-at-smaller c =
-    let more : c.loop-at.at < count c.args.n =
-    let n = by-len (sizes-of c.requires.to) c.requires.full c.loop-at.invariant.1 in omega arith in
-    let to-fits : c.loop-at.at + at c.args.n 3 ≤ length c.loop-at.to =
-    by_fits (sizes-of c.requires.to) c.requires.full c.loop-at.invariant.1 (more) in
-    let to_len : length c.loop-at.to ≡ length c.args.to.now =
-    by-len (sizes-of c.requires.to) c.requires.full c.loop-at.invariant.1 ∙ sym c.requires.full in
-    let q = c.requires.to.p3 in
-    omega (arith, to-fits, to_len)
 
 pub loop-at-preserved : goal.loop-at-preserved
 loop-at-preserved c =
@@ -125,12 +90,3 @@ loop-at-preserved c =
       by-put (sizes-of c.requires.to) c.requires.full b m e (masked_row c.args.n c.args.cap c.args.to.now c.requires b m (rowed))
           c.next_row-next.ensures,
     )
-
-pub shape_of-to : goal.shape_of-to
-shape_of-to c =
-    by-len (sizes-of c.requires.to) c.requires.full c.loop-at.invariant.1 ∙ sym c.requires.full
-
-pub returns : goal.returns
-returns c =
-    by_end (sizes-of c.requires.to) c.requires.full c.loop-at.invariant.1 (let n = by-len (sizes-of c.requires.to) c.requires.full
-    c.loop-at.invariant.1 in omega arith)

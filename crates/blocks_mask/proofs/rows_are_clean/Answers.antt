@@ -49,36 +49,6 @@ overflow_add-i-in-loop-at c =
     omega (arith, i, l) in
     omega (arith, small)
 
--- src/lib.rt:88:59
-pub overflow_add-at : goal.overflow_add-at
-overflow_add-at c =
-    let more : c.loop-at.at < count c.args.n =
-    let f = c.requires.fact_1.full in omega arith in
-    let fits : c.loop-at.at + at c.args.n 3 ≤ length c.args.of.now =
-    let p = c.requires.fact_1 in
-    omega (
-      arith,
-      p.full,
-      clean-fits c.args.n c.args.cap c.args.of.now c.requires.fact_2 p c.loop-at.invariant.1.0
-          c.loop-at.invariant.1.1 (more),
-    ) in
-    omega (arith, fits)
-
--- src/lib.rt:88:51
-pub offset_bounds-of-at : goal.offset_bounds-of-at
-offset_bounds-of-at c =
-    let more : c.loop-at.at < count c.args.n =
-    let f = c.requires.fact_1.full in omega arith in
-    let fits : c.loop-at.at + at c.args.n 3 ≤ length c.args.of.now =
-    let p = c.requires.fact_1 in
-    omega (
-      arith,
-      p.full,
-      clean-fits c.args.n c.args.cap c.args.of.now c.requires.fact_2 p c.loop-at.invariant.1.0
-          c.loop-at.invariant.1.1 (more),
-    ) in
-    omega (arith, fits)
-
 -- src/lib.rt:88:51
 pub slice_bounds-row_is_clean-end : goal.slice_bounds-row_is_clean-end
 slice_bounds-row_is_clean-end c =
@@ -136,21 +106,6 @@ returns-then-not-row_is_clean c =
     sym (clean-stop c.args.n c.args.cap c.args.of.now c.requires.fact_2 c.requires.fact_1 l.invariant.1.0 l.invariant.1.1 (more)
     (sym (rowed) ∙ c.if-not-row_is_clean.true))
 
--- src/lib.rt:91:9
-pub overflow_add-at-in-loop-at : goal.overflow_add-at-in-loop-at
-overflow_add-at-in-loop-at c =
-    let more : c.loop-at.at < count c.args.n =
-    let f = c.requires.fact_1.full in omega arith in
-    let fits : c.loop-at.at + at c.args.n 3 ≤ length c.args.of.now =
-    let p = c.requires.fact_1 in
-    omega (
-      arith,
-      p.full,
-      clean-fits c.args.n c.args.cap c.args.of.now c.requires.fact_2 p c.loop-at.invariant.1.0
-          c.loop-at.invariant.1.1 (more),
-    ) in
-    omega (arith, fits)
-
 -- src/lib.rt:92:13
 pub next_row-next-requires : goal.next_row-next-requires
 next_row-next-requires c =
@@ -159,21 +114,6 @@ next_row-next-requires c =
     let begins : RowAt c.args.n c.loop-at.i =
     clean-begins c.args.n c.args.cap c.args.of.now c.requires.fact_2 c.requires.fact_1 c.loop-at.invariant.1.0 c.loop-at.invariant.1.1 (more) in
     record { fact_1 = sizes-of c.requires.fact_1.to; fact_2 = begins }
-
--- src/lib.rt:87:5
-pub loop-at-smaller : goal.loop-at-smaller
-loop-at-smaller c =
-    let more : c.loop-at.at < count c.args.n =
-    let f = c.requires.fact_1.full in omega arith in
-    let fits : c.loop-at.at + at c.args.n 3 ≤ length c.args.of.now =
-    let p = c.requires.fact_1 in
-    omega (
-      arith,
-      p.full,
-      clean-fits c.args.n c.args.cap c.args.of.now c.requires.fact_2 p c.loop-at.invariant.1.0
-          c.loop-at.invariant.1.1 (more),
-    ) in
-    let q = c.requires.fact_1.to.p3 in omega (arith, fits)
 
 -- src/lib.rt:87:5
 pub loop-at-preserved : goal.loop-at-preserved

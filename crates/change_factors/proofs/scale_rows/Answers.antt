@@ -1,19 +1,12 @@
-use Rattle.change_factors.specs.Scale.{scaled_flat, whole-fits, rowed-first, rowed-more, rowed_end}
-use Rattle.change_factors.specs.Scale.{scaling-below, scaling-small, scaling-pos, scaling_stripes}
+use Rattle.change_factors.specs.Scale.{scaled_flat, rowed-first, rowed-more, rowed_end}
+use Rattle.change_factors.specs.Scale.{scaling-pos, scaling_stripes}
 use Rattle.lists.specs.Walk.{walked_none, walked_more}
 use Rattle.lists.specs.Table.{table}
 use native.Mathlib.Omega.{arith}
 use mathlib.Core.Path.{◌≡◌, refl, ap, ◌∙◌}
-use Prim.Native.Nat.{ℕ, ◌-◌, ◌<◌}
+use Prim.Native.Nat.{ℕ}
 use lib.ListN.{length}
 use Rattle.change_factors.proofs.scale_rows.Goals as goal
-
-pub overflow_mul-skip : goal.overflow_mul-skip
-overflow_mul-skip c = omega (arith, (scaling-small c.requires).0)
-
-pub scale_stripe-requires : goal.scale_stripe-requires
-scale_stripe-requires c =
-    scaling_stripes c.requires 0 (omega arith) (scaling-pos c.requires) refl
 
 pub loop-at-init : goal.loop-at-init
 loop-at-init c =
@@ -27,24 +20,6 @@ loop-at-init c =
       (refl, (walked_none _ 1 _, record { len = refl; is = λ p l h. r.is p (omega (arith, whole)) h })),
     )
 
-pub overflow_add-factor : goal.overflow_add-factor
-overflow_add-factor c =
-    let turn : c.loop-at.k < c.requires.rows =
-    scaling-below c.requires c.loop-at.k c.loop-at.invariant.0.0 c.loop-at-test.true in
-    omega (arith, turn, c.requires.small)
-
-pub int_to_float-factor : goal.int_to_float-factor
-int_to_float-factor c =
-    let turn : c.loop-at.k < c.requires.rows =
-    scaling-below c.requires c.loop-at.k c.loop-at.invariant.0.0 c.loop-at-test.true in
-    whole-fits _ (omega (arith, turn, c.requires.small))
-
-pub int_to_float-factor-in-loop-at : goal.int_to_float-factor-in-loop-at
-int_to_float-factor-in-loop-at c =
-    let turn : c.loop-at.k < c.requires.rows =
-    scaling-below c.requires c.loop-at.k c.loop-at.invariant.0.0 c.loop-at-test.true in
-    whole-fits _ (omega (arith, turn, c.requires.small))
-
 pub scale_stripe-requires-in-loop-at : goal.scale_stripe-requires-in-loop-at
 scale_stripe-requires-in-loop-at c =
     let whole : length c.scale_stripe.new.to
@@ -52,20 +27,6 @@ scale_stripe-requires-in-loop-at c =
     c.scale_stripe.auto.to in
     scaling_stripes c.requires c.loop-at.k c.loop-at.invariant.0.0 c.loop-at-test.true
     (c.loop-at.invariant.1.1.1.len ∙ whole)
-
-pub overflow_add-k : goal.overflow_add-k
-overflow_add-k c =
-    let turn : c.loop-at.k < c.requires.rows =
-    scaling-below c.requires c.loop-at.k c.loop-at.invariant.0.0 c.loop-at-test.true in
-    omega (arith, turn, c.requires.small)
-
-pub overflow_add-at : goal.overflow_add-at
-overflow_add-at c =
-    omega (arith, c.loop-at-test.true, (scaling-small c.requires).1, c.requires.low)
-
-pub loop-at-smaller : goal.loop-at-smaller
-loop-at-smaller c =
-    omega (arith, c.loop-at-test.true, c.requires.pos)
 
 pub loop-at-preserved : goal.loop-at-preserved
 loop-at-preserved c =
@@ -81,13 +42,6 @@ loop-at-preserved c =
         ),
       ),
     )
-
-pub shape_of-to : goal.shape_of-to
-shape_of-to c =
-    let whole : length c.scale_stripe.new.to
-    ≡ length c.args.to.now =
-    c.scale_stripe.auto.to in
-    c.loop-at.invariant.1.1.1.len ∙ whole
 
 pub returns : goal.returns
 returns c =

@@ -8,7 +8,7 @@ use Rattle.exponential_head.proofs.exp_head.Goals as goal
 
 pub loop-m-init : goal.loop-m-init
 unfolding exp_turns
-loop-m-init c = (refl, omega arith)
+loop-m-init c = refl
 
 pub int_to_float-h : goal.int_to_float-h
 int_to_float-h c = tt
@@ -18,11 +18,11 @@ unfolding exp_turns
 loop-m-preserved c =
     let t = add binary64 c.args.x nine_f in
     let m = c.loop-m.m in
-    (rw (add-one) (ap (exp_turn t (71 - m)) c.loop-m.invariant.0), omega arith)
+    rw (add-one) (ap (exp_turn t (71 - m)) c.loop-m.invariant)
 
 pub returns : goal.returns
 unfolding exp_head
 returns c =
     let x = c.args.x in
     let e : c.loop-m.m ≡ 71 = omega arith in
-    ap (λ (h : Float). div binary64 h e_nine_f) (c.loop-m.invariant.0 ∙ ap (exp_turns (add binary64 x nine_f)) e)
+    ap (λ (h : Float). div binary64 h e_nine_f) (c.loop-m.invariant ∙ ap (exp_turns (add binary64 x nine_f)) e)

@@ -1,3 +1,4 @@
+use Rattle.std.specs.Prelude.{Err}
 use native.Mathlib.Omega.{arith}
 use mathlib.Core.Path.{sym, ap, ◌∙◌}
 use lib.Seq.{length-take-le}
@@ -28,7 +29,7 @@ returns-then-a-count c =
     c.is_good.ensures
     c.if-not-is_good.false
     (c.count_of-count.ensures ∙ ap (λ (x : Header). count x.lengths)
-    c.header_of-h.ensures) c.if-a-count.true c.refused.ensures
+    c.header_of-h.ensures) c.if-a-count.true (ap Err c.by.ensures)
 
 pub returns-then-file-count : goal.returns-then-file-count
 returns-then-file-count c =
@@ -37,7 +38,7 @@ returns-then-file-count c =
     c.if-not-is_good.false
     (c.count_of-count.ensures
     ∙ ap (λ (x : Header). count x.lengths) c.header_of-h.ensures)
-    c.if-a-count.false c.if-file-count.true c.refused-then-file-count.ensures
+    c.if-a-count.false c.if-file-count.true (ap Err c.by-then-file-count.ensures)
 
 pub put_front-start-requires : goal.put_front-start-requires
 put_front-start-requires c =

@@ -1,4 +1,3 @@
-use Prim.Native.Nat.{◌-◌}
 use mathlib.Core.Path.{sym, ◌∙◌}
 use Rattle.lists.specs.Every.{passing-none, passing-more, passing-stop, passing_end}
 use Rattle.npy_answers.proofs.all_lines.Goals as goal

@@ -1,4 +1,3 @@
-use Prim.Native.Nat.{◌-◌}
 use mathlib.Core.Path.{sym}
 use Rattle.lists.specs.Every.{passing-none, passing_end}
 use Rattle.npy_answers.specs.Tested.{numerals-more, numerals-stop}

@@ -1,5 +1,4 @@
 use native.Mathlib.Omega.{arith}
-use Prim.Native.Nat.{◌-◌}
 use Rattle.npy_bytes.specs.Words.{little-two}
 use Rattle.npy_bytes.proofs.little_2.Goals as goal
 

@@ -1,16 +1,18 @@
-use Rattle.npy_columns.specs.Lines.{width_four, width-eight}
+use native.Mathlib.Omega.{arith}
+use Rattle.npy_columns.specs.Lines.{lined-none, lined-small, lined-fits, lined-more, lined_end}
 use Rattle.npy_columns.proofs.line.Goals as goal
 
-pub line_4-requires : goal.line_4-requires
-line_4-requires c = rw (width_four c.args.width c.if-width-eq4.true) at c.requires
+pub loop-x-init : goal.loop-x-init
+loop-x-init g c = lined-none _ _ _ _ _ _
 
-pub line_8-requires : goal.line_8-requires
-line_8-requires c = rw (width-eight c.args.width c.if-width-eq4.false) at c.requires
+pub value-requires : goal.value-requires
+value-requires g c = lined-fits c.loop-x.invariant c.requires (omega arith)
 
-pub returns-then-width-eq4 : goal.returns-then-width-eq4
-returns-then-width-eq4 c =
-    rw (width_four c.args.width c.if-width-eq4.true) c.line_4.ensures
+pub overflow_add-v : goal.overflow_add-v
+overflow_add-v g c = omega (arith, lined-small c.loop-x.invariant c.requires (omega arith))
 
-pub returns-else-width-eq4 : goal.returns-else-width-eq4
-returns-else-width-eq4 c =
-    rw (width-eight c.args.width c.if-width-eq4.false) c.line_8.ensures
+pub loop-x-preserved : goal.loop-x-preserved
+loop-x-preserved g c = lined-more c.loop-x.invariant c.value.ensures (omega arith)
+
+pub returns : goal.returns
+returns g c = lined_end c.loop-x.invariant (omega arith)

@@ -10,27 +10,27 @@ use Rattle.npy_columns.specs.Lines.{width_of, last_of, along_as, lined_as, row-b
 use Rattle.npy_columns.proofs.rows.Goals as goal
 
 pub overflow_mul-step : goal.overflow_mul-step
-overflow_mul-step c = omega (arith, mul-le-mul c.requires.fact_1.m0 c.requires.fact_1.m1)
+overflow_mul-step g c = omega (arith, mul-le-mul c.requires.fact_1.m0 c.requires.fact_1.m1)
 
 pub overflow_mul-step-2 : goal.overflow_mul-step-2
-overflow_mul-step-2 c = omega (arith, mul-le-mul (mul-le-mul c.requires.fact_1.m0 c.requires.fact_1.m1) c.requires.fact_1.m2)
+overflow_mul-step-2 g c = omega (arith, mul-le-mul (mul-le-mul c.requires.fact_1.m0 c.requires.fact_1.m1) c.requires.fact_1.m2)
 
 pub loop-p-init : goal.loop-p-init
-loop-p-init c = (refl, (refl, by-none (sizes-of c.requires.fact_1) c.requires.fact_2.full))
+loop-p-init g c = (refl, (refl, by-none (sizes-of c.requires.fact_1) c.requires.fact_2.full))
 
 pub column_of-from-requires : goal.column_of-from-requires
-column_of-from-requires c =
+column_of-from-requires g c =
     let more : c.loop-p.p < count c.args.n =
     let m = by-len (sizes-of c.requires.fact_1) c.requires.fact_2.full c.loop-p.invariant.1.1 in
     omega arith in
     record {
       fact_1 = c.requires.fact_1;
-      fact_2 = (row-begins (width_of c.args.width) c.args.file.now c.args.at c.args.n c.requires.fact_1 c.args.out.now
+      fact_2 = (row-begins (width_of g.row.WIDTH) c.args.file.now c.args.at c.args.n c.requires.fact_1 c.args.out.now
           c.requires.fact_2 c.loop-p.invariant.1.1 (more)).inside;
     }
 
 pub overflow_add-p : goal.overflow_add-p
-overflow_add-p c =
+overflow_add-p g c =
     let more : c.loop-p.p < count c.args.n =
     let m = by-len (sizes-of c.requires.fact_1) c.requires.fact_2.full c.loop-p.invariant.1.1 in
     omega arith in
@@ -39,7 +39,7 @@ overflow_add-p c =
     omega (arith, fits)
 
 pub offset_bounds-out-p : goal.offset_bounds-out-p
-offset_bounds-out-p c =
+offset_bounds-out-p g c =
     let more : c.loop-p.p < count c.args.n =
     let m = by-len (sizes-of c.requires.fact_1) c.requires.fact_2.full c.loop-p.invariant.1.1 in
     omega arith in
@@ -48,7 +48,7 @@ offset_bounds-out-p c =
     omega (arith, fits)
 
 pub slice_bounds-line-start : goal.slice_bounds-line-start
-slice_bounds-line-start c =
+slice_bounds-line-start g c =
     let more : c.loop-p.p < count c.args.n =
     let m = by-len (sizes-of c.requires.fact_1) c.requires.fact_2.full c.loop-p.invariant.1.1 in
     omega arith in
@@ -57,7 +57,7 @@ slice_bounds-line-start c =
     omega (arith, fits)
 
 pub slice_bounds-line-end : goal.slice_bounds-line-end
-slice_bounds-line-end c =
+slice_bounds-line-end g c =
     let more : c.loop-p.p < count c.args.n =
     let m = by-len (sizes-of c.requires.fact_1) c.requires.fact_2.full c.loop-p.invariant.1.1 in
     omega arith in
@@ -66,18 +66,18 @@ slice_bounds-line-end c =
     omega (arith, fits)
 
 pub line-requires : goal.line-requires
-line-requires c =
+line-requires g c =
     let more : c.loop-p.p < count c.args.n =
     let m = by-len (sizes-of c.requires.fact_1) c.requires.fact_2.full c.loop-p.invariant.1.1 in
     omega arith in
     let fits : c.loop-p.p + last_of c.args.n ≤ length c.loop-p.out =
     by_fits (sizes-of c.requires.fact_1) c.requires.fact_2.full c.loop-p.invariant.1.1 (more) in
-    along_as (row-along (width_of c.args.width) c.args.file.now c.args.at c.args.n c.requires.fact_1 c.args.out.now c.requires.fact_2
+    along_as (row-along (width_of g.row.WIDTH) c.args.file.now c.args.at c.args.n c.requires.fact_1 c.args.out.now c.requires.fact_2
     c.loop-p.invariant.1.1 (more)) c.column_of-from.ensures refl (let f = fits in
     simp (length-take, length-drop) (omega arith))
 
 pub overflow_add-p-in-loop-p : goal.overflow_add-p-in-loop-p
-overflow_add-p-in-loop-p c =
+overflow_add-p-in-loop-p g c =
     let more : c.loop-p.p < count c.args.n =
     let m = by-len (sizes-of c.requires.fact_1) c.requires.fact_2.full c.loop-p.invariant.1.1 in
     omega arith in
@@ -86,18 +86,18 @@ overflow_add-p-in-loop-p c =
     omega (arith, fits)
 
 pub next_row-next-requires : goal.next_row-next-requires
-next_row-next-requires c =
+next_row-next-requires g c =
     let more : c.loop-p.p < count c.args.n =
     let m = by-len (sizes-of c.requires.fact_1) c.requires.fact_2.full c.loop-p.invariant.1.1 in
     omega arith in
     record {
       fact_1 = sizes-of c.requires.fact_1;
-      fact_2 = row-begins (width_of c.args.width) c.args.file.now c.args.at c.args.n c.requires.fact_1
+      fact_2 = row-begins (width_of g.row.WIDTH) c.args.file.now c.args.at c.args.n c.requires.fact_1
           c.args.out.now c.requires.fact_2 c.loop-p.invariant.1.1 (more);
     }
 
 pub loop-p-smaller : goal.loop-p-smaller
-loop-p-smaller c =
+loop-p-smaller g c =
     let more : c.loop-p.p < count c.args.n =
     let m = by-len (sizes-of c.requires.fact_1) c.requires.fact_2.full c.loop-p.invariant.1.1 in
     omega arith in
@@ -109,7 +109,7 @@ loop-p-smaller c =
     omega (arith, fits, out-len)
 
 pub loop-p-preserved : goal.loop-p-preserved
-loop-p-preserved c =
+loop-p-preserved g c =
     let more : c.loop-p.p < count c.args.n =
     let m = by-len (sizes-of c.requires.fact_1) c.requires.fact_2.full c.loop-p.invariant.1.1 in
     omega arith in
@@ -120,19 +120,19 @@ loop-p-preserved c =
       refl,
       (
         refl,
-        by-put (sizes-of c.requires.fact_1) c.requires.fact_2.full c.loop-p.invariant.1.1 (more) e (row_is (width_of c.args.width)
+        by-put (sizes-of c.requires.fact_1) c.requires.fact_2.full c.loop-p.invariant.1.1 (more) e (row_is (width_of g.row.WIDTH)
             c.args.file.now c.args.at c.args.n c.requires.fact_1 c.args.out.now c.requires.fact_2 c.loop-p.invariant.1.1 (more) (lined_as
-            (width_of c.args.width) c.args.file.now c.args.at c.line.ensures (simp (length-take, length-drop) (omega arith))
+            (width_of g.row.WIDTH) c.args.file.now c.args.at c.line.ensures (simp (length-take, length-drop) (omega arith))
             c.column_of-from.ensures refl)) c.next_row-next.ensures,
       ),
     )
 
 pub shape_of-out : goal.shape_of-out
-shape_of-out c =
+shape_of-out g c =
     by-len (sizes-of c.requires.fact_1) c.requires.fact_2.full c.loop-p.invariant.1.1 ∙ sym c.requires.fact_2.full
 
 pub returns : goal.returns
-returns c =
+returns g c =
     by_end (sizes-of c.requires.fact_1) c.requires.fact_2.full c.loop-p.invariant.1.1 (let m = by-len (sizes-of c.requires.fact_1) c.requires.fact_2.full
     c.loop-p.invariant.1.1 in
     omega arith)

@@ -1,4 +1,6 @@
-use mathlib.Core.Path.{refl, sym, ◌∙◌}
+use lib.ListN.{length}
+use native.Mathlib.Omega.{arith}
+use mathlib.Core.Path.{◌≡◌, refl, sym, ◌∙◌}
 use Rattle.npy_pieces.specs.Places.{passed-more, passed-stop, passed_end}
 use Rattle.npy_pieces.proofs.skip.Goals as goal
 
@@ -16,4 +18,6 @@ loop-k-preserved c =
     (sym c.is_of.ensures ∙ c.if-not-is_of.false)
 
 pub returns : goal.returns
-returns c = passed_end c.loop-k.invariant c.loop-k-test.false
+returns c =
+    let e : c.loop-k.k ≡ length c.args.text.now = omega (arith, c.loop-k.invariant.inside) in
+    rw (← e) (passed_end c.loop-k.invariant c.loop-k-test.false)

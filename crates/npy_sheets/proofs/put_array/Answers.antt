@@ -50,16 +50,16 @@ pub slice_bounds-write_as-end-2 : goal.slice_bounds-write_as-end-2
 slice_bounds-write_as-end-2 c =
     sym (length-take-le _ _ (slice_bounds-write_as-end c))
 
-pub returns-in-Done : goal.returns-in-Done
-returns-in-Done c =
+pub returns-in-Ok : goal.returns-in-Ok
+returns-in-Ok c =
     array-done c.args.newer c.args.text.now c.requires.fact_1 c.lines_start-start.ensures c.word_at-head.ensures
     c.header_of.ensures c.stored_of-count.ensures
     c.args.values.now c.requires.fact_2.0 c.fill_values.ensures
     c.args.output.now c.requires.fact_2.1 c.write_as.ensures.0 c.write_as.ensures.1 _
-    c.in-Done.is
+    c.in-Ok.is
 
-pub returns-in-Refused : goal.returns-in-Refused
-returns-in-Refused c =
+pub returns-in-Err : goal.returns-in-Err
+returns-in-Err c =
     absurd (array-never c.args.newer c.args.text.now c.requires.fact_1 c.lines_start-start.ensures c.word_at-head.ensures
     c.header_of.ensures c.stored_of-count.ensures c.args.values.now c.requires.fact_2.0 c.fill_values.ensures c.args.output.now
-    c.requires.fact_2.1 c.write_as.ensures.0 c.write_as.ensures.1 _ c.in-Refused.is)
+    c.requires.fact_2.1 c.write_as.ensures.0 c.write_as.ensures.1 _ c.in-Err.is)

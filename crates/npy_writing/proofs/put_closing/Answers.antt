@@ -1,5 +1,4 @@
 use native.Mathlib.Omega.{arith}
-use Prim.Native.Nat.{◌-◌}
 use Rattle.npy_writing.specs.Front.{closing-one, closing-none}
 use Rattle.npy_writing.proofs.put_closing.Goals as goal
 

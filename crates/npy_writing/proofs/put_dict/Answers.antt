@@ -1,4 +1,3 @@
-use Prim.Native.Nat.{◌-◌}
 use Rattle.npy_writing.specs.Front.{dict-put}
 use Rattle.lists.specs.Bytes.{bytes}
 use Rattle.npy_writing.proofs.put_dict.Goals as goal

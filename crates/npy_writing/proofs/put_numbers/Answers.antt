@@ -1,5 +1,4 @@
 use native.Mathlib.Omega.{arith}
-use Prim.Native.Nat.{◌-◌}
 use Rattle.sheet_text.specs.Put.{put-len}
 use Rattle.npy_writing.specs.Front.{two_digits, numbers-none, numbers-put}
 use Rattle.npy_writing.proofs.put_numbers.Goals as goal

@@ -1,5 +1,4 @@
 use native.Mathlib.Omega.{arith}
-use Prim.Native.Nat.{◌-◌}
 use Rattle.sheet_text.specs.Put.{put-len}
 use Rattle.npy_writing.specs.Front.{tuple-put}
 use Rattle.npy_writing.proofs.put_tuple.Goals as goal

@@ -1,3 +1,5 @@
+use Rattle.std.proofs.lemmas.Result.{err_from_is_err_and}
+use mathlib.Core.Path.{refl}
 use native.Mathlib.Omega.{arith}
 use mathlib.Core.Path.{◌≡◌, sym, ap, ◌∙◌}
 use mathlib.Core.List.{◌++◌}
@@ -15,107 +17,108 @@ use Rattle.blocks.specs.Entry.{refused-answer, refused-out, refused-scratch, don
 use Rattle.product.specs.Times.{entry-times, entry_ruled, entry-head, entry-out}
 use Rattle.product.proofs.multiply_opened.Goals as goal
 
-pub returns-then-refusal-ne0 : goal.returns-then-refusal-ne0
+pub returns-in_err-o : goal.returns-in_err-o
 unfolding product_answer product_out product_scratch
-returns-then-refusal-ne0 c =
-    let e = c.open_product-o.ensures.refusal in
-    let n = c.if-refusal-ne0.true in record {
+returns-in_err-o c =
+    let p = err_from_is_err_and c.from_residual.result c.from_residual.ensures.1 in rw (p.1, p.2)
+    (let e = c.in_err-o.ensures.is in
+    let n = c.in_err-o.ensures.some in record {
       answer = refused-answer e (announced_pair Product c.args.ah c.args.bh) ((product_poly (held c.args.ah c.args.a.now) (held c.args.bh c.args.b.now))) n;
       written = refused-out e (announced_pair Product c.args.ah c.args.bh) ((product_poly (held c.args.ah c.args.a.now) (held c.args.bh c.args.b.now))) n
           c.args.out.now;
       cleared = refused-scratch e (announced_pair Product c.args.ah c.args.bh)
           ((product_poly (held c.args.ah c.args.a.now) (held c.args.bh c.args.b.now))) n c.args.scratch.now;
-    }
+    })
 
 pub overflow_mul-room : goal.overflow_mul-room
 overflow_mul-room c =
-    omega (arith, (opened-count c.open_product-o.ensures c.if-refusal-ne0.false), (opened-ready c.open_product-o.ensures c.if-refusal-ne0.false).announced.most)
+    omega (arith, (opened-count c.in_ok-o.ensures), (opened-ready c.in_ok-o.ensures).announced.most)
 
 pub slice_bounds-multiply_into-end : goal.slice_bounds-multiply_into-end
 slice_bounds-multiply_into-end c =
-    sym (length-take-le _ _ (opened-fits c.open_product-o.ensures c.if-refusal-ne0.false).0)
+    sym (length-take-le _ _ (opened-fits c.in_ok-o.ensures).0)
 
 pub slice_bounds-multiply_into-end-2 : goal.slice_bounds-multiply_into-end-2
 slice_bounds-multiply_into-end-2 c =
-    sym (length-take-le _ _ (opened-fits c.open_product-o.ensures c.if-refusal-ne0.false).1)
+    sym (length-take-le _ _ (opened-fits c.in_ok-o.ensures).1)
 
 pub slice_bounds-multiply_into-end-3 : goal.slice_bounds-multiply_into-end-3
 slice_bounds-multiply_into-end-3 c =
-    (opened-fits c.open_product-o.ensures c.if-refusal-ne0.false).2
+    (opened-fits c.in_ok-o.ensures).2
 
 pub slice_bounds-multiply_into-end-4 : goal.slice_bounds-multiply_into-end-4
 slice_bounds-multiply_into-end-4 c =
-    sym (length-take-le _ _ (opened-fits c.open_product-o.ensures c.if-refusal-ne0.false).2)
+    sym (length-take-le _ _ (opened-fits c.in_ok-o.ensures).2)
 
 pub slice_bounds-multiply_into-end-5 : goal.slice_bounds-multiply_into-end-5
 slice_bounds-multiply_into-end-5 c =
-    (opened-fits c.open_product-o.ensures c.if-refusal-ne0.false).3
+    (opened-fits c.in_ok-o.ensures).3
 
 pub slice_bounds-multiply_into-end-6 : goal.slice_bounds-multiply_into-end-6
 slice_bounds-multiply_into-end-6 c =
-    sym (length-take-le _ _ (opened-fits c.open_product-o.ensures c.if-refusal-ne0.false).3)
+    sym (length-take-le _ _ (opened-fits c.in_ok-o.ensures).3)
 
 pub multiply_into-r-requires : goal.multiply_into-r-requires
 multiply_into-r-requires c =
-    let f = opened-fits c.open_product-o.ensures c.if-refusal-ne0.false in
-    let t = c.open_product-o.ensures.tells c.if-refusal-ne0.false in
-    entry-times (opened-ready c.open_product-o.ensures c.if-refusal-ne0.false) t.left t.right
+    let f = opened-fits c.in_ok-o.ensures in
+    let t = c.in_ok-o.ensures.tells in
+    entry-times (opened-ready c.in_ok-o.ensures) t.left t.right
     (told-by Product t) t.count_a t.count_b t.count (length-take-le _ _ f.0) (length-take-le _ _ f.1)
     (length-take-le _ _ f.2) (length-take-le _ _ f.3)
 
 pub slice_bounds-clear-end : goal.slice_bounds-clear-end
 slice_bounds-clear-end c =
-    let used : length c.multiply_into-r.new.work ≡ 8 * c.open_product-o.result.n =
-    c.multiply_into-r.auto.work ∙ length-take-le _ _ (opened-fits c.open_product-o.ensures c.if-refusal-ne0.false).3 in
-    let rooms : 8 * c.open_product-o.result.n ≤ length
+    let used : length c.multiply_into-r.new.work ≡ 8 * c.in_ok-o.o.n =
+    c.multiply_into-r.auto.work ∙ length-take-le _ _ (opened-fits c.in_ok-o.ensures).3 in
+    let rooms : 8 * c.in_ok-o.o.n ≤ length
     (c.multiply_into-r.new.work
-    ++ drop (8 * c.open_product-o.result.n) c.args.scratch.now) =
+    ++ drop (8 * c.in_ok-o.o.n) c.args.scratch.now) =
     simp length-append (omega (arith, used)) in
     rooms
 
 pub slice_bounds-clear-end-2 : goal.slice_bounds-clear-end-2
 slice_bounds-clear-end-2 c =
-    let used : length c.multiply_into-r.new.work ≡ 8 * c.open_product-o.result.n =
-    c.multiply_into-r.auto.work ∙ length-take-le _ _ (opened-fits c.open_product-o.ensures c.if-refusal-ne0.false).3 in
-    let rooms : 8 * c.open_product-o.result.n ≤ length
+    let used : length c.multiply_into-r.new.work ≡ 8 * c.in_ok-o.o.n =
+    c.multiply_into-r.auto.work ∙ length-take-le _ _ (opened-fits c.in_ok-o.ensures).3 in
+    let rooms : 8 * c.in_ok-o.o.n ≤ length
     (c.multiply_into-r.new.work
-    ++ drop (8 * c.open_product-o.result.n) c.args.scratch.now) =
+    ++ drop (8 * c.in_ok-o.o.n) c.args.scratch.now) =
     simp length-append (omega (arith, used)) in
     sym (length-take-le _ _ (rooms))
 
 pub pack-requires : goal.pack-requires
 pack-requires c =
-    let head : with_lengths c.open_product-o.result.told c.multiply_into-r.result ≡
+    let head : with_lengths c.in_ok-o.o.told c.multiply_into-r.result ≡
     ((product_poly (held c.args.ah c.args.a.now) (held c.args.bh c.args.b.now))).head =
-    let t = c.open_product-o.ensures.tells c.if-refusal-ne0.false in
+    let t = c.in_ok-o.ensures.tells in
     entry-head c.args.ah c.args.a.now c.args.bh c.args.b.now t.left t.right
     (told-by Product t) t.count_a t.count_b c.multiply_into-r.ensures.lengths in
     rw (c.with_lengths.ensures ∙ head)
-    (entry_ruled (opened-ready c.open_product-o.ensures c.if-refusal-ne0.false) c.args.a.now c.args.b.now)
+    (entry_ruled (opened-ready c.in_ok-o.ensures) c.args.a.now c.args.b.now)
 
 pub returns : goal.returns
 unfolding product_answer product_out product_scratch
 returns c =
-    let head : with_lengths c.open_product-o.result.told c.multiply_into-r.result ≡
+    let head : with_lengths c.in_ok-o.o.told c.multiply_into-r.result ≡
     ((product_poly (held c.args.ah c.args.a.now) (held c.args.bh c.args.b.now))).head =
-    let t = c.open_product-o.ensures.tells c.if-refusal-ne0.false in
+    let t = c.in_ok-o.ensures.tells in
     entry-head c.args.ah c.args.a.now c.args.bh c.args.b.now t.left t.right
     (told-by Product t) t.count_a t.count_b c.multiply_into-r.ensures.lengths in
-    let used : length c.multiply_into-r.new.work ≡ 8 * c.open_product-o.result.n =
-    c.multiply_into-r.auto.work ∙ length-take-le _ _ (opened-fits c.open_product-o.ensures c.if-refusal-ne0.false).3 in
-    let rooms : 8 * c.open_product-o.result.n ≤ length
+    let used : length c.multiply_into-r.new.work ≡ 8 * c.in_ok-o.o.n =
+    c.multiply_into-r.auto.work ∙ length-take-le _ _ (opened-fits c.in_ok-o.ensures).3 in
+    let rooms : 8 * c.in_ok-o.o.n ≤ length
     (c.multiply_into-r.new.work
-    ++ drop (8 * c.open_product-o.result.n) c.args.scratch.now) =
+    ++ drop (8 * c.in_ok-o.o.n) c.args.scratch.now) =
     simp length-append (omega (arith, used)) in
-    let e = c.open_product-o.ensures.refusal in let z = c.if-refusal-ne0.false in
-    let n = (opened-count c.open_product-o.ensures c.if-refusal-ne0.false) in
-    let t = c.open_product-o.ensures.tells c.if-refusal-ne0.false in record {
+    let e = refl in let z = c.in_ok-o.ensures.none in
+    let n = (opened-count c.in_ok-o.ensures) in
+    let t = c.in_ok-o.ensures.tells in record {
       answer = done-answer e (announced_pair Product c.args.ah c.args.bh) ((product_poly (held c.args.ah c.args.a.now) (held c.args.bh c.args.b.now))) z
           (c.pack.ensures ∙ ap word_of (c.with_lengths.ensures ∙ head));
       written = done-out e (announced_pair Product c.args.ah c.args.bh)
           ((product_poly (held c.args.ah c.args.a.now) (held c.args.bh c.args.b.now))) z c.args.out.now n
           (entry-out c.args.ah c.args.a.now c.args.bh c.args.b.now t.left
-          t.right (told-by Product t) t.count_a t.count_b c.open_product-o.result.n
+          t.right (told-by Product t) t.count_a t.count_b c.in_ok-o.o.n
           c.multiply_into-r.ensures.written);
       cleared = done-scratch e (announced_pair Product c.args.ah c.args.bh) ((product_poly (held c.args.ah c.args.a.now) (held c.args.bh c.args.b.now))) z
           c.args.scratch.now c.multiply_into-r.new.work (ap (λ (k : ℕ). 8 * k) n)

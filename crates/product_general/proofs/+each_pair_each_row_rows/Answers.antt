@@ -25,12 +25,6 @@ each_pair-overflow_mul-p t c =
     c.requires.1.some) c.from-lo.ensures c.upto-hi.ensures c.loop-j.invariant.1.from c.loop-j-test.true in
     omega (arith, left_in_lem c.requires.0 c.requires.1 turned)
 
-pub each_pair-overflow_sub-q : goal.each_pair-overflow_sub-q
-each_pair-overflow_sub-q t c =
-    let turned : Turn (at c.args.lx c.args.v) (at c.args.ly c.args.v) c.args.k c.loop-j.j = turn (lengths-pos c.requires.0.right _
-    c.requires.1.some) c.from-lo.ensures c.upto-hi.ensures c.loop-j.invariant.1.from c.loop-j-test.true in
-    turned.below
-
 pub each_pair-overflow_mul-q : goal.each_pair-overflow_mul-q
 each_pair-overflow_mul-q t c =
     let turned : Turn (at c.args.lx c.args.v) (at c.args.ly c.args.v) c.args.k c.loop-j.j = turn (lengths-pos c.requires.0.right _
@@ -82,12 +76,6 @@ each_pair-rows-requires t c =
       (c.requires.0, rowing-next c.requires.0 c.args.xs.now c.args.ys.now c.requires.1 turned c.loop-j.invariant.1.len),
     )
 
-pub each_pair-overflow_add-j : goal.each_pair-overflow_add-j
-each_pair-overflow_add-j t c =
-    let turned : Turn (at c.args.lx c.args.v) (at c.args.ly c.args.v) c.args.k c.loop-j.j = turn (lengths-pos c.requires.0.right _
-    c.requires.1.some) c.from-lo.ensures c.upto-hi.ensures c.loop-j.invariant.1.from c.loop-j-test.true in
-    omega (arith, turned.below, row_small c.requires.0.result c.requires.1.some c.requires.1.row)
-
 pub each_pair-loop-j-preserved : goal.each_pair-loop-j-preserved
 each_pair-loop-j-preserved t c =
     let f = c.loop-j.invariant.1.from in (
@@ -95,9 +83,6 @@ each_pair-loop-j-preserved t c =
       paired-more c.loop-j.invariant.1 (rows_step c.args.lx c.args.ly c.args.r c.args.v c.args.k (at c.args.sx c.args.v) (at c.args.sy c.args.v)
           c.loop-j.j c.args.xs.now c.args.ys.now c.loop-j.row c.rows.ensures),
     )
-
-pub each_pair-shape_of-row : goal.each_pair-shape_of-row
-each_pair-shape_of-row t c = c.loop-j.invariant.1.len ∙ sym c.requires.1.full
 
 pub each_pair-returns : goal.each_pair-returns
 each_pair-returns t c =
@@ -108,7 +93,7 @@ each_pair-returns t c =
     c.loop-j.invariant.1 c.from-lo.ensures e
 
 pub each_row-loop-k-init : goal.each_row-loop-k-init
-each_row-loop-k-init t c = (omega arith, row-none (at c.args.sr c.args.v))
+each_row-loop-k-init t c = row-none (at c.args.sr c.args.v)
 
 pub each_row-overflow_mul-at : goal.each_row-overflow_mul-at
 each_row-overflow_mul-at t c =
@@ -116,7 +101,7 @@ each_row-overflow_mul-at t c =
       arith,
       result_in c.requires.0
           c.requires.1.0 c.requires.1.1 c.loop-k-test.true,
-      c.loop-k.invariant.1.len,
+      c.loop-k.invariant.len,
     ) in
     omega (arith, fits)
 
@@ -126,7 +111,7 @@ each_row-overflow_add-at t c =
       arith,
       result_in c.requires.0
           c.requires.1.0 c.requires.1.1 c.loop-k-test.true,
-      c.loop-k.invariant.1.len,
+      c.loop-k.invariant.len,
     ) in
     omega (arith, fits)
 
@@ -136,7 +121,7 @@ each_row-offset_bounds-res-at t c =
       arith,
       result_in c.requires.0
           c.requires.1.0 c.requires.1.1 c.loop-k-test.true,
-      c.loop-k.invariant.1.len,
+      c.loop-k.invariant.len,
     ) in
     omega (arith, fits)
 
@@ -146,27 +131,7 @@ each_row-slice_bounds-each_pair-end t c =
       arith,
       result_in c.requires.0
           c.requires.1.0 c.requires.1.1 c.loop-k-test.true,
-      c.loop-k.invariant.1.len,
-    ) in
-    omega (arith, fits)
-
-pub each_row-slice_bounds-each_pair-start : goal.each_row-slice_bounds-each_pair-start
-each_row-slice_bounds-each_pair-start t c =
-    let fits : c.loop-k.k * at c.args.sr c.args.v + at c.args.sr c.args.v ≤ length c.loop-k.res = omega (
-      arith,
-      result_in c.requires.0
-          c.requires.1.0 c.requires.1.1 c.loop-k-test.true,
-      c.loop-k.invariant.1.len,
-    ) in
-    omega (arith, fits)
-
-pub each_row-slice_bounds-each_pair-count : goal.each_row-slice_bounds-each_pair-count
-each_row-slice_bounds-each_pair-count t c =
-    let fits : c.loop-k.k * at c.args.sr c.args.v + at c.args.sr c.args.v ≤ length c.loop-k.res = omega (
-      arith,
-      result_in c.requires.0
-          c.requires.1.0 c.requires.1.1 c.loop-k-test.true,
-      c.loop-k.invariant.1.len,
+      c.loop-k.invariant.len,
     ) in
     omega (arith, fits)
 
@@ -174,31 +139,23 @@ pub each_row-each_pair-requires : goal.each_row-each_pair-requires
 each_row-each_pair-requires t c =
     let e : c.loop-k.k * at c.args.sr c.args.v + at c.args.sr c.args.v - c.loop-k.k * at c.args.sr c.args.v ≡ at c.args.sr c.args.v = omega arith in (
       omega (arith, c.decreases),
-      (c.requires.0, pairing-of c.requires.0 c.requires.1.0 c.requires.1.1 c.loop-k-test.true c.loop-k.res c.loop-k.invariant.1.len e),
+      (c.requires.0, pairing-of c.requires.0 c.requires.1.0 c.requires.1.1 c.loop-k-test.true c.loop-k.res c.loop-k.invariant.len e),
     )
-
-pub each_row-overflow_add-k : goal.each_row-overflow_add-k
-each_row-overflow_add-k t c = omega (arith, row_small c.requires.0.result c.requires.1.1.some c.loop-k-test.true)
 
 pub each_row-loop-k-preserved : goal.each_row-loop-k-preserved
 each_row-loop-k-preserved t c =
     let h = c.requires.1.1.some in
-    let e : c.loop-k.k * at c.args.sr c.args.v + at c.args.sr c.args.v - c.loop-k.k * at c.args.sr c.args.v ≡ at c.args.sr c.args.v = omega arith in (
-      omega (arith, c.loop-k-test.true),
-      row_next c.args.lx c.args.ly c.args.r c.requires.0.result c.args.v c.requires.1.1 c.args.xs.now c.args.ys.now c.loop-k.invariant.1
-          c.loop-k-test.true (stride-at c.args.r c.requires.0.by_r h) e (stride-at c.args.lx c.requires.0.by_x h)
-          (stride-at c.args.ly c.requires.0.by_y h) c.each_pair.ensures
-          (result_in c.requires.0 c.requires.1.0 c.requires.1.1 c.loop-k-test.true),
-    )
-
-pub each_row-shape_of-res : goal.each_row-shape_of-res
-each_row-shape_of-res t c = c.loop-k.invariant.1.len
+    let e : c.loop-k.k * at c.args.sr c.args.v + at c.args.sr c.args.v - c.loop-k.k * at c.args.sr c.args.v ≡ at c.args.sr c.args.v = omega arith in
+    row_next c.args.lx c.args.ly c.args.r c.requires.0.result c.args.v c.requires.1.1 c.args.xs.now c.args.ys.now c.loop-k.invariant
+    c.loop-k-test.true (stride-at c.args.r c.requires.0.by_r h) e (stride-at c.args.lx c.requires.0.by_x h)
+    (stride-at c.args.ly c.requires.0.by_y h) c.each_pair.ensures
+    (result_in c.requires.0 c.requires.1.0 c.requires.1.1 c.loop-k-test.true)
 
 pub each_row-returns : goal.each_row-returns
 each_row-returns t c =
     let h = c.requires.1.1.some in
-    rows_end c.args.lx c.args.ly c.args.r c.args.v c.args.xs.now c.args.ys.now c.loop-k.invariant.1 h
-    (stride-at c.args.r c.requires.0.by_r h) (omega (arith, c.loop-k.invariant.0, c.loop-k-test.false)) c.requires.1.0.full
+    rows_end c.args.lx c.args.ly c.args.r c.args.v c.args.xs.now c.args.ys.now c.loop-k.invariant h
+    (stride-at c.args.r c.requires.0.by_r h) (omega arith) c.requires.1.0.full
 
 pub rows-bounds-res-0 : goal.rows-bounds-res-0
 rows-bounds-res-0 t c = omega (arith, c.requires.1.full, span_pos c.requires.0.result c.requires.1.within)

@@ -23,12 +23,6 @@ invariant-each_pair-loop-j l =
     (l.j - l.lo ≤ l.hi - l.lo) × Paired (in_row l.r l.v) (λ q. step_at l.lx l.ly l.r (index l.r q) l.v l.k (at l.sx l.v) (at l.sy l.v) l.xs
     l.ys) l.lo l.j l.initial.row l.row
 
-abbrev pub decreases-each_pair-loop-j : goal.decreases-each_pair-loop-j
-decreases-each_pair-loop-j l = l.hi - l.j
-
 abbrev pub invariant-each_row-loop-k : goal.invariant-each_row-loop-k
 invariant-each_row-loop-k l =
-    (l.k ≤ at l.r l.v) × Filled (l.k * at l.sr l.v) (place_of l.lx l.ly l.r l.v l.xs l.ys l.initial.res) l.initial.res l.res
-
-abbrev pub decreases-each_row-loop-k : goal.decreases-each_row-loop-k
-decreases-each_row-loop-k l = l.n - l.k
+    Filled (l.k * at l.sr l.v) (place_of l.lx l.ly l.r l.v l.xs l.ys l.initial.res) l.initial.res l.res

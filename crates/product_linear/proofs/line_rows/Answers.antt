@@ -11,32 +11,8 @@ use Rattle.product_linear.proofs.line_rows.Goals as goal
 pub loop-at-init : goal.loop-at-init
 loop-at-init c = (along-first, (omega arith, filled_none))
 
-pub overflow_add-from : goal.overflow_add-from
-overflow_add-from c =
-    let fits : (c.loop-at.from + c.args.width ≤ length c.args.a.now) × (c.loop-at.at + c.args.step ≤ length c.args.to.now) =
-    row_fits c.requires.fact_1 c.loop-at.invariant.0 (omega (arith, c.loop-at-test.true, c.loop-at.invariant.1.1.len)) in
-    omega (arith, fits)
-
-pub offset_bounds-a-from : goal.offset_bounds-a-from
-offset_bounds-a-from c =
-    let fits : (c.loop-at.from + c.args.width ≤ length c.args.a.now) × (c.loop-at.at + c.args.step ≤ length c.args.to.now) =
-    row_fits c.requires.fact_1 c.loop-at.invariant.0 (omega (arith, c.loop-at-test.true, c.loop-at.invariant.1.1.len)) in
-    omega (arith, fits)
-
 pub slice_bounds-line_row-end : goal.slice_bounds-line_row-end
 slice_bounds-line_row-end c =
-    let fits : (c.loop-at.from + c.args.width ≤ length c.args.a.now) × (c.loop-at.at + c.args.step ≤ length c.args.to.now) =
-    row_fits c.requires.fact_1 c.loop-at.invariant.0 (omega (arith, c.loop-at-test.true, c.loop-at.invariant.1.1.len)) in
-    omega (arith, fits)
-
-pub overflow_add-at : goal.overflow_add-at
-overflow_add-at c =
-    let fits : (c.loop-at.from + c.args.width ≤ length c.args.a.now) × (c.loop-at.at + c.args.step ≤ length c.args.to.now) =
-    row_fits c.requires.fact_1 c.loop-at.invariant.0 (omega (arith, c.loop-at-test.true, c.loop-at.invariant.1.1.len)) in
-    omega (arith, fits)
-
-pub offset_bounds-to-at : goal.offset_bounds-to-at
-offset_bounds-to-at c =
     let fits : (c.loop-at.from + c.args.width ≤ length c.args.a.now) × (c.loop-at.at + c.args.step ≤ length c.args.to.now) =
     row_fits c.requires.fact_1 c.loop-at.invariant.0 (omega (arith, c.loop-at-test.true, c.loop-at.invariant.1.1.len)) in
     omega (arith, fits)
@@ -60,24 +36,6 @@ line_row-requires c =
       most = simp (length-take, length-drop) (omega (arith, p.most));
     }
 
-pub overflow_add-from-in-loop-at : goal.overflow_add-from-in-loop-at
-overflow_add-from-in-loop-at c =
-    let fits : (c.loop-at.from + c.args.width ≤ length c.args.a.now) × (c.loop-at.at + c.args.step ≤ length c.args.to.now) =
-    row_fits c.requires.fact_1 c.loop-at.invariant.0 (omega (arith, c.loop-at-test.true, c.loop-at.invariant.1.1.len)) in
-    omega (arith, fits)
-
-pub overflow_add-at-in-loop-at : goal.overflow_add-at-in-loop-at
-overflow_add-at-in-loop-at c =
-    let fits : (c.loop-at.from + c.args.width ≤ length c.args.a.now) × (c.loop-at.at + c.args.step ≤ length c.args.to.now) =
-    row_fits c.requires.fact_1 c.loop-at.invariant.0 (omega (arith, c.loop-at-test.true, c.loop-at.invariant.1.1.len)) in
-    omega (arith, fits)
-
-pub loop-at-smaller : goal.loop-at-smaller
-loop-at-smaller c =
-    let fits : (c.loop-at.from + c.args.width ≤ length c.args.a.now) × (c.loop-at.at + c.args.step ≤ length c.args.to.now) =
-    row_fits c.requires.fact_1 c.loop-at.invariant.0 (omega (arith, c.loop-at-test.true, c.loop-at.invariant.1.1.len)) in
-    omega (arith, fits, c.requires.fact_1.pos)
-
 pub loop-at-preserved : goal.loop-at-preserved
 loop-at-preserved c =
     let fits : (c.loop-at.from + c.args.width ≤ length c.args.a.now) × (c.loop-at.at + c.args.step ≤ length c.args.to.now) =
@@ -95,9 +53,6 @@ loop-at-preserved c =
             (simp (length-take, length-drop) (omega (arith, l, f)))) f.1 es,
       ),
     )
-
-pub shape_of-to : goal.shape_of-to
-shape_of-to c = c.loop-at.invariant.1.1.len
 
 pub returns : goal.returns
 returns c = filled-all c.loop-at.invariant.1.1 c.loop-at.invariant.1.0 (omega (arith, c.loop-at-test.false, c.loop-at.invariant.1.1.len))

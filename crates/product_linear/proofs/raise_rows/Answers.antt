@@ -10,32 +10,8 @@ use Rattle.product_linear.proofs.raise_rows.Goals as goal
 pub loop-at-init : goal.loop-at-init
 loop-at-init c = (along-first, (omega arith, filled_none))
 
-pub overflow_add-from : goal.overflow_add-from
-overflow_add-from c =
-    let fits : (c.loop-at.from + c.args.width ≤ length c.args.a.now) × (c.loop-at.at + c.args.step ≤ length c.args.to.now) =
-    row_fits c.requires c.loop-at.invariant.0 (omega (arith, c.loop-at-test.true, c.loop-at.invariant.1.1.len)) in
-    omega (arith, fits)
-
-pub offset_bounds-a-from : goal.offset_bounds-a-from
-offset_bounds-a-from c =
-    let fits : (c.loop-at.from + c.args.width ≤ length c.args.a.now) × (c.loop-at.at + c.args.step ≤ length c.args.to.now) =
-    row_fits c.requires c.loop-at.invariant.0 (omega (arith, c.loop-at-test.true, c.loop-at.invariant.1.1.len)) in
-    omega (arith, fits)
-
 pub slice_bounds-raise_row-end : goal.slice_bounds-raise_row-end
 slice_bounds-raise_row-end c =
-    let fits : (c.loop-at.from + c.args.width ≤ length c.args.a.now) × (c.loop-at.at + c.args.step ≤ length c.args.to.now) =
-    row_fits c.requires c.loop-at.invariant.0 (omega (arith, c.loop-at-test.true, c.loop-at.invariant.1.1.len)) in
-    omega (arith, fits)
-
-pub overflow_add-at : goal.overflow_add-at
-overflow_add-at c =
-    let fits : (c.loop-at.from + c.args.width ≤ length c.args.a.now) × (c.loop-at.at + c.args.step ≤ length c.args.to.now) =
-    row_fits c.requires c.loop-at.invariant.0 (omega (arith, c.loop-at-test.true, c.loop-at.invariant.1.1.len)) in
-    omega (arith, fits)
-
-pub offset_bounds-to-at : goal.offset_bounds-to-at
-offset_bounds-to-at c =
     let fits : (c.loop-at.from + c.args.width ≤ length c.args.a.now) × (c.loop-at.at + c.args.step ≤ length c.args.to.now) =
     row_fits c.requires c.loop-at.invariant.0 (omega (arith, c.loop-at-test.true, c.loop-at.invariant.1.1.len)) in
     omega (arith, fits)
@@ -56,24 +32,6 @@ raise_row-requires c =
       simp (length-take, length-drop) (omega (arith, c.requires.most)),
     )
 
-pub overflow_add-from-in-loop-at : goal.overflow_add-from-in-loop-at
-overflow_add-from-in-loop-at c =
-    let fits : (c.loop-at.from + c.args.width ≤ length c.args.a.now) × (c.loop-at.at + c.args.step ≤ length c.args.to.now) =
-    row_fits c.requires c.loop-at.invariant.0 (omega (arith, c.loop-at-test.true, c.loop-at.invariant.1.1.len)) in
-    omega (arith, fits)
-
-pub overflow_add-at-in-loop-at : goal.overflow_add-at-in-loop-at
-overflow_add-at-in-loop-at c =
-    let fits : (c.loop-at.from + c.args.width ≤ length c.args.a.now) × (c.loop-at.at + c.args.step ≤ length c.args.to.now) =
-    row_fits c.requires c.loop-at.invariant.0 (omega (arith, c.loop-at-test.true, c.loop-at.invariant.1.1.len)) in
-    omega (arith, fits)
-
-pub loop-at-smaller : goal.loop-at-smaller
-loop-at-smaller c =
-    let fits : (c.loop-at.from + c.args.width ≤ length c.args.a.now) × (c.loop-at.at + c.args.step ≤ length c.args.to.now) =
-    row_fits c.requires c.loop-at.invariant.0 (omega (arith, c.loop-at-test.true, c.loop-at.invariant.1.1.len)) in
-    omega (arith, fits, c.requires.pos)
-
 pub loop-at-preserved : goal.loop-at-preserved
 loop-at-preserved c =
     let fits : (c.loop-at.from + c.args.width ≤ length c.args.a.now) × (c.loop-at.at + c.args.step ≤ length c.args.to.now) =
@@ -90,9 +48,6 @@ loop-at-preserved c =
             c.raise_row.ensures (simp (length-take, length-drop) (omega (arith, l, f)))) f.1 es,
       ),
     )
-
-pub shape_of-to : goal.shape_of-to
-shape_of-to c = c.loop-at.invariant.1.1.len
 
 pub returns : goal.returns
 returns c = filled-all c.loop-at.invariant.1.1 c.loop-at.invariant.1.0 (omega (arith, c.loop-at-test.false, c.loop-at.invariant.1.1.len))

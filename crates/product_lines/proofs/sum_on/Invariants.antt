@@ -5,6 +5,3 @@ use Rattle.product_lines.proofs.sum_on.Given as goal
 
 abbrev pub invariant-loop-j : goal.invariant-loop-j
 invariant-loop-j l = (l.j - l.a ≤ l.b - l.a) × Walked (term l.xs l.ys l.k) l.a l.j l.acc l.sum
-
-abbrev pub decreases-loop-j : goal.decreases-loop-j
-decreases-loop-j l = l.b - l.j

@@ -1,4 +1,4 @@
-use Prim.Native.Nat.{◌+◌, ◌-◌, ◌≤◌}
+use Prim.Native.Nat.{◌+◌}
 use lib.ListN.{length, get_or}
 use lib.Ieee.{nan, add, neg, binary64}
 use Rattle.lists.specs.Table.{table}
@@ -6,8 +6,5 @@ use Rattle.quotient_lessening.specs.Laid.{Laid}
 use Rattle.quotient_lessening.proofs.lessen.Given as goal
 
 abbrev pub invariant-loop-i : goal.invariant-loop-i
-invariant-loop-i l = (l.i ≤ l.n) × Laid l.to (table l.i (λ j. add binary64 (neg (get_or l.row j nan)) (get_or l.initial.work (l.from + j) nan)))
+invariant-loop-i l = Laid l.to (table l.i (λ j. add binary64 (neg (get_or l.row j nan)) (get_or l.initial.work (l.from + j) nan)))
     (length l.initial.work) l.initial.work l.work
-
-abbrev pub decreases-loop-i : goal.decreases-loop-i
-decreases-loop-i l = l.n - l.i

@@ -12,7 +12,4 @@ decreases-level l = 2 * (4 - l.v) + 1
 
 abbrev pub invariant-each_row-loop-k : goal.invariant-each_row-loop-k
 invariant-each_row-loop-k l =
-    (l.k ≤ at l.r l.v) × (length l.row ≡ length l.initial.row) × Laid l.q (rows_laid l.ly l.r l.v l.p l.e l.b l.f l.initial.work l.k) l.e l.initial.work l.work
-
-abbrev pub decreases-each_row-loop-k : goal.decreases-each_row-loop-k
-decreases-each_row-loop-k l = l.n - l.k
+    (length l.row ≡ length l.initial.row) × Laid l.q (rows_laid l.ly l.r l.v l.p l.e l.b l.f l.initial.work l.k) l.e l.initial.work l.work

@@ -4,12 +4,6 @@ use borrow.Author.Rules.{rules}
 use Rattle.quotient_levels.specs.Gather.{row_fits, gather_taking, gathered}
 use Rattle.quotient_levels.proofs.gather.Goals as goal
 
-pub offset_bounds-sr-v : goal.offset_bounds-sr-v
-offset_bounds-sr-v c = let t = c.requires.fact_2 in let h = t.some in omega arith
-
-pub bounds-sr-v : goal.bounds-sr-v
-bounds-sr-v c = let t = c.requires.fact_2 in let h = t.some in omega arith
-
 pub overflow_mul-at : goal.overflow_mul-at
 overflow_mul-at c = let t = c.requires.fact_2 in
     let a = t.apart in let z = t.ends in let m = t.room in let d = t.divisor in let o = t.before in
@@ -26,40 +20,8 @@ overflow_add-end c = let t = c.requires.fact_2 in
       row_fits c.requires.fact_1 c.args.work.now c.requires.fact_2,
     )
 
-pub offset_bounds-work-q : goal.offset_bounds-work-q
-offset_bounds-work-q c = let t = c.requires.fact_2 in
-    let a = t.apart in let z = t.ends in let m = t.room in let d = t.divisor in let o = t.before in
-    omega (
-      arith,
-      row_fits c.requires.fact_1 c.args.work.now c.requires.fact_2,
-    )
-
-pub slice_bounds-taken_row-start : goal.slice_bounds-taken_row-start
-slice_bounds-taken_row-start c =
-    let t = c.requires.fact_2 in let a = t.apart in let z = t.ends in
-    let m = t.room in let d = t.divisor in let o = t.before in
-    omega (arith, row_fits c.requires.fact_1 c.args.work.now c.requires.fact_2)
-
 pub slice_bounds-taken_row-end : goal.slice_bounds-taken_row-end
 slice_bounds-taken_row-end c =
-    let t = c.requires.fact_2 in let a = t.apart in let z = t.ends in
-    let m = t.room in let d = t.divisor in let o = t.before in
-    omega (arith, row_fits c.requires.fact_1 c.args.work.now c.requires.fact_2)
-
-pub offset_bounds-work-b : goal.offset_bounds-work-b
-offset_bounds-work-b c =
-    let t = c.requires.fact_2 in let a = t.apart in let z = t.ends in
-    let m = t.room in let d = t.divisor in let o = t.before in
-    omega (arith, row_fits c.requires.fact_1 c.args.work.now c.requires.fact_2)
-
-pub slice_bounds-taken_row-count-2 : goal.slice_bounds-taken_row-count-2
-slice_bounds-taken_row-count-2 c =
-    let t = c.requires.fact_2 in let a = t.apart in let z = t.ends in
-    let m = t.room in let d = t.divisor in let o = t.before in
-    omega (arith, row_fits c.requires.fact_1 c.args.work.now c.requires.fact_2)
-
-pub slice_bounds-taken_row-start-2 : goal.slice_bounds-taken_row-start-2
-slice_bounds-taken_row-start-2 c =
     let t = c.requires.fact_2 in let a = t.apart in let z = t.ends in
     let m = t.room in let d = t.divisor in let o = t.before in
     omega (arith, row_fits c.requires.fact_1 c.args.work.now c.requires.fact_2)
@@ -88,12 +50,6 @@ lessen-requires c =
       omega (arith, n, row_fits c.requires.fact_1 c.args.work.now c.requires.fact_2),
       omega (arith, n, row_fits c.requires.fact_1 c.args.work.now c.requires.fact_2),
     )
-
-pub shape_of-work : goal.shape_of-work
-shape_of-work c = c.lessen.ensures.len
-
-pub shape_of-row : goal.shape_of-row
-shape_of-row c = c.taken_row.auto.row
 
 pub returns : goal.returns
 returns c = record {

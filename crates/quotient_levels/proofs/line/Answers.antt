@@ -6,77 +6,25 @@ use Rattle.quotient_levels.specs.Line.{line-none, line_in_lem, line_summing, lin
 use Rattle.quotient_levels.proofs.line.Goals as goal
 
 pub loop-k-init : goal.loop-k-init
-loop-k-init c = (omega arith, line-none c.args.work.now c.requires)
-
-pub offset_bounds-r-v : goal.offset_bounds-r-v
-offset_bounds-r-v c = let h = c.requires.single.some in omega arith
-
-pub bounds-r-v : goal.bounds-r-v
-bounds-r-v c = let h = c.requires.single.some in omega arith
+loop-k-init c = line-none c.args.work.now c.requires
 
 pub overflow_add-end : goal.overflow_add-end
 overflow_add-end c =
     let lies : (c.args.f ≤ length c.loop-k.work)
     × (c.args.q + c.loop-k.k < length c.loop-k.work)
     × (c.args.p + c.loop-k.k < length c.loop-k.work) × (c.args.b < c.args.f) =
-    line_in_lem c.args.work.now c.requires c.loop-k-test.true c.loop-k.invariant.1 in
+    line_in_lem c.args.work.now c.requires c.loop-k-test.true c.loop-k.invariant in
     let i = lies in omega (arith, i.0, i.1, i.2, i.3)
-
-pub offset_bounds-ly-v : goal.offset_bounds-ly-v
-offset_bounds-ly-v c = let h = c.requires.single.some in omega arith
-
-pub bounds-ly-v : goal.bounds-ly-v
-bounds-ly-v c = let h = c.requires.single.some in omega arith
 
 pub from-lo-requires : goal.from-lo-requires
 from-lo-requires c = let g = c.requires.single in row_small g.result g.some c.loop-k-test.true
-
-pub offset_bounds-work-q : goal.offset_bounds-work-q
-offset_bounds-work-q c =
-    let lies : (c.args.f ≤ length c.loop-k.work)
-    × (c.args.q + c.loop-k.k < length c.loop-k.work)
-    × (c.args.p + c.loop-k.k < length c.loop-k.work) × (c.args.b < c.args.f) =
-    line_in_lem c.args.work.now c.requires c.loop-k-test.true c.loop-k.invariant.1 in
-    let i = lies in omega (arith, i.0, i.1, i.2, i.3)
-
-pub slice_bounds-sum_on-start : goal.slice_bounds-sum_on-start
-slice_bounds-sum_on-start c =
-    let lies : (c.args.f ≤ length c.loop-k.work)
-    × (c.args.q + c.loop-k.k < length c.loop-k.work)
-    × (c.args.p + c.loop-k.k < length c.loop-k.work) × (c.args.b < c.args.f) =
-    line_in_lem c.args.work.now c.requires c.loop-k-test.true c.loop-k.invariant.1 in
-    let i = lies in omega (arith, i.0, i.1, i.2, i.3)
 
 pub slice_bounds-sum_on-end : goal.slice_bounds-sum_on-end
 slice_bounds-sum_on-end c =
     let lies : (c.args.f ≤ length c.loop-k.work)
     × (c.args.q + c.loop-k.k < length c.loop-k.work)
     × (c.args.p + c.loop-k.k < length c.loop-k.work) × (c.args.b < c.args.f) =
-    line_in_lem c.args.work.now c.requires c.loop-k-test.true c.loop-k.invariant.1 in
-    let i = lies in omega (arith, i.0, i.1, i.2, i.3)
-
-pub offset_bounds-work-b : goal.offset_bounds-work-b
-offset_bounds-work-b c =
-    let lies : (c.args.f ≤ length c.loop-k.work)
-    × (c.args.q + c.loop-k.k < length c.loop-k.work)
-    × (c.args.p + c.loop-k.k < length c.loop-k.work) × (c.args.b < c.args.f) =
-    line_in_lem c.args.work.now c.requires c.loop-k-test.true c.loop-k.invariant.1 in
-    let i = lies in omega (arith, i.0, i.1, i.2, i.3)
-
-pub slice_bounds-sum_on-count-in-loop-k : goal.slice_bounds-sum_on-count-in-loop-k
-slice_bounds-sum_on-count-in-loop-k c =
-    let lies : (c.args.f ≤ length c.loop-k.work)
-    × (c.args.q + c.loop-k.k < length c.loop-k.work)
-    × (c.args.p + c.loop-k.k < length c.loop-k.work) × (c.args.b < c.args.f) =
-    line_in_lem c.args.work.now c.requires c.loop-k-test.true c.loop-k.invariant.1 in
-    let i = lies in omega (arith, i.0, i.1, i.2, i.3)
-
-pub slice_bounds-sum_on-start-in-loop-k : goal.slice_bounds-sum_on-start-in-loop-k
-slice_bounds-sum_on-start-in-loop-k c =
-    let lies : (c.args.f ≤ length c.loop-k.work)
-    × (c.args.q + c.loop-k.k < length c.loop-k.work)
-    × (c.args.p + c.loop-k.k < length c.loop-k.work) × (c.args.b < c.args.f) =
-    line_in_lem c.args.work.now c.requires c.loop-k-test.true c.loop-k.invariant.1 in
+    line_in_lem c.args.work.now c.requires c.loop-k-test.true c.loop-k.invariant in
     let i = lies in omega (arith, i.0, i.1, i.2, i.3)
 
 pub slice_bounds-sum_on-end-in-loop-k : goal.slice_bounds-sum_on-end-in-loop-k
@@ -84,28 +32,20 @@ slice_bounds-sum_on-end-in-loop-k c =
     let lies : (c.args.f ≤ length c.loop-k.work)
     × (c.args.q + c.loop-k.k < length c.loop-k.work)
     × (c.args.p + c.loop-k.k < length c.loop-k.work) × (c.args.b < c.args.f) =
-    line_in_lem c.args.work.now c.requires c.loop-k-test.true c.loop-k.invariant.1 in
+    line_in_lem c.args.work.now c.requires c.loop-k-test.true c.loop-k.invariant in
     let i = lies in omega (arith, i.0, i.1, i.2, i.3)
 
 pub sum_on-sum-requires : goal.sum_on-sum-requires
 sum_on-sum-requires c =
     line_summing c.args.work.now c.requires c.loop-k-test.true
-    c.loop-k.invariant.1 c.from-lo.ensures
+    c.loop-k.invariant c.from-lo.ensures
 
 pub overflow_add-p : goal.overflow_add-p
 overflow_add-p c =
     let lies : (c.args.f ≤ length c.loop-k.work)
     × (c.args.q + c.loop-k.k < length c.loop-k.work)
     × (c.args.p + c.loop-k.k < length c.loop-k.work) × (c.args.b < c.args.f) =
-    line_in_lem c.args.work.now c.requires c.loop-k-test.true c.loop-k.invariant.1 in
-    let i = lies in omega (arith, i.0, i.1, i.2, i.3)
-
-pub offset_bounds-work-p : goal.offset_bounds-work-p
-offset_bounds-work-p c =
-    let lies : (c.args.f ≤ length c.loop-k.work)
-    × (c.args.q + c.loop-k.k < length c.loop-k.work)
-    × (c.args.p + c.loop-k.k < length c.loop-k.work) × (c.args.b < c.args.f) =
-    line_in_lem c.args.work.now c.requires c.loop-k-test.true c.loop-k.invariant.1 in
+    line_in_lem c.args.work.now c.requires c.loop-k-test.true c.loop-k.invariant in
     let i = lies in omega (arith, i.0, i.1, i.2, i.3)
 
 pub bounds-work-p : goal.bounds-work-p
@@ -113,34 +53,18 @@ bounds-work-p c =
     let lies : (c.args.f ≤ length c.loop-k.work)
     × (c.args.q + c.loop-k.k < length c.loop-k.work)
     × (c.args.p + c.loop-k.k < length c.loop-k.work) × (c.args.b < c.args.f) =
-    line_in_lem c.args.work.now c.requires c.loop-k-test.true c.loop-k.invariant.1 in
+    line_in_lem c.args.work.now c.requires c.loop-k-test.true c.loop-k.invariant in
     (lies).2
 
 pub through-c-requires : goal.through-c-requires
 through-c-requires c = c.requires.single.some
-
-pub offset_bounds-work-b-in-loop-k : goal.offset_bounds-work-b-in-loop-k
-offset_bounds-work-b-in-loop-k c =
-    let lies : (c.args.f ≤ length c.loop-k.work)
-    × (c.args.q + c.loop-k.k < length c.loop-k.work)
-    × (c.args.p + c.loop-k.k < length c.loop-k.work) × (c.args.b < c.args.f) =
-    line_in_lem c.args.work.now c.requires c.loop-k-test.true c.loop-k.invariant.1 in
-    let i = lies in omega (arith, i.0, i.1, i.2, i.3)
 
 pub bounds-work-b : goal.bounds-work-b
 bounds-work-b c =
     let lies : (c.args.f ≤ length c.loop-k.work)
     × (c.args.q + c.loop-k.k < length c.loop-k.work)
     × (c.args.p + c.loop-k.k < length c.loop-k.work) × (c.args.b < c.args.f) =
-    line_in_lem c.args.work.now c.requires c.loop-k-test.true c.loop-k.invariant.1 in
-    let i = lies in omega (arith, i.0, i.1, i.2, i.3)
-
-pub offset_bounds-work-end : goal.offset_bounds-work-end
-offset_bounds-work-end c =
-    let lies : (c.args.f ≤ length c.loop-k.work)
-    × (c.args.q + c.loop-k.k < length c.loop-k.work)
-    × (c.args.p + c.loop-k.k < length c.loop-k.work) × (c.args.b < c.args.f) =
-    line_in_lem c.args.work.now c.requires c.loop-k-test.true c.loop-k.invariant.1 in
+    line_in_lem c.args.work.now c.requires c.loop-k-test.true c.loop-k.invariant in
     let i = lies in omega (arith, i.0, i.1, i.2, i.3)
 
 pub bounds-work-end : goal.bounds-work-end
@@ -148,27 +72,15 @@ bounds-work-end c =
     let lies : (c.args.f ≤ length c.loop-k.work)
     × (c.args.q + c.loop-k.k < length c.loop-k.work)
     × (c.args.p + c.loop-k.k < length c.loop-k.work) × (c.args.b < c.args.f) =
-    line_in_lem c.args.work.now c.requires c.loop-k-test.true c.loop-k.invariant.1 in
+    line_in_lem c.args.work.now c.requires c.loop-k-test.true c.loop-k.invariant in
     (lies).1
 
-pub overflow_add-k : goal.overflow_add-k
-overflow_add-k c =
-    let g = c.requires.single in omega (arith, row_small g.result g.some c.loop-k-test.true)
-
-pub loop-k-smaller : goal.loop-k-smaller
-loop-k-smaller c = omega (arith, c.loop-k-test.true)
-
 pub loop-k-preserved : goal.loop-k-preserved
-loop-k-preserved c = (
-  omega (arith, c.loop-k-test.true),
-  line-more c.args.work.now c.requires c.loop-k-test.true c.loop-k.invariant.1
-      c.from-lo.ensures
-      c.sum_on-sum.ensures c.through-c.ensures,
-)
-
-pub shape_of-work : goal.shape_of-work
-shape_of-work c = c.loop-k.invariant.1.len
+loop-k-preserved c =
+    line-more c.args.work.now c.requires c.loop-k-test.true c.loop-k.invariant
+    c.from-lo.ensures
+    c.sum_on-sum.ensures c.through-c.ensures
 
 pub returns : goal.returns
 returns c =
-    line-all c.args.work.now c.requires (omega (arith, c.loop-k.invariant.0, c.loop-k-test.false)) c.loop-k.invariant.1
+    line-all c.args.work.now c.requires (omega arith) c.loop-k.invariant

@@ -13,27 +13,6 @@ use Rattle.shape_words.specs.Lengths.{row_small}
 use Rattle.quotient_levels.specs.Taken.{done_in, divisor_in, taking-rows, taken_end}
 use Rattle.quotient_levels.proofs.taken_by_rows.Goals as goal
 
-pub overflow_add-w : goal.overflow_add-w
-overflow_add-w c = let h = c.requires.fact_2.some in omega arith
-
-pub offset_bounds-sr-v : goal.offset_bounds-sr-v
-offset_bounds-sr-v c = let h = c.requires.fact_2.some in omega arith
-
-pub bounds-sr-v : goal.bounds-sr-v
-bounds-sr-v c = let h = c.requires.fact_2.some in omega arith
-
-pub offset_bounds-sy-v : goal.offset_bounds-sy-v
-offset_bounds-sy-v c = let h = c.requires.fact_2.some in omega arith
-
-pub bounds-sy-v : goal.bounds-sy-v
-bounds-sy-v c = let h = c.requires.fact_2.some in omega arith
-
-pub offset_bounds-ly-v : goal.offset_bounds-ly-v
-offset_bounds-ly-v c = let h = c.requires.fact_2.some in omega arith
-
-pub bounds-ly-v : goal.bounds-ly-v
-bounds-ly-v c = let h = c.requires.fact_2.some in omega arith
-
 pub from-lo-requires : goal.from-lo-requires
 from-lo-requires c =
     let t = c.requires.fact_2 in row_small c.requires.fact_1.result t.some t.row
@@ -118,18 +97,6 @@ rows-requires c =
           c.loop-j-test.true c.loop-j.invariant.1.len,
     )
 
-pub overflow_add-j : goal.overflow_add-j
-overflow_add-j c =
-    let t = c.requires.fact_2 in
-    omega (
-      arith,
-      c.loop-j-test.true,
-      row_small c.requires.fact_1.result t.some t.row,
-    )
-
-pub loop-j-smaller : goal.loop-j-smaller
-loop-j-smaller c = omega (arith, c.loop-j-test.true)
-
 pub loop-j-preserved : goal.loop-j-preserved
 loop-j-preserved c =
     let l = c.loop-j in
@@ -141,10 +108,6 @@ loop-j-preserved c =
           (rows_step c.args.r c.args.ly c.args.r c.args.v c.args.k (at c.args.sr c.args.v) (at c.args.sy c.args.v) l.j c.args.done.now
           c.args.ys.now l.row c.rows.ensures),
     )
-
-pub shape_of-row : goal.shape_of-row
-shape_of-row c =
-    c.loop-j.invariant.1.len ∙ sym c.requires.fact_2.full
 
 pub returns : goal.returns
 returns c =

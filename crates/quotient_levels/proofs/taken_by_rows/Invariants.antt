@@ -10,6 +10,3 @@ abbrev pub invariant-loop-j : goal.invariant-loop-j
 invariant-loop-j l = (l.j - l.lo ≤ l.k - l.lo) × Paired (in_row l.r l.v) (λ q. step_at l.r l.ly l.r (index l.r q) l.v l.k (at l.sr l.v)
     (at l.sy l.v) l.done l.ys) l.lo l.j l.initial.row
     l.row
-
-abbrev pub decreases-loop-j : goal.decreases-loop-j
-decreases-loop-j l = l.k - l.j

@@ -7,18 +7,6 @@ use Rattle.shape_words.specs.Strides.{span_pos}
 use Rattle.quotient_levels.specs.Taken.{one_summing, one-taken}
 use Rattle.quotient_levels.proofs.taken_row.Goals as goal
 
-pub offset_bounds-sr-v : goal.offset_bounds-sr-v
-offset_bounds-sr-v c = let h = c.requires.fact_2.some in omega arith
-
-pub bounds-sr-v : goal.bounds-sr-v
-bounds-sr-v c = let h = c.requires.fact_2.some in omega arith
-
-pub offset_bounds-ly-v : goal.offset_bounds-ly-v
-offset_bounds-ly-v c = let h = c.requires.fact_2.some in omega arith
-
-pub bounds-ly-v : goal.bounds-ly-v
-bounds-ly-v c = let h = c.requires.fact_2.some in omega arith
-
 pub from-lo-requires : goal.from-lo-requires
 from-lo-requires c =
     let t = c.requires.fact_2 in row_small c.requires.fact_1.strided.result t.some t.row
@@ -33,9 +21,6 @@ bounds-row-0 c =
     let h = t.some in
     omega (arith, t.full, span_pos {v = c.args.v + 1} c.requires.fact_1.strided.result (omega arith))
 
-pub shape_of-row-then-sr-v-eq1 : goal.shape_of-row-then-sr-v-eq1
-shape_of-row-then-sr-v-eq1 c = simp length-set
-
 pub returns-then-sr-v-eq1 : goal.returns-then-sr-v-eq1
 returns-then-sr-v-eq1 c =
     one-taken c.requires.fact_1 c.args.done.now c.args.ys.now c.requires.fact_2
@@ -44,9 +29,6 @@ returns-then-sr-v-eq1 c =
 pub taken_by_rows-requires : goal.taken_by_rows-requires
 taken_by_rows-requires c =
     record { fact_1 = c.requires.fact_1.strided; fact_2 = c.requires.fact_2 }
-
-pub shape_of-row : goal.shape_of-row
-shape_of-row c = c.taken_by_rows.auto.row
 
 pub returns : goal.returns
 returns c = c.taken_by_rows.ensures

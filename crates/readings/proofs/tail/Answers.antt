@@ -1,3 +1,5 @@
+use Rattle.std.proofs.lemmas.Result.{err_from_is_err_and}
+use mathlib.Core.Path.{refl}
 use mathlib.Core.Path.{sym, ap, ◌∙◌}
 use native.Mathlib.Omega.{arith}
 use lib.ListN.{length}
@@ -7,18 +9,20 @@ use Rattle.gates.specs.Sole.{TailReady, tail-ready}
 use Rattle.readings.specs.Read.{tail-room}
 use Rattle.readings.proofs.tail.Goals as goal
 
-pub returns-then-refusal-ne0 : goal.returns-then-refusal-ne0
+pub returns-in_err-h : goal.returns-in_err-h
 unfolding tail_answer
-returns-then-refusal-ne0 c = read-refused c.tail_gate-refusal.ensures c.if-refusal-ne0.true _
+returns-in_err-h c =
+    let p = err_from_is_err_and c.from_residual.result c.from_residual.ensures.1 in rw (p.1, p.2)
+    (read-refused c.in_err-h.ensures.is c.in_err-h.ensures.some _)
 
 pub tail_at-requires : goal.tail_at-requires
 tail_at-requires c =
     let ready : TailReady c.args.head (length c.args.a.now) c.args.k c.args.total =
-    tail-ready _ _ _ _ (ap (λ r. r.number) (sym c.tail_gate-refusal.ensures) ∙ c.if-refusal-ne0.false) in
-    rw c.header_of-h.ensures (let t = tail-room (ready).sole.read in omega arith)
+    tail-ready _ _ _ _ c.in_ok-h.ensures.none in
+    rw c.in_ok-h.ensures.holds (let t = tail-room (ready).sole.read in omega arith)
 
 pub returns : goal.returns
 unfolding tail_answer
 returns c =
-    read_done c.tail_gate-refusal.ensures c.if-refusal-ne0.false
-    (rw c.header_of-h.ensures at c.tail_at.ensures)
+    read_done refl c.in_ok-h.ensures.none
+    (rw c.in_ok-h.ensures.holds at c.tail_at.ensures)

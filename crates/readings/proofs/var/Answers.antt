@@ -1,3 +1,5 @@
+use Rattle.std.proofs.lemmas.Result.{err_from_is_err_and}
+use mathlib.Core.Path.{refl}
 use mathlib.Core.Path.{◌≡◌, sym, ap, ◌∙◌}
 use native.Mathlib.Omega.{arith}
 use lib.ListN.{length}
@@ -9,32 +11,26 @@ use Rattle.model.specs.Constructed.{variable}
 use Rattle.readings_short.specs.Short.{var-count}
 use Rattle.readings.proofs.var.Goals as goal
 
-pub returns-then-refusal-ne0 : goal.returns-then-refusal-ne0
-returns-then-refusal-ne0 c =
-    entry-refused c.var_gate-refusal.ensures c.if-refusal-ne0.true
+pub returns-in_err-h : goal.returns-in_err-h
+returns-in_err-h c =
+    let p = err_from_is_err_and c.from_residual.result c.from_residual.ensures.1 in rw (p.1, p.2)
+    (entry-refused c.in_err-h.ensures.is c.in_err-h.ensures.some
     (var_header c.args.v c.args.limit)
-    (variable (var_header c.args.v c.args.limit) c.args.x) c.args.out.now
-
-pub overflow_add-v : goal.overflow_add-v
-overflow_add-v c =
-    let ready : VarReady c.args.v c.args.limit (length c.args.out.now) =
-    var-ready _ _ _ (ap (λ r. r.number) (sym c.var_gate-refusal.ensures) ∙ c.if-refusal-ne0.false) in
-    omega (arith, (ready).known)
+    (variable (var_header c.args.v c.args.limit) c.args.x) c.args.out.now)
 
 pub write_short-requires : goal.write_short-requires
 write_short-requires c =
-    let header : c.var_with_degrees_p1.result ≡ (var_header c.args.v c.args.limit) =
-    rw (add-one c.args.v) at c.var_with_degrees_p1.ensures in
     let ready : VarReady c.args.v c.args.limit (length c.args.out.now) =
-    var-ready _ _ _ (ap (λ r. r.number) (sym c.var_gate-refusal.ensures) ∙ c.if-refusal-ne0.false) in
-    record { fact_1 = rw (header) ((ready).header); fact_2 = rw (header) (var-count _ (four (λ k. c.args.limit)) c.args.v (omega (arith, (ready).known))) }
+    var-ready _ _ _ c.in_ok-h.ensures.none in
+    record {
+      fact_1 = rw (c.in_ok-h.ensures.holds) ((ready).header);
+      fact_2 = rw (c.in_ok-h.ensures.holds)
+          (var-count _ (four (λ k. c.args.limit)) c.args.v (omega (arith, (ready).known)));
+    }
 
 pub returns : goal.returns
 returns c =
-    let header : c.var_with_degrees_p1.result ≡ (var_header c.args.v c.args.limit) =
-    rw (add-one c.args.v) at c.var_with_degrees_p1.ensures in
-    entry_done c.var_gate-refusal.ensures
-    c.if-refusal-ne0.false (var_header c.args.v c.args.limit)
+    entry_done refl c.in_ok-h.ensures.none (var_header c.args.v c.args.limit)
     (variable (var_header c.args.v c.args.limit) c.args.x) c.args.out.now
-    (rw (header) at c.write_short.ensures.answer)
-    (rw (header) at c.write_short.ensures.written)
+    (rw (c.in_ok-h.ensures.holds) at c.write_short.ensures.answer)
+    (rw (c.in_ok-h.ensures.holds) at c.write_short.ensures.written)

@@ -1,3 +1,5 @@
+use Rattle.std.proofs.lemmas.Result.{err_from_is_err_and}
+use mathlib.Core.Path.{refl}
 use mathlib.Core.Path.{sym, ap, ◌∙◌}
 use native.Mathlib.Omega.{arith}
 use lib.ListN.{length}
@@ -7,21 +9,22 @@ use Rattle.model.specs.Constructed.{variable}
 use Rattle.readings_short.specs.Short.{var-count}
 use Rattle.readings.proofs.var_with_degrees_p1.Goals as goal
 
-pub returns-then-refusal-ne0 : goal.returns-then-refusal-ne0
-returns-then-refusal-ne0 c =
-    entry-refused c.var_with_gate-refusal.ensures c.if-refusal-ne0.true
+pub returns-in_err-h : goal.returns-in_err-h
+returns-in_err-h c =
+    let p = err_from_is_err_and c.from_residual.result c.from_residual.ensures.1 in rw (p.1, p.2)
+    (entry-refused c.in_err-h.ensures.is c.in_err-h.ensures.some
     (var_with c.args.v c.args.vars c.args.limits)
     (variable (var_with c.args.v c.args.vars c.args.limits) c.args.x)
-    c.args.out.now
+    c.args.out.now)
 
 pub write_short-requires : goal.write_short-requires
 unfolding var_with zero_with
 write_short-requires c =
     let ready : VarWithReady c.args.v c.args.vars c.args.limits (length c.args.out.now) =
-    var_with-ready _ _ _ _ (ap (λ r. r.number) (sym c.var_with_gate-refusal.ensures) ∙ c.if-refusal-ne0.false) in
+    var_with-ready _ _ _ _ c.in_ok-h.ensures.none in
     record {
-      fact_1 = rw c.var_with_degrees_p1.ensures ((ready).header);
-      fact_2 = rw c.var_with_degrees_p1.ensures (var-count c.args.vars c.args.limits c.args.v
+      fact_1 = rw c.in_ok-h.ensures.holds ((ready).header);
+      fact_2 = rw c.in_ok-h.ensures.holds (var-count c.args.vars c.args.limits c.args.v
           (omega (
             arith,
             (ready).known,
@@ -31,9 +34,8 @@ write_short-requires c =
 
 pub returns : goal.returns
 returns c =
-    entry_done c.var_with_gate-refusal.ensures
-    c.if-refusal-ne0.false
+    entry_done refl c.in_ok-h.ensures.none
     (var_with c.args.v c.args.vars c.args.limits)
     (variable (var_with c.args.v c.args.vars c.args.limits) c.args.x)
-    c.args.out.now (rw c.var_with_degrees_p1.ensures at c.write_short.ensures.answer)
-    (rw c.var_with_degrees_p1.ensures at c.write_short.ensures.written)
+    c.args.out.now (rw c.in_ok-h.ensures.holds at c.write_short.ensures.answer)
+    (rw c.in_ok-h.ensures.holds at c.write_short.ensures.written)

@@ -1,10 +1,5 @@
-use Prim.Native.Nat.{◌-◌}
-use lib.ListN.{length}
 use Rattle.readings_row.specs.Stretches.{Going}
 use Rattle.readings_row.proofs.pick_every.Given as goal
 
-abbrev pub invariant-loop-k : goal.invariant-loop-k
-invariant-loop-k l = Going l.a l.from 1 l.step l.initial.to l.to l.k l.at
-
-abbrev pub decreases-loop-k : goal.decreases-loop-k
-decreases-loop-k l = length l.initial.to - l.k
+abbrev pub invariant-loop-x : goal.invariant-loop-x
+invariant-loop-x l = Going l.a l.from 1 l.step l.initial.to l.to l.x-index l.at

@@ -1,5 +1,5 @@
 use native.Mathlib.Omega.{arith}
-use mathlib.Core.Path.{◌≡◌, refl, sym, ◌∙◌}
+use mathlib.Core.Path.{◌≡◌, refl, ◌∙◌}
 use Prim.Native.Nat.{ℕ, ◌+◌, ◌-◌, ◌≤◌, ◌<◌}
 use lib.ListN.{length, set, take, drop, length-take, length-drop}
 use lib.Seq.{take-take}
@@ -7,18 +7,12 @@ use Rattle.lists.specs.Four.{at}
 use Rattle.model.specs.Header.{count}
 use Rattle.model.specs.Places.{place}
 use Rattle.shape_words.specs.Lengths.{sizes-of}
-use Rattle.blocks.specs.ByRow.{by-none, by-put, by_end, by_fits, by-len}
+use Rattle.blocks.specs.ByRow.{by-none, by-put, by_fits, by-len}
 use Rattle.readings_row.specs.Rows.{pick-begins, pick_in, pick-from, pick-row}
 use Rattle.readings_row.proofs.pick_rows.Goals as goal
 
 pub loop-at-init : goal.loop-at-init
 loop-at-init c = (refl, by-none (sizes-of c.requires.to) c.requires.full)
-
-pub offset_bounds-j-v : goal.offset_bounds-j-v
-offset_bounds-j-v c = omega (arith, c.requires.var)
-
-pub bounds-j-v : goal.bounds-j-v
-bounds-j-v c = c.requires.var
 
 pub place_of-from-requires : goal.place_of-from-requires
 place_of-from-requires c =
@@ -69,47 +63,8 @@ slice_bounds-copy-end c =
     ) in
     omega (arith, from-fits)
 
-pub overflow_add-at : goal.overflow_add-at
-overflow_add-at c =
-    let more : c.loop-at.at < count c.args.c =
-    let n = by-len (sizes-of c.requires.to) c.requires.full c.loop-at.invariant.1 in omega arith in
-    let to-fits : c.loop-at.at + at c.args.c 3 ≤ length c.loop-at.to =
-    by_fits (sizes-of c.requires.to) c.requires.full c.loop-at.invariant.1 (more) in
-    omega (arith, to-fits)
-
-pub offset_bounds-to-at : goal.offset_bounds-to-at
-offset_bounds-to-at c =
-    let more : c.loop-at.at < count c.args.c =
-    let n = by-len (sizes-of c.requires.to) c.requires.full c.loop-at.invariant.1 in omega arith in
-    let to-fits : c.loop-at.at + at c.args.c 3 ≤ length c.loop-at.to =
-    by_fits (sizes-of c.requires.to) c.requires.full c.loop-at.invariant.1 (more) in
-    omega (arith, to-fits)
-
 pub slice_bounds-copy-end-in-loop-at : goal.slice_bounds-copy-end-in-loop-at
 slice_bounds-copy-end-in-loop-at c =
-    let more : c.loop-at.at < count c.args.c =
-    let n = by-len (sizes-of c.requires.to) c.requires.full c.loop-at.invariant.1 in omega arith in
-    let to-fits : c.loop-at.at + at c.args.c 3 ≤ length c.loop-at.to =
-    by_fits (sizes-of c.requires.to) c.requires.full c.loop-at.invariant.1 (more) in
-    omega (arith, to-fits)
-
-pub copy-requires : goal.copy-requires
-copy-requires c =
-    let more : c.loop-at.at < count c.args.c =
-    let n = by-len (sizes-of c.requires.to) c.requires.full c.loop-at.invariant.1 in omega arith in
-    let from-fits : c.place_of-from.result + at c.args.c 3 ≤ length c.args.a.now =
-    omega (
-      arith,
-      c.place_of-from.ensures,
-      pick-from c.args.n c.args.c c.args.v c.args.order c.args.a.now c.args.to.now
-          c.requires c.loop-at.invariant.1 (more),
-    ) in
-    let to-fits : c.loop-at.at + at c.args.c 3 ≤ length c.loop-at.to =
-    by_fits (sizes-of c.requires.to) c.requires.full c.loop-at.invariant.1 (more) in
-    let p = from-fits in let q = to-fits in simp (length-take, length-drop) (omega arith)
-
-pub overflow_add-at-in-loop-at : goal.overflow_add-at-in-loop-at
-overflow_add-at-in-loop-at c =
     let more : c.loop-at.at < count c.args.c =
     let n = by-len (sizes-of c.requires.to) c.requires.full c.loop-at.invariant.1 in omega arith in
     let to-fits : c.loop-at.at + at c.args.c 3 ≤ length c.loop-at.to =
@@ -126,16 +81,6 @@ next_row-next-requires c =
           c.loop-at.invariant.1
           (more);
     }
-
-pub loop-at-smaller : goal.loop-at-smaller
-loop-at-smaller c =
-    let more : c.loop-at.at < count c.args.c =
-    let n = by-len (sizes-of c.requires.to) c.requires.full c.loop-at.invariant.1 in omega arith in
-    let to-fits : c.loop-at.at + at c.args.c 3 ≤ length c.loop-at.to =
-    by_fits (sizes-of c.requires.to) c.requires.full c.loop-at.invariant.1 (more) in
-    let to_len : length c.loop-at.to ≡ length c.args.to.now =
-    by-len (sizes-of c.requires.to) c.requires.full c.loop-at.invariant.1 ∙ sym c.requires.full in
-    let q = c.requires.to.p3 in omega (arith, to-fits, to_len)
 
 pub loop-at-preserved : goal.loop-at-preserved
 loop-at-preserved c =
@@ -157,12 +102,3 @@ loop-at-preserved c =
           (pick-row c.args.n c.args.c c.args.v c.args.order c.args.a.now c.args.to.now (c.requires) c.loop-at.invariant.1 (more)
           (copied)) c.next_row-next.ensures,
     )
-
-pub shape_of-to : goal.shape_of-to
-shape_of-to c =
-    by-len (sizes-of c.requires.to) c.requires.full c.loop-at.invariant.1 ∙ sym c.requires.full
-
-pub returns : goal.returns
-returns c =
-    by_end (sizes-of c.requires.to) c.requires.full c.loop-at.invariant.1 (let n = by-len (sizes-of c.requires.to) c.requires.full
-    c.loop-at.invariant.1 in omega arith)

@@ -5,91 +5,11 @@ use Prim.Native.Nat.{ℕ, ◌+◌, ◌-◌, ◌≤◌, ◌<◌}
 use lib.ListN.{length, take, drop, length-take, length-drop}
 use lib.Seq.{take-take, drop-drop}
 use lib.Ieee.{Float}
-use Rattle.readings_row.specs.Stretches.{going-none, going-fits, going_in, going_more, going_end}
+use Rattle.readings_row.specs.Stretches.{going-none, going-fits, going_in, going_more}
 use Rattle.readings_row.proofs.pick_stretches.Goals as goal
 
 pub loop-k-init : goal.loop-k-init
 loop-k-init c = going-none
-
-pub overflow_add-at : goal.overflow_add-at
-overflow_add-at c =
-    let more : c.loop-k.k < length c.args.to.now =
-    omega (arith, c.loop-k.invariant.done.len) in
-    let low : c.loop-k.at + c.args.width ≤ length c.args.a.now =
-    going_in c.requires c.loop-k.invariant (more) in
-    omega (arith, low)
-
-pub offset_bounds-a-at : goal.offset_bounds-a-at
-offset_bounds-a-at c =
-    let more : c.loop-k.k < length c.args.to.now =
-    omega (arith, c.loop-k.invariant.done.len) in
-    let low : c.loop-k.at + c.args.width ≤ length c.args.a.now =
-    going_in c.requires c.loop-k.invariant (more) in
-    omega (arith, low)
-
-pub slice_bounds-copy-end : goal.slice_bounds-copy-end
-slice_bounds-copy-end c =
-    let more : c.loop-k.k < length c.args.to.now =
-    omega (arith, c.loop-k.invariant.done.len) in
-    let low : c.loop-k.at + c.args.width ≤ length c.args.a.now =
-    going_in c.requires c.loop-k.invariant (more) in
-    omega (arith, low)
-
-pub overflow_add-k : goal.overflow_add-k
-overflow_add-k c =
-    let more : c.loop-k.k < length c.args.to.now =
-    omega (arith, c.loop-k.invariant.done.len) in
-    let fits : c.loop-k.k + c.args.width ≤ length c.loop-k.to =
-    omega (arith, going-fits c.requires c.loop-k.invariant (more), c.loop-k.invariant.done.len) in
-    omega (arith, fits)
-
-pub offset_bounds-to-k : goal.offset_bounds-to-k
-offset_bounds-to-k c =
-    let more : c.loop-k.k < length c.args.to.now =
-    omega (arith, c.loop-k.invariant.done.len) in
-    let fits : c.loop-k.k + c.args.width ≤ length c.loop-k.to =
-    omega (arith, going-fits c.requires c.loop-k.invariant (more), c.loop-k.invariant.done.len) in
-    omega (arith, fits)
-
-pub slice_bounds-copy-end-in-loop-k : goal.slice_bounds-copy-end-in-loop-k
-slice_bounds-copy-end-in-loop-k c =
-    let more : c.loop-k.k < length c.args.to.now =
-    omega (arith, c.loop-k.invariant.done.len) in
-    let fits : c.loop-k.k + c.args.width ≤ length c.loop-k.to =
-    omega (arith, going-fits c.requires c.loop-k.invariant (more), c.loop-k.invariant.done.len) in
-    omega (arith, fits)
-
-pub copy-requires : goal.copy-requires
-copy-requires c =
-    let more : c.loop-k.k < length c.args.to.now =
-    omega (arith, c.loop-k.invariant.done.len) in
-    let low : c.loop-k.at + c.args.width ≤ length c.args.a.now =
-    going_in c.requires c.loop-k.invariant (more) in
-    let fits : c.loop-k.k + c.args.width ≤ length c.loop-k.to =
-    omega (arith, going-fits c.requires c.loop-k.invariant (more), c.loop-k.invariant.done.len) in
-    let p = low in let q = fits in simp (length-take, length-drop) (omega arith)
-
-pub overflow_add-k-in-loop-k : goal.overflow_add-k-in-loop-k
-overflow_add-k-in-loop-k c =
-    let more : c.loop-k.k < length c.args.to.now =
-    omega (arith, c.loop-k.invariant.done.len) in
-    let fits : c.loop-k.k + c.args.width ≤ length c.loop-k.to =
-    omega (arith, going-fits c.requires c.loop-k.invariant (more), c.loop-k.invariant.done.len) in
-    omega (arith, fits)
-
-pub overflow_add-at-in-loop-k : goal.overflow_add-at-in-loop-k
-overflow_add-at-in-loop-k c =
-    let more : c.loop-k.k < length c.args.to.now =
-    omega (arith, c.loop-k.invariant.done.len) in
-    let low : c.loop-k.at + c.args.width ≤ length c.args.a.now =
-    going_in c.requires c.loop-k.invariant (more) in
-    omega (arith, low, c.requires.near)
-
-pub loop-k-smaller : goal.loop-k-smaller
-loop-k-smaller c =
-    let more : c.loop-k.k < length c.args.to.now =
-    omega (arith, c.loop-k.invariant.done.len) in
-    omega (arith, more, c.requires.some)
 
 pub loop-k-preserved : goal.loop-k-preserved
 loop-k-preserved c =
@@ -116,9 +36,3 @@ loop-k-preserved c =
     let q : take k out ++ (row ++ drop (k + w - k) (drop k out)) ≡ take k out ++ (row ++ drop (k + w) out) =
     rw e (ap (λ (l : List Float). take k out ++ (row ++ l)) (drop-drop w k out)) in
     rw q (going_more c.requires c.loop-k.invariant (more) (copied))
-
-pub shape_of-to : goal.shape_of-to
-shape_of-to c = c.loop-k.invariant.done.len
-
-pub returns : goal.returns
-returns c = going_end c.loop-k.invariant (omega (arith, c.loop-k.invariant.done.len))

@@ -1,8 +1,8 @@
+use Rattle.std.specs.Prelude.{Ok}
 use mathlib.Core.Path.{ap, ◌∙◌}
 use native.Mathlib.Omega.{arith}
 use Prim.Native.Nat.{◌<◌}
 use lib.ListN.{length, length-set}
-use Rattle.model.specs.declared.Answer.TheVariants.{Done}
 use Rattle.model.specs.Header.{stored}
 use Rattle.shape_words.specs.Lengths.{count-pos, lengths_of_lem}
 use Rattle.readings_short.specs.Short.{short-one, short-two}
@@ -30,7 +30,7 @@ returns c =
     let some : 0 < stored c.args.h =
     count-pos (lengths_of_lem c.requires.fact_1.good.regular.rules) in
     record {
-      answer = ap Done c.pack.ensures;
+      answer = ap Ok c.pack.ensures;
       written = elim c.if-stored_of-ge2.branch [
         | then-stored_of-ge2 w ↦ w.out-is ∙ short-two c.args.h c.args.x c.args.out.now
             (omega (arith, c.stored_of.ensures, w.if-stored_of-ge2.true, c.requires.fact_1.room))

@@ -3,8 +3,8 @@ use mathlib.Core.Path.{ap, ◌∙◌}
 use Prim.Native.Nat.{◌+◌, ◌-◌, ◌*◌, ◌≤◌}
 use lib.ListN.{length-take, length-drop}
 use Rattle.model.specs.Header.{count}
-use Rattle.recipes_pairs.specs.Pair.{pair-two, sum_combining, sum-stands, quotient_recurs, quotient-stands}
-use Rattle.recipes_pairs.specs.Pair.{product-some, zero-stands, product-room, product-stands}
+use Rattle.recipes_pairs.specs.Pair.{pair-two, sum_combining, sum-stands, quotient_recurs}
+use Rattle.recipes_pairs.specs.Pair.{quotient-stands, product-some, zero-stands, product-room, product-stands}
 use borrow.Author.Rules.{rules}
 use Rattle.recipes_pairs.proofs.pair_front.Goals as goal
 

@@ -1,11 +1,7 @@
 use mathlib.Core.Path.{sym, ◌∙◌}
-use Prim.Native.Nat.{◌-◌}
-use Rattle.recipes_placing.specs.Reading.{looking-none, looking-found, looking_on, looking_end}
+use Rattle.recipes_placing.specs.Reading.{looking-found, looking_on, looking_end}
 use Rattle.recipes_placing.proofs.last_reader.Goals as goal
 use Rattle.recipes_placing.proofs.last_reader.Goals.{then-is_read, else-is_read}
-
-pub loop-i-init : goal.loop-i-init
-loop-i-init c = looking-none _ c.requires
 
 pub loop-i-preserved : goal.loop-i-preserved
 loop-i-preserved c =

@@ -1,14 +1,10 @@
-use Prim.Native.Nat.{◌-◌, ◌+◌}
+use Prim.Native.Nat.{◌+◌, ◌≤◌}
 use native.Mathlib.Omega.{arith}
-use Prim.Native.Nat.{◌-◌, ◌+◌, ◌≤◌}
 use lib.ListN.{get_or}
 use Rattle.model_placing.specs.Placing.{highest}
 use Rattle.recipes_placing.specs.Placed.{highest-above}
-use Rattle.recipes_placing.specs.Climb.{climb-none, climb-free, climb-before, climb-after, climb-over, climb_end}
+use Rattle.recipes_placing.specs.Climb.{climb-free, climb-before, climb-after, climb-over, climb_end}
 use Rattle.recipes_placing.proofs.lowest.Goals as goal
-
-pub loop-j-init : goal.loop-j-init
-loop-j-init c = climb-none _ _ _ _
 
 pub overflow_add-end : goal.overflow_add-end
 overflow_add-end c =
@@ -24,9 +20,6 @@ loop-j-preserved-then-last-offsets c = climb-free c.loop-j.invariant c.loop-j-te
 pub loop-j-preserved-then-end-at : goal.loop-j-preserved-then-end-at
 loop-j-preserved-then-end-at c =
     climb-before c.loop-j.invariant c.loop-j-test.true c.if-end-at.true
-
-pub overflow_add-at : goal.overflow_add-at
-overflow_add-at c = omega (arith, c.loop-j.invariant.most, c.requires.fact_2)
 
 pub loop-j-preserved-then-at-count : goal.loop-j-preserved-then-at-count
 loop-j-preserved-then-at-count c =

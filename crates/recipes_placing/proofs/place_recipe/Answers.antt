@@ -4,11 +4,6 @@ use lib.ListN.{length}
 use Rattle.recipes_placing.specs.Counted.{counts-front, length-counts, counts-fit, by-counts}
 use Rattle.recipes_placing.proofs.place_recipe.Goals as goal
 
-pub slice_bounds-place_steps-end : goal.slice_bounds-place_steps-end
-slice_bounds-place_steps-end c =
-    let e = counts-front c.args.words.now _ c.note_counts.ensures in let l = ap length e ∙ length-counts
-    c.args.words.now in sym l
-
 pub place_steps-requires : goal.place_steps-requires
 place_steps-requires c =
     let e = counts-front c.args.words.now _ c.note_counts.ensures in let l = ap length e ∙ length-counts

@@ -2,7 +2,6 @@ use mathlib.Core.Path.{sym, ◌∙◌}
 use Rattle.replay_shapes.specs.Told.{header_or_none}
 use Rattle.shape_words.specs.Words.{good_word_lem}
 use Rattle.shape_words.specs.Rules.{none-regular}
-use borrow.Author.Rules.{rules}
 use Rattle.replay_shapes.proofs.header_or_none.Goals as goal
 
 pub returns-then-is_good : goal.returns-then-is_good

@@ -1,5 +1,4 @@
 use Rattle.shape.specs.Announced.{announced-regular}
-use borrow.Author.Rules.{rules}
 use Rattle.replay_shapes.proofs.told.Goals as goal
 
 pub returns : goal.returns

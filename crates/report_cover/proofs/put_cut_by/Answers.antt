@@ -3,9 +3,6 @@ use Rattle.lists.specs.Bytes.{bytes}
 use Rattle.model_forecast.specs.Covered.{cut_by_text}
 use Rattle.report_cover.proofs.put_cut_by.Goals as goal
 
-pub decider-by-requires : goal.decider-by-requires
-decider-by-requires c = c.first_passing-v.ensures.small
-
 pub returns : goal.returns
 unfolding cut_by_text bytes
 returns c =

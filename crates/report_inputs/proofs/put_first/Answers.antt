@@ -1,10 +1,6 @@
 use borrow.Author.Tests.{lt-ltb, le-ltb}
-use native.Mathlib.Omega.{arith}
 use Rattle.model_figures.specs.Inputs.{first_text}
 use Rattle.report_inputs.proofs.put_first.Goals as goal
-
-pub put_cell-requires : goal.put_cell-requires
-put_cell-requires c = (omega arith, omega arith)
 
 pub returns-then-k-m : goal.returns-then-k-m
 unfolding first_text

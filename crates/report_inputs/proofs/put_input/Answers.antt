@@ -1,13 +1,7 @@
 use Rattle.report_inputs.specs.Held.{front-known, front-few, front-full, ruled, rest-length, input-is}
 use native.Mathlib.Omega.{arith}
-use mathlib.Core.Path.{sym}
-use lib.Seq.{length-take-le}
 use Rattle.report_figures.specs.Fill.{puts-is}
-use Rattle.report_inputs.specs.Held.{front-known, front-few, ruled, rest-length, input-is}
 use Rattle.report_inputs.proofs.put_input.Goals as goal
-
-pub slice_bounds-total_of-end : goal.slice_bounds-total_of-end
-slice_bounds-total_of-end c = sym (length-take-le _ _ (omega arith))
 
 pub total_of-from-requires : goal.total_of-from-requires
 total_of-from-requires c =

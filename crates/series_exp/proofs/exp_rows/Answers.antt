@@ -16,30 +16,6 @@ use Rattle.series_exp.specs.Stacked.{stacked-one, row_more, stacked-all, rows_en
 use Rattle.series_exp.specs.Stacked.{operand-fits, some-width, few-rows, weigh-kept, first_under, width_in}
 use Rattle.series_exp.proofs.exp_rows.Goals as goal
 
-pub offset_bounds-sx-v : goal.offset_bounds-sx-v
-offset_bounds-sx-v c = omega (arith, c.requires.fact_3)
-
-pub bounds-sx-v : goal.bounds-sx-v
-bounds-sx-v c = omega (arith, c.requires.fact_3)
-
-pub offset_bounds-sr-v : goal.offset_bounds-sr-v
-offset_bounds-sr-v c = omega (arith, c.requires.fact_3)
-
-pub bounds-sr-v : goal.bounds-sr-v
-bounds-sr-v c = omega (arith, c.requires.fact_3)
-
-pub offset_bounds-r-v : goal.offset_bounds-r-v
-offset_bounds-r-v c = omega (arith, c.requires.fact_3)
-
-pub bounds-r-v : goal.bounds-r-v
-bounds-r-v c = omega (arith, c.requires.fact_3)
-
-pub offset_bounds-lx-v : goal.offset_bounds-lx-v
-offset_bounds-lx-v c = omega (arith, c.requires.fact_3)
-
-pub bounds-lx-v : goal.bounds-lx-v
-bounds-lx-v c = omega (arith, c.requires.fact_3)
-
 pub overflow_mul-e : goal.overflow_mul-e
 overflow_mul-e c =
     omega (arith, operand-fits c.requires.fact_1 c.requires.fact_2 c.requires.fact_3)
@@ -104,16 +80,16 @@ loop-k-init c =
     omega arith in
     weigh-kept c.requires.fact_1 c.requires.fact_2 c.requires.fact_3 c.args.work.now
     c.args.xs.now refl c.weigh.ensures (lent) d in
-    let h = lengths-pos c.requires.fact_1.strided.result c.args.v c.requires.fact_3 in (omega arith, (stacked-one (kept), refl))
+    let h = lengths-pos c.requires.fact_1.strided.result c.args.v c.requires.fact_3 in (stacked-one (kept), refl)
 
 pub slice_bounds-exp_row-end : goal.slice_bounds-exp_row-end
 slice_bounds-exp_row-end c =
-    omega (arith, width_in c.requires.fact_1 c.requires.fact_2 c.requires.fact_3, c.loop-k.invariant.1.1)
+    omega (arith, width_in c.requires.fact_1 c.requires.fact_2 c.requires.fact_3, c.loop-k.invariant.1)
 
 pub slice_bounds-exp_row-end-in-loop-k : goal.slice_bounds-exp_row-end-in-loop-k
 slice_bounds-exp_row-end-in-loop-k c =
     sym (length-take-le (at c.args.sr c.args.v) c.loop-k.row
-    (omega (arith, width_in c.requires.fact_1 c.requires.fact_2 c.requires.fact_3, c.loop-k.invariant.1.1)))
+    (omega (arith, width_in c.requires.fact_1 c.requires.fact_2 c.requires.fact_3, c.loop-k.invariant.1)))
 
 pub exp_row-requires : goal.exp_row-requires
 exp_row-requires c =
@@ -141,17 +117,10 @@ exp_row-requires c =
     (length c.loop-k.work) (length (take (at c.args.sr c.args.v) c.loop-k.row)) =
     row_room c.requires.fact_1 c.requires.fact_2 c.requires.fact_3 c.loop-k-test.true
     (rows_end c.requires.fact_1 c.requires.fact_2 c.requires.fact_3)
-    (c.loop-k.invariant.1.0.len ∙ (kept).below.len)
+    (c.loop-k.invariant.0.len ∙ (kept).below.len)
     (length-take-le (at c.args.sr c.args.v) c.loop-k.row
-    (omega (arith, width_in c.requires.fact_1 c.requires.fact_2 c.requires.fact_3, c.loop-k.invariant.1.1))) in
+    (omega (arith, width_in c.requires.fact_1 c.requires.fact_2 c.requires.fact_3, c.loop-k.invariant.1))) in
     record { fact_1 = c.requires.fact_1; fact_2 = room }
-
-pub overflow_add-k : goal.overflow_add-k
-overflow_add-k c =
-    omega (arith, row_small c.requires.fact_1.strided.result c.requires.fact_3 c.loop-k-test.true)
-
-pub loop-k-smaller : goal.loop-k-smaller
-loop-k-smaller c = omega (arith, c.loop-k-test.true)
 
 pub loop-k-preserved : goal.loop-k-preserved
 loop-k-preserved c =
@@ -179,44 +148,15 @@ loop-k-preserved c =
     (length c.loop-k.work) (length (take (at c.args.sr c.args.v) c.loop-k.row)) =
     row_room c.requires.fact_1 c.requires.fact_2 c.requires.fact_3 c.loop-k-test.true
     (rows_end c.requires.fact_1 c.requires.fact_2 c.requires.fact_3)
-    (c.loop-k.invariant.1.0.len ∙ (kept).below.len)
+    (c.loop-k.invariant.0.len ∙ (kept).below.len)
     (length-take-le (at c.args.sr c.args.v) c.loop-k.row
-    (omega (arith, width_in c.requires.fact_1 c.requires.fact_2 c.requires.fact_3, c.loop-k.invariant.1.1))) in (
-      omega (arith, c.loop-k-test.true),
-      (
-        row_more c.args.lx c.args.r c.args.v c.args.xs.now c.loop-k.invariant.1.0
-            c.exp_row.ensures.kept (row_fits (room)),
-        same_len (at c.args.sr c.args.v) c.loop-k.row
-            c.exp_row.new.row
-            c.exp_row.auto.row ∙ c.loop-k.invariant.1.1,
-      ),
+    (omega (arith, width_in c.requires.fact_1 c.requires.fact_2 c.requires.fact_3, c.loop-k.invariant.1))) in (
+      row_more c.args.lx c.args.r c.args.v c.args.xs.now c.loop-k.invariant.0
+          c.exp_row.ensures.kept (row_fits (room)),
+      same_len (at c.args.sr c.args.v) c.loop-k.row
+          c.exp_row.new.row
+          c.exp_row.auto.row ∙ c.loop-k.invariant.1,
     )
-
-pub shape_of-work : goal.shape_of-work
-shape_of-work c =
-    let lent : length (take ((c.args.n + at c.args.lx c.args.v * at c.args.sx c.args.v)
-    - c.args.n) (drop c.args.n c.args.work.now))
-    ≡ at c.args.lx c.args.v * at c.args.sx c.args.v =
-    let d : (c.args.n + at c.args.lx c.args.v * at c.args.sx c.args.v)
-    - c.args.n ≡ at c.args.lx c.args.v * at c.args.sx c.args.v =
-    omega arith in
-    length_part c.args.n (c.args.n + at c.args.lx c.args.v * at c.args.sx
-    c.args.v) c.args.work.now (omega arith)
-    (omega (arith, rows_fit c.requires.fact_1 c.requires.fact_2 c.requires.fact_3)) ∙ d in
-    let kept : Kept c.args.n (c.args.n + at c.args.lx c.args.v * at c.args.sx
-    c.args.v) (weighed c.args.lx c.args.v c.args.xs.now) c.args.work.now
-    (put_mid c.args.n
-    ((c.args.n + at c.args.lx c.args.v * at c.args.sx c.args.v)
-    - c.args.n) c.args.work.now c.weigh.new.to) =
-    let d : (c.args.n + at c.args.lx c.args.v * at c.args.sx c.args.v)
-    - c.args.n ≡ at c.args.lx c.args.v * at c.args.sx c.args.v =
-    omega arith in
-    weigh-kept c.requires.fact_1 c.requires.fact_2 c.requires.fact_3 c.args.work.now
-    c.args.xs.now refl c.weigh.ensures (lent) d in
-    c.loop-k.invariant.1.0.len ∙ (kept).below.len
-
-pub shape_of-row : goal.shape_of-row
-shape_of-row c = c.loop-k.invariant.1.1
 
 pub returns : goal.returns
 returns c =
@@ -240,8 +180,8 @@ returns c =
     weigh-kept c.requires.fact_1 c.requires.fact_2 c.requires.fact_3 c.args.work.now
     c.args.xs.now refl c.weigh.ensures (lent) d in
     record {
-      work_after = stacked-all c.args.r c.requires.fact_3 c.loop-k.invariant.1.0
-          (omega (arith, c.loop-k.invariant.0, c.loop-k-test.false))
+      work_after = stacked-all c.args.r c.requires.fact_3 c.loop-k.invariant.0
+          (let h = lengths-pos c.requires.fact_1.strided.result c.args.v c.requires.fact_3 in omega arith)
           ∙ ap (stack (at c.args.r c.args.v - 1)
           (next_row c.args.lx c.args.r c.args.v c.args.xs.now))
           (below_less (first_under c.requires.fact_1 c.requires.fact_2 c.requires.fact_3)

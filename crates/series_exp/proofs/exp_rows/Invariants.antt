@@ -1,5 +1,4 @@
 use mathlib.Core.Path.{◌≡◌}
-use Prim.Native.Nat.{◌-◌, ◌≤◌}
 use lib.ListN.{length, take}
 use Rattle.shape_words.specs.InRow.{in_row}
 use Rattle.series_exp.specs.NextRow.{weighed, next_row}
@@ -7,8 +6,5 @@ use Rattle.series_exp.specs.Stacked.{Stacked}
 use Rattle.series_exp.proofs.exp_rows.Given as goal
 
 abbrev pub invariant-loop-k : goal.invariant-loop-k
-invariant-loop-k l = (l.k ≤ l.m) × (Stacked (in_row l.r l.v) (next_row l.lx l.r l.v l.xs) (take (in_row l.r l.v) l.initial.work) l.n l.e (weighed l.lx l.v l.xs)
-    (length l.initial.work) l.k l.work × (length l.row ≡ length l.initial.row))
-
-abbrev pub decreases-loop-k : goal.decreases-loop-k
-decreases-loop-k l = l.m - l.k
+invariant-loop-k l = Stacked (in_row l.r l.v) (next_row l.lx l.r l.v l.xs) (take (in_row l.r l.v) l.initial.work) l.n l.e (weighed l.lx l.v l.xs)
+    (length l.initial.work) l.k l.work × (length l.row ≡ length l.initial.row)

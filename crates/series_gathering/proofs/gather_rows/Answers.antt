@@ -9,21 +9,6 @@ use Rattle.shape_words.specs.Lengths.{row_small}
 use Rattle.series_gathering.specs.Gather.{left_in_lem, right_in_lem, below, gathers, gather-step, gather_end}
 use Rattle.series_gathering.proofs.gather_rows.Goals as goal
 
-pub overflow_add-w : goal.overflow_add-w
-overflow_add-w c = let h = c.requires.fact_2.some in omega arith
-
-pub offset_bounds-sx-v : goal.offset_bounds-sx-v
-offset_bounds-sx-v c = let h = c.requires.fact_2.some in omega arith
-
-pub bounds-sx-v : goal.bounds-sx-v
-bounds-sx-v c = let h = c.requires.fact_2.some in omega arith
-
-pub offset_bounds-sr-v : goal.offset_bounds-sr-v
-offset_bounds-sr-v c = let h = c.requires.fact_2.some in omega arith
-
-pub bounds-sr-v : goal.bounds-sr-v
-bounds-sr-v c = let h = c.requires.fact_2.some in omega arith
-
 pub loop-j-init : goal.loop-j-init
 loop-j-init c = (
   omega arith,
@@ -134,18 +119,6 @@ rows-requires c = (
       c.left_row-i.ensures c.loop-j.invariant.1.len,
 )
 
-pub overflow_add-j : goal.overflow_add-j
-overflow_add-j c =
-    omega (
-      arith,
-      c.requires.fact_3.turns,
-      c.loop-j-test.true,
-      row_small c.requires.fact_1.result c.requires.fact_2.some c.requires.fact_2.turn,
-    )
-
-pub loop-j-smaller : goal.loop-j-smaller
-loop-j-smaller c = omega (arith, c.loop-j-test.true)
-
 pub loop-j-preserved : goal.loop-j-preserved
 loop-j-preserved c =
     let f = c.loop-j.invariant.1.from in (
@@ -155,10 +128,6 @@ loop-j-preserved c =
           c.left_row-i.ensures c.loop-j.row
           c.rows.ensures),
     )
-
-pub shape_of-row : goal.shape_of-row
-shape_of-row c =
-    c.loop-j.invariant.1.len ∙ sym c.requires.fact_2.full
 
 pub returns : goal.returns
 returns c =

@@ -6,6 +6,3 @@ use Rattle.series_gathering.proofs.gather_rows.Given as goal
 
 abbrev pub invariant-loop-j : goal.invariant-loop-j
 invariant-loop-j l = (l.j - l.lo ≤ l.hi - l.lo) × Paired (in_row l.r l.v) (pair_at l.back l.lx l.r l.v l.k l.xs l.ys) l.lo l.j l.initial.row l.row
-
-abbrev pub decreases-loop-j : goal.decreases-loop-j
-decreases-loop-j l = l.hi - l.j

@@ -106,10 +106,6 @@ add_operand-requires c =
           (arith, operand_in c.requires.fact_1 c.requires.fact_2 c.if-m-k.false)) ∙ d) (made);
     }
 
-pub shape_of-row : goal.shape_of-row
-shape_of-row c =
-    c.add_operand.auto.row ∙ (c.turn.auto.to ∙ c.gather_rows.auto.row)
-
 pub returns : goal.returns
 returns c =
     let d : c.args.k * (at c.args.sx c.args.v) + (at c.args.sx c.args.v)

@@ -238,46 +238,6 @@ scale-requires c =
           )) ∙ f) ∙ (stride-at c.args.r c.requires.fact_1.strided.by_r c.requires.fact_2.some ∙ sym (made)));
     }
 
-pub shape_of-work : goal.shape_of-work
-shape_of-work c =
-    let len2 : length (put_mid (2 * c.args.n) (2 * c.args.n + 8 * (at c.args.sr c.args.v)
-    - 2 * c.args.n) c.log_gather.new.work c.log_divide.new.work)
-    ≡ length c.args.work.now =
-    same_len_mid (2 * c.args.n) (2 * c.args.n + 8 * (at c.args.sr c.args.v)
-    - 2 * c.args.n) c.log_gather.new.work c.log_divide.new.work
-    c.log_divide.auto.work ∙ c.log_gather.ensures.work.len in
-    let len3 : length (put_mid (c.args.k * (at c.args.sr c.args.v))
-    (c.args.k * (at c.args.sr c.args.v) + (at c.args.sr c.args.v)
-    - c.args.k * (at c.args.sr c.args.v))
-    (put_mid (2 * c.args.n) (2 * c.args.n + 8 * (at c.args.sr c.args.v)
-    - 2 * c.args.n) c.log_gather.new.work c.log_divide.new.work)
-    c.copy.new.to) ≡ length c.args.work.now =
-    same_len_mid (c.args.k * (at c.args.sr c.args.v))
-    (c.args.k * (at c.args.sr c.args.v) + (at c.args.sr c.args.v)
-    - c.args.k * (at c.args.sr c.args.v))
-    (put_mid (2 * c.args.n) (2 * c.args.n + 8 * (at c.args.sr c.args.v)
-    - 2 * c.args.n) c.log_gather.new.work c.log_divide.new.work)
-    c.copy.new.to c.copy.auto.to ∙ len2 in
-    same_len_mid (c.args.n + c.args.k * (at c.args.sr c.args.v))
-    (c.args.n + c.args.k * (at c.args.sr c.args.v)
-    + (at c.args.sr c.args.v)
-    - (c.args.n + c.args.k * (at c.args.sr c.args.v)))
-    (put_mid (c.args.k * (at c.args.sr c.args.v))
-    (c.args.k * (at c.args.sr c.args.v) + (at c.args.sr c.args.v)
-    - c.args.k * (at c.args.sr c.args.v))
-    (put_mid (2 * c.args.n) (2 * c.args.n + 8 * (at c.args.sr c.args.v)
-    - 2 * c.args.n) c.log_gather.new.work c.log_divide.new.work)
-    c.copy.new.to) c.scale.new.to
-    c.scale.auto.to ∙ len3
-
-pub shape_of-row : goal.shape_of-row
-shape_of-row c =
-    let left : length c.log_gather.new.row ≡ in_row c.args.r c.args.v =
-    c.log_gather.auto.row ∙ c.requires.fact_2.full in
-    let made : length c.divide_by.new.to ≡ in_row c.args.r c.args.v =
-    c.divide_by.auto.to ∙ (c.log_divide.auto.row ∙ left) in
-    made ∙ sym c.requires.fact_2.full
-
 pub returns : goal.returns
 returns c =
     let rooms : 8 * length c.args.work.now < 18446744073709551616 =

@@ -12,78 +12,50 @@ use Rattle.series_log.specs.LogRows.{log-one, log-more, log-all}
 use Rattle.series_log.specs.LogBlock.{log-width, log-room}
 use Rattle.series_log.proofs.log_rows.Goals as goal
 
-pub offset_bounds-sr-v : goal.offset_bounds-sr-v
-offset_bounds-sr-v c = omega (arith, c.requires.fact_3)
-
-pub bounds-sr-v : goal.bounds-sr-v
-bounds-sr-v c = omega (arith, c.requires.fact_3)
-
-pub offset_bounds-r-v : goal.offset_bounds-r-v
-offset_bounds-r-v c = omega (arith, c.requires.fact_3)
-
-pub bounds-r-v : goal.bounds-r-v
-bounds-r-v c = omega (arith, c.requires.fact_3)
-
 pub loop-k-init : goal.loop-k-init
 loop-k-init c =
-    let h = lengths-pos c.requires.fact_1.strided.result c.args.v c.requires.fact_3 in (omega arith, (log-one, refl))
+    let h = lengths-pos c.requires.fact_1.strided.result c.args.v c.requires.fact_3 in (log-one, refl)
 
 pub slice_bounds-log_row-end : goal.slice_bounds-log_row-end
 slice_bounds-log_row-end c =
-    omega (arith, log-width c.requires.fact_1 c.requires.fact_2 c.requires.fact_3, c.loop-k.invariant.1.1)
+    omega (arith, log-width c.requires.fact_1 c.requires.fact_2 c.requires.fact_3, c.loop-k.invariant.1)
 
 pub slice_bounds-log_row-end-in-loop-k : goal.slice_bounds-log_row-end-in-loop-k
 slice_bounds-log_row-end-in-loop-k c =
     sym (length-take-le (at c.args.sr c.args.v) c.loop-k.row
-    (omega (arith, log-width c.requires.fact_1 c.requires.fact_2 c.requires.fact_3, c.loop-k.invariant.1.1)))
+    (omega (arith, log-width c.requires.fact_1 c.requires.fact_2 c.requires.fact_3, c.loop-k.invariant.1)))
 
 pub log_row-requires : goal.log_row-requires
 log_row-requires c =
     let room : LogRoom c.args.lx c.args.r c.args.v c.loop-k.k c.args.n
     (length c.args.xs.now) (length c.loop-k.work)
     (length (take (at c.args.sr c.args.v) c.loop-k.row)) =
-    log-room c.requires.fact_1 c.requires.fact_2 c.requires.fact_3 c.loop-k.invariant.1.0.from
-    c.loop-k-test.true c.loop-k.invariant.1.0.len
+    log-room c.requires.fact_1 c.requires.fact_2 c.requires.fact_3 c.loop-k.invariant.0.from
+    c.loop-k-test.true c.loop-k.invariant.0.len
     (length-take-le (at c.args.sr c.args.v) c.loop-k.row
-    (omega (arith, log-width c.requires.fact_1 c.requires.fact_2 c.requires.fact_3, c.loop-k.invariant.1.1))) in
+    (omega (arith, log-width c.requires.fact_1 c.requires.fact_2 c.requires.fact_3, c.loop-k.invariant.1))) in
     record { fact_1 = c.requires.fact_1; fact_2 = room }
-
-pub overflow_add-k : goal.overflow_add-k
-overflow_add-k c =
-    omega (arith, row_small c.requires.fact_1.strided.result c.requires.fact_3 c.loop-k-test.true)
-
-pub loop-k-smaller : goal.loop-k-smaller
-loop-k-smaller c = omega (arith, c.loop-k-test.true)
 
 pub loop-k-preserved : goal.loop-k-preserved
 loop-k-preserved c =
     let room : LogRoom c.args.lx c.args.r c.args.v c.loop-k.k c.args.n
     (length c.args.xs.now) (length c.loop-k.work)
     (length (take (at c.args.sr c.args.v) c.loop-k.row)) =
-    log-room c.requires.fact_1 c.requires.fact_2 c.requires.fact_3 c.loop-k.invariant.1.0.from
-    c.loop-k-test.true c.loop-k.invariant.1.0.len
+    log-room c.requires.fact_1 c.requires.fact_2 c.requires.fact_3 c.loop-k.invariant.0.from
+    c.loop-k-test.true c.loop-k.invariant.0.len
     (length-take-le (at c.args.sr c.args.v) c.loop-k.row
-    (omega (arith, log-width c.requires.fact_1 c.requires.fact_2 c.requires.fact_3, c.loop-k.invariant.1.1))) in (
-      omega (arith, c.loop-k-test.true),
-      (
-        log-more c.args.lx c.args.r c.args.v c.args.xs.now c.loop-k.invariant.1.0
-            c.log_row.ensures.rowed (log-under c.requires.fact_1 (room))
-            (let w = c.requires.fact_2.work in omega arith),
-        same_len (at c.args.sr c.args.v) c.loop-k.row
-            c.log_row.new.row
-            c.log_row.auto.row ∙ c.loop-k.invariant.1.1,
-      ),
+    (omega (arith, log-width c.requires.fact_1 c.requires.fact_2 c.requires.fact_3, c.loop-k.invariant.1))) in (
+      log-more c.args.lx c.args.r c.args.v c.args.xs.now c.loop-k.invariant.0
+          c.log_row.ensures.rowed (log-under c.requires.fact_1 (room))
+          (let w = c.requires.fact_2.work in omega arith),
+      same_len (at c.args.sr c.args.v) c.loop-k.row
+          c.log_row.new.row
+          c.log_row.auto.row ∙ c.loop-k.invariant.1,
     )
-
-pub shape_of-work : goal.shape_of-work
-shape_of-work c = c.loop-k.invariant.1.0.len
-
-pub shape_of-row : goal.shape_of-row
-shape_of-row c = c.loop-k.invariant.1.1
 
 pub returns : goal.returns
 returns c = record {
-  work_after = log-all c.args.r c.requires.fact_3 c.loop-k.invariant.1.0 (omega
-      (arith, c.loop-k.invariant.0, c.loop-k-test.false));
+  work_after = log-all c.args.r c.requires.fact_3 c.loop-k.invariant.0
+      (let h = lengths-pos c.requires.fact_1.strided.result c.args.v c.requires.fact_3 in omega arith);
   spent = (search rules);
 }

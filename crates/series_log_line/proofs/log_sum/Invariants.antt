@@ -6,6 +6,3 @@ use Rattle.series_log_line.proofs.log_sum.Given as goal
 
 abbrev pub invariant-loop-j : goal.invariant-loop-j
 invariant-loop-j l = (l.j - l.lo ≤ l.k - l.lo) × Walked (line_term l.xs l.done l.k) l.lo l.j zero_f l.sum
-
-abbrev pub decreases-loop-j : goal.decreases-loop-j
-decreases-loop-j l = l.k - l.j

@@ -1,4 +1,3 @@
-use Prim.Native.Nat.{◌-◌, ◌≤◌}
 use lib.ListN.{get_or}
 use lib.Ieee.{nan, mul, binary64}
 use Rattle.lists.specs.Table.{Filled}
@@ -6,7 +5,4 @@ use Rattle.model.specs.Constructed.{whole_f}
 use Rattle.series_scaling.proofs.multiply.Given as goal
 
 abbrev pub invariant-loop-i : goal.invariant-loop-i
-invariant-loop-i l = (l.i ≤ l.n) × Filled l.i (λ p. mul binary64 (whole_f l.k) (get_or l.a p nan)) l.initial.to l.to
-
-abbrev pub decreases-loop-i : goal.decreases-loop-i
-decreases-loop-i l = l.n - l.i
+invariant-loop-i l = Filled l.i (λ p. mul binary64 (whole_f l.k) (get_or l.a p nan)) l.initial.to l.to

@@ -6,35 +6,35 @@ use Rattle.sheet_text.specs.Put.{put_front_lem}
 use Rattle.sheet.specs.Output.{output-refused, output_solved}
 use Rattle.sheet.proofs.answer.Goals as goal
 
-pub returns-then-refusal-ne0 : goal.returns-then-refusal-ne0
-returns-then-refusal-ne0 c =
+pub returns-in-Err : goal.returns-in-Err
+returns-in-Err c =
+    let q = c.in-Err.ensures.says in
     let p = put_front_lem c.put_refusal.ensures in
-    rw (output-refused _ (sym c.solve-solved.ensures.refusal) c.if-refusal-ne0.true)
-    (p.0, (omega (arith, c.put_refusal.ensures.fits), p.1))
+    rw (output-refused _ (sym q.holds) q.some) (p.0, (omega (arith, c.put_refusal.ensures.fits), p.1))
 
 pub overflow_add-end : goal.overflow_add-end
 overflow_add-end c =
-    omega (arith, (c.solve-solved.ensures.done c.if-refusal-ne0.false).last.within)
+    omega (arith, c.in-Ok.ensures.done.last.within)
 
 pub overflow_cast-solved : goal.overflow_cast-solved
 overflow_cast-solved c =
-    omega (arith, (c.solve-solved.ensures.done c.if-refusal-ne0.false).fit)
+    omega (arith, c.in-Ok.ensures.done.fit)
 
 pub offset_bounds-pool-from : goal.offset_bounds-pool-from
 offset_bounds-pool-from c =
-    omega (arith, (c.solve-solved.ensures.done c.if-refusal-ne0.false).last.within)
+    omega (arith, c.in-Ok.ensures.done.last.within)
 
 pub slice_bounds-put_done-end : goal.slice_bounds-put_done-end
 slice_bounds-put_done-end c =
-    omega (arith, (c.solve-solved.ensures.done c.if-refusal-ne0.false).last.held)
+    omega (arith, c.in-Ok.ensures.done.last.held)
 
 pub put_done-requires : goal.put_done-requires
 put_done-requires c =
-    simp length-take (omega (arith, (c.solve-solved.ensures.done c.if-refusal-ne0.false).last.few))
+    simp length-take (omega (arith, c.in-Ok.ensures.done.last.few))
 
 pub returns : goal.returns
 returns c =
     let p = put_front_lem c.put_done.ensures in
-    rw (output_solved (c.solve-solved.ensures.done c.if-refusal-ne0.false)
-    (ap (λ (r : Refusal). r.number) (sym c.solve-solved.ensures.refusal) ∙ c.if-refusal-ne0.false))
+    rw (output_solved c.in-Ok.ensures.done
+    (ap (λ (r : Refusal). r.number) (sym c.in-Ok.ensures.says)))
     (p.0, (omega (arith, c.put_done.ensures.fits), p.1))

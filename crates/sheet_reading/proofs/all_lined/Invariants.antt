@@ -1,10 +1,6 @@
-use Prim.Native.Nat.{◌-◌}
 use Rattle.lists.specs.Every.{Passing}
 use Rattle.model_texts.specs.Sheet.{lined}
 use Rattle.sheet_reading.proofs.all_lined.Given as goal
 
 abbrev pub invariant-loop-k : goal.invariant-loop-k
 invariant-loop-k l = Passing (lined l.text) l.n l.from l.k
-
-abbrev pub decreases-loop-k : goal.decreases-loop-k
-decreases-loop-k l = l.n - l.k

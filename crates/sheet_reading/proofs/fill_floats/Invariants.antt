@@ -1,13 +1,8 @@
-use Prim.Native.Nat.{◌-◌, ◌+◌, ◌≤◌}
-use mathlib.Core.Path.{◌≡◌}
-use lib.ListN.{length}
+use Prim.Native.Nat.{◌+◌}
 use lib.Ieee.{of_bits, binary64}
 use Rattle.lists.specs.Table.{Filled}
 use Rattle.model_texts.specs.Sheet.{word_on}
 use Rattle.sheet_reading.proofs.fill_floats.Given as goal
 
 abbrev pub invariant-loop-k : goal.invariant-loop-k
-invariant-loop-k l = (l.k ≤ l.n) × ((l.n ≡ length l.initial.to) × Filled l.k (λ j. of_bits binary64 (word_on l.text (l.from + j))) l.initial.to l.to)
-
-abbrev pub decreases-loop-k : goal.decreases-loop-k
-decreases-loop-k l = l.n - l.k
+invariant-loop-k l = Filled l.k (λ j. of_bits binary64 (word_on l.text (l.from + j))) l.initial.to l.to

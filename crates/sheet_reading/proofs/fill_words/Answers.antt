@@ -1,17 +1,16 @@
-use mathlib.Core.Path.{refl}
 use native.Mathlib.Omega.{arith}
 use Rattle.lists.specs.Table.{filled_none, filled_more}
 use Rattle.lists.specs.Fill.{filled-all}
 use Rattle.sheet_reading.proofs.fill_words.Goals as goal
 
 pub loop-k-init : goal.loop-k-init
-loop-k-init c = (omega arith, (refl, filled_none))
+loop-k-init c = filled_none
 
 pub loop-k-preserved : goal.loop-k-preserved
-loop-k-preserved c = (omega arith, (c.loop-k.invariant.1.0, filled_more c.loop-k.invariant.1.1 c.word_at.ensures (omega arith)))
+loop-k-preserved c = filled_more c.loop-k.invariant c.word_at.ensures (omega arith)
 
 pub shape_of-to : goal.shape_of-to
-shape_of-to c = c.loop-k.invariant.1.1.len
+shape_of-to c = c.loop-k.invariant.len
 
 pub returns : goal.returns
-returns c = filled-all c.loop-k.invariant.1.1 (omega arith) (omega arith)
+returns c = filled-all c.loop-k.invariant (omega arith) (omega arith)

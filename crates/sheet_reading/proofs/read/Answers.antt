@@ -1,3 +1,6 @@
+use Rattle.std.proofs.lemmas.Result.{MatchResult-weaker, err_from_is_err_and}
+use mathlib.Core.Path.{ap, refl}
+use Rattle.model.specs.declared.Refusal.{Refusal}
 use native.Mathlib.Omega.{arith}
 use mathlib.Core.Path.{sym, ◌∙◌}
 use Rattle.sheet_reading.specs.Headers.{good-known}
@@ -6,14 +9,21 @@ use Rattle.sheet_reading.specs.Reading.{mid-taken, mid-good, mid-total, read-res
 use Rattle.sheet_reading.proofs.read.Goals as goal
 
 pub returns-then-not-is_line : goal.returns-then-not-is_line
-returns-then-not-is_line c = rw c.by.ensures (read_8 _ _ (sym c.is_line.ensures ∙ c.if-not-is_line.true))
+returns-then-not-is_line c =
+    record {
+      some = λ z. omega (arith, ap (λ (r : Refusal). r.number) c.by.ensures, z);
+      holds = rw c.by.ensures (read_8 _ _ (sym c.is_line.ensures ∙ c.if-not-is_line.true));
+    }
 
 pub returns-then-not-is_sized : goal.returns-then-not-is_sized
 returns-then-not-is_sized c =
-    rw c.by-then-not-is_sized.ensures
-    (read_7 _ _ (sym c.is_line.ensures
-    ∙ c.if-not-is_line.false)
-    (sym c.is_sized.ensures ∙ c.if-not-is_sized.true))
+    record {
+      some = λ z. omega (arith, ap (λ (r : Refusal). r.number) c.by-then-not-is_sized.ensures, z);
+      holds = rw c.by-then-not-is_sized.ensures
+          (read_7 _ _ (sym c.is_line.ensures
+          ∙ c.if-not-is_line.false)
+          (sym c.is_sized.ensures ∙ c.if-not-is_sized.true));
+    }
 
 pub slice_bounds-read_headers-end : goal.slice_bounds-read_headers-end
 slice_bounds-read_headers-end c =
@@ -29,8 +39,8 @@ slice_bounds-read_headers-end-2 c =
     (sym c.is_sized.ensures ∙ c.if-not-is_sized.false) in
     sym (few-taken c.args.text.now c.args.headers.now (size) c.input_count-inputs.ensures c.requires)
 
-pub read_headers-first-requires : goal.read_headers-first-requires
-read_headers-first-requires c =
+pub read_headers-requires : goal.read_headers-requires
+read_headers-requires c =
     let size : Sized c.args.text.now =
     sized _ (sym c.is_line.ensures ∙ c.if-not-is_line.false)
     (sym c.is_sized.ensures ∙ c.if-not-is_sized.false) in
@@ -41,15 +51,20 @@ read_headers-first-requires c =
       (size).few,
     )
 
-pub returns-then-first-ne0 : goal.returns-then-first-ne0
-returns-then-first-ne0 c =
-    let size : Sized c.args.text.now =
-    sized _ (sym c.is_line.ensures ∙ c.if-not-is_line.false)
-    (sym c.is_sized.ensures ∙ c.if-not-is_sized.false) in
-    read_1 c.args.text.now c.args.headers.now
-    (size)
-    c.input_count-inputs.ensures c.requires
-    c.read_headers-first.ensures c.if-first-ne0.true
+pub returns-in_err-read_headers : goal.returns-in_err-read_headers
+returns-in_err-read_headers c =
+    let p = err_from_is_err_and c.from_residual.result c.from_residual.ensures.1 in
+    let q = c.in_err-read_headers.ensures in
+    rw (p.1, p.2) (record {
+      some = q.some;
+      holds = let size : Sized c.args.text.now =
+          sized _ (sym c.is_line.ensures ∙ c.if-not-is_line.false)
+          (sym c.is_sized.ensures ∙ c.if-not-is_sized.false) in
+          read_1 c.args.text.now c.args.headers.now
+          (size)
+          c.input_count-inputs.ensures c.requires
+          q.holds q.some;
+    })
 
 pub slice_bounds-total_of-end : goal.slice_bounds-total_of-end
 slice_bounds-total_of-end c =
@@ -60,7 +75,7 @@ slice_bounds-total_of-end c =
       arith,
       few-places c.args.text.now c.args.headers.now (size) c.input_count-inputs.ensures c.requires,
       mid_len c.args.text.now c.args.headers.now (size) c.input_count-inputs.ensures c.requires
-          c.read_headers-first.ensures,
+          c.in_ok-read_headers.ensures,
     )
 
 pub slice_bounds-total_of-end-2 : goal.slice_bounds-total_of-end-2
@@ -70,7 +85,7 @@ slice_bounds-total_of-end-2 c =
     (sym c.is_sized.ensures ∙ c.if-not-is_sized.false) in
     mid-taken c.args.text.now c.args.headers.now (size)
     c.input_count-inputs.ensures c.requires
-    c.read_headers-first.ensures c.if-first-ne0.false
+    c.in_ok-read_headers.ensures refl
 
 pub total_of-requires : goal.total_of-requires
 total_of-requires c =
@@ -79,11 +94,11 @@ total_of-requires c =
     (sym c.is_sized.ensures ∙ c.if-not-is_sized.false) in
     record {
       fact_1 = good-known (mid-good c.args.text.now c.args.headers.now (size) c.input_count-inputs.ensures
-          c.requires c.read_headers-first.ensures c.if-first-ne0.false);
+          c.requires c.in_ok-read_headers.ensures refl);
       fact_2 = omega (
         arith,
         mid-taken c.args.text.now c.args.headers.now (size) c.input_count-inputs.ensures c.requires
-            c.read_headers-first.ensures c.if-first-ne0.false,
+            c.in_ok-read_headers.ensures refl,
         c.input_count-inputs.ensures,
         (size).few,
       );
@@ -99,8 +114,8 @@ overflow_add-rest c =
       c.total_of.ensures,
       c.step_count.ensures,
       mid-total c.args.text.now c.args.headers.now (size) c.input_count-inputs.ensures c.requires
-          c.read_headers-first.ensures
-          c.if-first-ne0.false,
+          c.in_ok-read_headers.ensures
+          refl,
       step_small c.args.text.now,
     )
 
@@ -121,8 +136,8 @@ rest_refusal-requires c =
       c.total_of.ensures,
       c.step_count.ensures,
       mid-total c.args.text.now c.args.headers.now (size) c.input_count-inputs.ensures c.requires
-          c.read_headers-first.ensures
-          c.if-first-ne0.false,
+          c.in_ok-read_headers.ensures
+          refl,
       step_small c.args.text.now,
       c.input_count-inputs.ensures,
       (size).few,
@@ -133,6 +148,11 @@ returns c =
     let size : Sized c.args.text.now =
     sized _ (sym c.is_line.ensures ∙ c.if-not-is_line.false)
     (sym c.is_sized.ensures ∙ c.if-not-is_sized.false) in
-    read-rest c.args.text.now c.args.headers.now (size) c.input_count-inputs.ensures c.requires
-    c.read_headers-first.ensures c.if-first-ne0.false
-    c.total_of.ensures c.step_count.ensures c.rest_refusal.ensures
+    MatchResult-weaker c.rest_refusal.result c.rest_refusal.ensures
+    (λ _ e. read-rest c.args.text.now c.args.headers.now size c.input_count-inputs.ensures c.requires
+    c.in_ok-read_headers.ensures refl c.total_of.ensures c.step_count.ensures e)
+    (λ q j. record {
+      some = j.some;
+      holds = read-rest c.args.text.now c.args.headers.now size c.input_count-inputs.ensures c.requires
+          c.in_ok-read_headers.ensures refl c.total_of.ensures c.step_count.ensures j.holds;
+    })

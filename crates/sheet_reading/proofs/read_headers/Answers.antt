@@ -1,3 +1,5 @@
+use mathlib.Core.Path.{ap}
+use Rattle.model.specs.declared.Refusal.{Refusal}
 use native.Mathlib.Omega.{arith}
 use Rattle.sheet_reading.specs.Headers.{headers-none, headers_len, headers_8, headers_1, headers-more, headers_end}
 use Rattle.sheet_reading.proofs.read_headers.Goals as goal
@@ -16,8 +18,11 @@ shape_of-headers-then-not-is_line c = headers_len c.loop-i.invariant
 
 pub returns-then-not-is_line : goal.returns-then-not-is_line
 returns-then-not-is_line c =
-    rw c.by.ensures (headers_8 c.loop-i.invariant (omega (arith, headers_len c.loop-i.invariant))
-    c.is_line.ensures c.if-not-is_line.true)
+    record {
+      some = λ z. omega (arith, ap (λ (r : Refusal). r.number) c.by.ensures, z);
+      holds = rw c.by.ensures (headers_8 c.loop-i.invariant (omega (arith, headers_len c.loop-i.invariant))
+          c.is_line.ensures c.if-not-is_line.true);
+    }
 
 pub word_at-word-requires : goal.word_at-word-requires
 word_at-word-requires c = omega (arith, headers_len c.loop-i.invariant)
@@ -30,16 +35,13 @@ shape_of-headers-then-not-is_good c = headers_len c.loop-i.invariant
 
 pub returns-then-not-is_good : goal.returns-then-not-is_good
 returns-then-not-is_good c =
-    rw c.bad_word.ensures (headers_1 c.loop-i.invariant (omega (arith, headers_len c.loop-i.invariant))
-    c.is_line.ensures
-    c.if-not-is_line.false c.word_at-word.ensures
-    c.is_good.ensures c.if-not-is_good.true)
-
-pub overflow_add-i : goal.overflow_add-i
-overflow_add-i c = omega (arith, headers_len c.loop-i.invariant)
-
-pub loop-i-smaller : goal.loop-i-smaller
-loop-i-smaller c = omega (arith, headers_len c.loop-i.invariant)
+    record {
+      some = λ z. omega (arith, ap (λ (r : Refusal). r.number) c.bad_word.ensures, z);
+      holds = rw c.bad_word.ensures (headers_1 c.loop-i.invariant (omega (arith, headers_len c.loop-i.invariant))
+          c.is_line.ensures
+          c.if-not-is_line.false c.word_at-word.ensures
+          c.is_good.ensures c.if-not-is_good.true);
+    }
 
 pub loop-i-preserved : goal.loop-i-preserved
 loop-i-preserved c =
@@ -51,4 +53,4 @@ pub shape_of-headers : goal.shape_of-headers
 shape_of-headers c = headers_len c.loop-i.invariant
 
 pub returns : goal.returns
-returns c = rw c.none.ensures (headers_end c.loop-i.invariant (omega (arith, headers_len c.loop-i.invariant)))
+returns c = (headers_end c.loop-i.invariant (omega (arith, headers_len c.loop-i.invariant)))

@@ -1,3 +1,4 @@
+use Rattle.std.proofs.lemmas.Result.{err_from_is_err_and}
 use native.Mathlib.Omega.{arith}
 use mathlib.Core.Path.{◌≡◌, refl, sym, ap, ◌∙◌}
 use mathlib.Core.List.{◌++◌}
@@ -18,11 +19,12 @@ use Rattle.shape_operands.specs.Announces.{given, opened-announces, opened-left,
 use Rattle.substitution.specs.Entry.{entry_ruled}
 use Rattle.substitution.proofs.subst_var.Goals as goal
 
-pub returns-then-refusal-ne0 : goal.returns-then-refusal-ne0
+pub returns-in_err-o : goal.returns-in_err-o
 unfolding substitute_answer substitute_out substitute_scratch
-returns-then-refusal-ne0 c =
-    let e = c.open_pair-o.ensures.refusal in
-    let n = c.if-refusal-ne0.true in (
+returns-in_err-o c =
+    let p = err_from_is_err_and c.from_residual.result c.from_residual.ensures.1 in rw (p.1, p.2)
+    (let e = c.in_err-o.ensures.is in
+    let n = c.in_err-o.ensures.some in (
       refused-answer e (announced_pair (Substitution c.args.v) c.args.ah c.args.bh)
           ((substitute_poly c.args.v (held c.args.ah c.args.a.now) (held c.args.bh c.args.b.now))) n,
       (
@@ -32,90 +34,90 @@ returns-then-refusal-ne0 c =
         refused-scratch e (announced_pair (Substitution c.args.v) c.args.ah c.args.bh)
             ((substitute_poly c.args.v (held c.args.ah c.args.a.now) (held c.args.bh c.args.b.now))) n c.args.scratch.now,
       ),
-    )
+    ))
 
 pub overflow_mul-room : goal.overflow_mul-room
 overflow_mul-room c =
-    omega (arith, (opened-count c.open_pair-o.ensures c.if-refusal-ne0.false), (opened-ready c.open_pair-o.ensures c.if-refusal-ne0.false).announced.most)
+    omega (arith, (opened-count c.in_ok-o.ensures), (opened-ready c.in_ok-o.ensures).announced.most)
 
 pub slice_bounds-substitute_to-end : goal.slice_bounds-substitute_to-end
 slice_bounds-substitute_to-end c =
-    (opened-fits c.open_pair-o.ensures c.if-refusal-ne0.false).3
+    (opened-fits c.in_ok-o.ensures).3
 
 pub slice_bounds-substitute_to-end-2 : goal.slice_bounds-substitute_to-end-2
 slice_bounds-substitute_to-end-2 c =
-    sym (length-take-le _ _ (opened-fits c.open_pair-o.ensures c.if-refusal-ne0.false).3)
+    sym (length-take-le _ _ (opened-fits c.in_ok-o.ensures).3)
 
 pub substitute_to-r-requires : goal.substitute_to-r-requires
 substitute_to-r-requires c =
-    let z = c.if-refusal-ne0.false in
+    let z = c.in_ok-o.ensures.none in
     record {
-      fact_1 = opened-announces c.open_pair-o.ensures z;
-      fact_2 = opened-left c.open_pair-o.ensures z;
+      fact_1 = opened-announces c.in_ok-o.ensures;
+      fact_2 = opened-left c.in_ok-o.ensures;
       fact_3 = opened-right
-          c.open_pair-o.ensures z;
-      fact_4 = opened-lent c.open_pair-o.ensures z (length-take-le _ _ (opened-fits c.open_pair-o.ensures z).3);
+          c.in_ok-o.ensures;
+      fact_4 = opened-lent c.in_ok-o.ensures (length-take-le _ _ (opened-fits c.in_ok-o.ensures).3);
     }
 
 pub slice_bounds-clear-end : goal.slice_bounds-clear-end
 slice_bounds-clear-end c =
-    let used : length c.substitute_to-r.new.scratch ≡ 8 * c.open_pair-o.result.n =
-    c.substitute_to-r.auto.scratch ∙ length-take-le _ _ (opened-fits c.open_pair-o.ensures c.if-refusal-ne0.false).3 in
-    let rooms : 8 * c.open_pair-o.result.n ≤ length (c.substitute_to-r.new.scratch
-    ++ drop (8 * c.open_pair-o.result.n) c.args.scratch.now) =
+    let used : length c.substitute_to-r.new.scratch ≡ 8 * c.in_ok-o.o.n =
+    c.substitute_to-r.auto.scratch ∙ length-take-le _ _ (opened-fits c.in_ok-o.ensures).3 in
+    let rooms : 8 * c.in_ok-o.o.n ≤ length (c.substitute_to-r.new.scratch
+    ++ drop (8 * c.in_ok-o.o.n) c.args.scratch.now) =
     simp length-append (omega (arith, used)) in
     rooms
 
 pub slice_bounds-clear-end-2 : goal.slice_bounds-clear-end-2
 slice_bounds-clear-end-2 c =
-    let used : length c.substitute_to-r.new.scratch ≡ 8 * c.open_pair-o.result.n =
-    c.substitute_to-r.auto.scratch ∙ length-take-le _ _ (opened-fits c.open_pair-o.ensures c.if-refusal-ne0.false).3 in
-    let rooms : 8 * c.open_pair-o.result.n ≤ length (c.substitute_to-r.new.scratch
-    ++ drop (8 * c.open_pair-o.result.n) c.args.scratch.now) =
+    let used : length c.substitute_to-r.new.scratch ≡ 8 * c.in_ok-o.o.n =
+    c.substitute_to-r.auto.scratch ∙ length-take-le _ _ (opened-fits c.in_ok-o.ensures).3 in
+    let rooms : 8 * c.in_ok-o.o.n ≤ length (c.substitute_to-r.new.scratch
+    ++ drop (8 * c.in_ok-o.o.n) c.args.scratch.now) =
     simp length-append (omega (arith, used)) in
     sym (length-take-le _ _ (rooms))
 
 pub pack-requires : goal.pack-requires
 pack-requires c =
-    let value-is : let o = c.open_pair-o.result in
+    let value-is : let o = c.in_ok-o.o in
     substitute_poly c.args.v (taken (given o.a o.na) c.args.a.now c.args.out.now)
     (taken (given o.b o.nb) c.args.b.now c.args.out.now) ≡ (substitute_poly c.args.v (held c.args.ah c.args.a.now) (held c.args.bh c.args.b.now)) =
-    let o = c.open_pair-o.result in
-    let z = c.if-refusal-ne0.false in
+    let o = c.in_ok-o.o in
+    let z = c.in_ok-o.ensures.none in
     ap (λ (x : Poly). substitute_poly c.args.v x (taken (given o.b o.nb) c.args.b.now c.args.out.now))
-    (opened-held c.open_pair-o.ensures z c.args.a.now c.args.out.now)
+    (opened-held c.in_ok-o.ensures c.args.a.now c.args.out.now)
     ∙ ap (substitute_poly c.args.v (held c.args.ah c.args.a.now))
-    (opened-held-right c.open_pair-o.ensures z c.args.b.now c.args.out.now) in
+    (opened-held-right c.in_ok-o.ensures c.args.b.now c.args.out.now) in
     let head : c.substitute_to-r.result ≡ ((substitute_poly c.args.v (held c.args.ah c.args.a.now) (held c.args.bh c.args.b.now))).head =
     c.substitute_to-r.ensures.head ∙ ap (λ (x : Poly). x.head) (value-is) in
-    rw (head) (entry_ruled (opened-ready c.open_pair-o.ensures c.if-refusal-ne0.false) c.args.a.now c.args.b.now refl)
+    rw (head) (entry_ruled (opened-ready c.in_ok-o.ensures) c.args.a.now c.args.b.now refl)
 
 pub returns : goal.returns
 unfolding substitute_answer substitute_out substitute_scratch
 returns c =
-    let value-is : let o = c.open_pair-o.result in
+    let value-is : let o = c.in_ok-o.o in
     substitute_poly c.args.v (taken (given o.a o.na) c.args.a.now c.args.out.now)
     (taken (given o.b o.nb) c.args.b.now c.args.out.now) ≡ (substitute_poly c.args.v (held c.args.ah c.args.a.now) (held c.args.bh c.args.b.now)) =
-    let o = c.open_pair-o.result in
-    let z = c.if-refusal-ne0.false in
+    let o = c.in_ok-o.o in
+    let z = c.in_ok-o.ensures.none in
     ap (λ (x : Poly). substitute_poly c.args.v x (taken (given o.b o.nb) c.args.b.now c.args.out.now))
-    (opened-held c.open_pair-o.ensures z c.args.a.now c.args.out.now)
+    (opened-held c.in_ok-o.ensures c.args.a.now c.args.out.now)
     ∙ ap (substitute_poly c.args.v (held c.args.ah c.args.a.now))
-    (opened-held-right c.open_pair-o.ensures z c.args.b.now c.args.out.now) in
+    (opened-held-right c.in_ok-o.ensures c.args.b.now c.args.out.now) in
     let head : c.substitute_to-r.result ≡ ((substitute_poly c.args.v (held c.args.ah c.args.a.now) (held c.args.bh c.args.b.now))).head =
     c.substitute_to-r.ensures.head ∙ ap (λ (x : Poly). x.head) (value-is) in
-    let used : length c.substitute_to-r.new.scratch ≡ 8 * c.open_pair-o.result.n =
-    c.substitute_to-r.auto.scratch ∙ length-take-le _ _ (opened-fits c.open_pair-o.ensures c.if-refusal-ne0.false).3 in
-    let rooms : 8 * c.open_pair-o.result.n ≤ length (c.substitute_to-r.new.scratch
-    ++ drop (8 * c.open_pair-o.result.n) c.args.scratch.now) =
+    let used : length c.substitute_to-r.new.scratch ≡ 8 * c.in_ok-o.o.n =
+    c.substitute_to-r.auto.scratch ∙ length-take-le _ _ (opened-fits c.in_ok-o.ensures).3 in
+    let rooms : 8 * c.in_ok-o.o.n ≤ length (c.substitute_to-r.new.scratch
+    ++ drop (8 * c.in_ok-o.o.n) c.args.scratch.now) =
     simp length-append (omega (arith, used)) in
-    let e = c.open_pair-o.ensures.refusal in let z = c.if-refusal-ne0.false in
-    let n = (opened-count c.open_pair-o.ensures c.if-refusal-ne0.false) in
+    let e = refl in let z = c.in_ok-o.ensures.none in
+    let n = (opened-count c.in_ok-o.ensures) in
     let h = announced_pair (Substitution c.args.v) c.args.ah c.args.bh in (
       done-answer e h ((substitute_poly c.args.v (held c.args.ah c.args.a.now) (held c.args.bh c.args.b.now))) z (c.pack.ensures ∙ ap word_of (head)),
       (
-        kept-front c.open_pair-o.result.n
-            (kept_as (ap (λ (x : Poly). padded c.open_pair-o.result.n x.coeffs) (value-is)) c.substitute_to-r.ensures.kept)
+        kept-front c.in_ok-o.o.n
+            (kept_as (ap (λ (x : Poly). padded c.in_ok-o.o.n x.coeffs) (value-is)) c.substitute_to-r.ensures.kept)
             ∙ done-out e h ((substitute_poly c.args.v (held c.args.ah c.args.a.now) (held c.args.bh c.args.b.now))) z c.args.out.now n refl,
         done-scratch e h ((substitute_poly c.args.v (held c.args.ah c.args.a.now) (held c.args.bh c.args.b.now))) z c.args.scratch.now
             c.substitute_to-r.new.scratch

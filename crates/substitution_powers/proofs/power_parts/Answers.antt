@@ -12,18 +12,6 @@ use Rattle.substitution_powers.proofs.power_parts.Goals as goal
 pub loop-at-init : goal.loop-at-init
 loop-at-init c = (begins-first, (omega arith, filled_none))
 
-pub overflow_add-at : goal.overflow_add-at
-overflow_add-at c =
-    let fits : c.loop-at.at + c.args.width ≤ length c.args.to.now =
-    begins-fits c.requires.fact_2 c.loop-at.invariant.0 (omega (arith, c.loop-at-test.true, c.loop-at.invariant.1.1.len)) in
-    omega (arith, fits)
-
-pub offset_bounds-to-at : goal.offset_bounds-to-at
-offset_bounds-to-at c =
-    let fits : c.loop-at.at + c.args.width ≤ length c.args.to.now =
-    begins-fits c.requires.fact_2 c.loop-at.invariant.0 (omega (arith, c.loop-at-test.true, c.loop-at.invariant.1.1.len)) in
-    omega (arith, fits)
-
 pub slice_bounds-power_rows-end : goal.slice_bounds-power_rows-end
 slice_bounds-power_rows-end c =
     let fits : c.loop-at.at + c.args.width ≤ length c.args.to.now =
@@ -37,18 +25,6 @@ power_rows-requires c =
     let lent : length (take (c.loop-at.at + c.args.width - c.loop-at.at) (drop c.loop-at.at c.loop-at.to)) ≡ c.args.width =
     let l = c.loop-at.invariant.1.1.len in let f = fits in simp (length-take, length-drop) (omega (arith, l, f)) in
     rw (lent) c.requires.fact_1
-
-pub overflow_add-at-in-loop-at : goal.overflow_add-at-in-loop-at
-overflow_add-at-in-loop-at c =
-    let fits : c.loop-at.at + c.args.width ≤ length c.args.to.now =
-    begins-fits c.requires.fact_2 c.loop-at.invariant.0 (omega (arith, c.loop-at-test.true, c.loop-at.invariant.1.1.len)) in
-    omega (arith, fits)
-
-pub loop-at-smaller : goal.loop-at-smaller
-loop-at-smaller c =
-    let fits : c.loop-at.at + c.args.width ≤ length c.args.to.now =
-    begins-fits c.requires.fact_2 c.loop-at.invariant.0 (omega (arith, c.loop-at-test.true, c.loop-at.invariant.1.1.len)) in
-    omega (arith, fits, c.requires.fact_2.pos)
 
 pub loop-at-preserved : goal.loop-at-preserved
 loop-at-preserved c =
@@ -68,9 +44,6 @@ loop-at-preserved c =
             (part-power c.args.m c.args.s c.loop-at.invariant.0),
       ),
     )
-
-pub shape_of-to : goal.shape_of-to
-shape_of-to c = c.loop-at.invariant.1.1.len
 
 pub returns : goal.returns
 returns c = filled-all c.loop-at.invariant.1.1 c.loop-at.invariant.1.0 (omega (arith, c.loop-at-test.false, c.loop-at.invariant.1.1.len))

@@ -12,43 +12,12 @@ use Rattle.substitution_powers.proofs.power_rows.Goals as goal
 pub loop-at-init : goal.loop-at-init
 loop-at-init c = (power-first c.args.m, (omega arith, filled_none))
 
-pub overflow_add-at : goal.overflow_add-at
-overflow_add-at c =
-    let fits : c.loop-at.at + c.args.s ≤ length c.args.to.now =
-    begins-fits c.requires (power-begins c.loop-at.invariant.0)
-    (omega (arith, c.loop-at-test.true, c.loop-at.invariant.1.1.len)) in
-    omega (arith, fits)
-
-pub offset_bounds-to-at : goal.offset_bounds-to-at
-offset_bounds-to-at c =
-    let fits : c.loop-at.at + c.args.s ≤ length c.args.to.now =
-    begins-fits c.requires (power-begins c.loop-at.invariant.0)
-    (omega (arith, c.loop-at-test.true, c.loop-at.invariant.1.1.len)) in
-    omega (arith, fits)
-
 pub slice_bounds-times_each-end : goal.slice_bounds-times_each-end
 slice_bounds-times_each-end c =
     let fits : c.loop-at.at + c.args.s ≤ length c.args.to.now =
     begins-fits c.requires (power-begins c.loop-at.invariant.0)
     (omega (arith, c.loop-at-test.true, c.loop-at.invariant.1.1.len)) in
     omega (arith, fits, c.loop-at.invariant.1.1.len)
-
-pub times_each-requires : goal.times_each-requires
-times_each-requires c = tt
-
-pub overflow_add-at-in-loop-at : goal.overflow_add-at-in-loop-at
-overflow_add-at-in-loop-at c =
-    let fits : c.loop-at.at + c.args.s ≤ length c.args.to.now =
-    begins-fits c.requires (power-begins c.loop-at.invariant.0)
-    (omega (arith, c.loop-at-test.true, c.loop-at.invariant.1.1.len)) in
-    omega (arith, fits)
-
-pub loop-at-smaller : goal.loop-at-smaller
-loop-at-smaller c =
-    let fits : c.loop-at.at + c.args.s ≤ length c.args.to.now =
-    begins-fits c.requires (power-begins c.loop-at.invariant.0)
-    (omega (arith, c.loop-at-test.true, c.loop-at.invariant.1.1.len)) in
-    omega (arith, fits, c.requires.pos)
 
 pub loop-at-preserved : goal.loop-at-preserved
 loop-at-preserved c =
@@ -67,9 +36,6 @@ loop-at-preserved c =
             (simp (length-take, length-drop) (omega (arith, l, f))) (row-power c.loop-at.invariant.0),
       ),
     )
-
-pub shape_of-to : goal.shape_of-to
-shape_of-to c = c.loop-at.invariant.1.1.len
 
 pub returns : goal.returns
 returns c = filled-all c.loop-at.invariant.1.1 c.loop-at.invariant.1.0 (omega (arith, c.loop-at-test.false, c.loop-at.invariant.1.1.len))

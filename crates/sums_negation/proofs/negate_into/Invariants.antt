@@ -1,10 +1,6 @@
 use Rattle.lists.specs.Table.{Filled}
 use Rattle.model.specs.Negate.{negated_at}
-use Prim.Native.Nat.{◌≤◌, ◌-◌}
 use Rattle.sums_negation.proofs.negate_into.Given as goal
 
 abbrev pub invariant-loop-i : goal.invariant-loop-i
-invariant-loop-i l = (l.i ≤ l.n) × Filled l.i (negated_at l.a) l.initial.out l.out
-
-abbrev pub decreases-loop-i : goal.decreases-loop-i
-decreases-loop-i l = l.n - l.i
+invariant-loop-i l = Filled l.i (negated_at l.a) l.initial.out l.out

@@ -1,5 +1,5 @@
 use mathlib.Core.Path.{ap, ◌∙◌}
-use Rattle.npy_files.specs.declared.Written.{Written}
+use Rattle.npy_files.specs.Results.{Written}
 use Rattle.taylor.specs.Face.{word_of_written, length_after}
 use Rattle.taylor.proofs.taylor_npy_write.Goals as goal
 

@@ -5,7 +5,6 @@ use mathlib.Core.Path.{◌≡◌, refl}
 use Prim.Native.Nat.{◌+◌, ◌-◌, ◌≤◌}
 use lib.ListN.{length, take, drop, length-take, length-drop}
 use Rattle.lists.specs.Table.{filled_none}
-use Rattle.lists.specs.Fill.{filled-all}
 use Rattle.change.proofs.kernel.drop_parts.Goals as goal
 
 pub loop-at-init : goal.loop-at-init
@@ -29,51 +28,11 @@ slice_bounds-drop_part-end c =
     row_fits c.requires.fact_1 c.loop-at.invariant.0 (omega (arith, c.loop-at-test.true, c.loop-at.invariant.1.1.len)) in
     omega (arith, fits)
 
-pub overflow_add-at : goal.overflow_add-at
-overflow_add-at c =
-    let fits : (c.loop-at.from + c.args.width ≤ length c.args.a.now) × (c.loop-at.at + c.args.step ≤ length c.args.to.now) =
-    row_fits c.requires.fact_1 c.loop-at.invariant.0 (omega (arith, c.loop-at-test.true, c.loop-at.invariant.1.1.len)) in
-    omega (arith, fits)
-
-pub offset_bounds-to-at : goal.offset_bounds-to-at
-offset_bounds-to-at c =
-    let fits : (c.loop-at.from + c.args.width ≤ length c.args.a.now) × (c.loop-at.at + c.args.step ≤ length c.args.to.now) =
-    row_fits c.requires.fact_1 c.loop-at.invariant.0 (omega (arith, c.loop-at-test.true, c.loop-at.invariant.1.1.len)) in
-    omega (arith, fits)
-
 pub slice_bounds-drop_part-end-in-loop-at : goal.slice_bounds-drop_part-end-in-loop-at
 slice_bounds-drop_part-end-in-loop-at c =
     let fits : (c.loop-at.from + c.args.width ≤ length c.args.a.now) × (c.loop-at.at + c.args.step ≤ length c.args.to.now) =
     row_fits c.requires.fact_1 c.loop-at.invariant.0 (omega (arith, c.loop-at-test.true, c.loop-at.invariant.1.1.len)) in
     omega (arith, fits, c.loop-at.invariant.1.1.len)
-
-pub drop_part-requires : goal.drop_part-requires
-drop_part-requires c =
-    let fits : (c.loop-at.from + c.args.width ≤ length c.args.a.now) × (c.loop-at.at + c.args.step ≤ length c.args.to.now) =
-    row_fits c.requires.fact_1 c.loop-at.invariant.0 (omega (arith, c.loop-at-test.true, c.loop-at.invariant.1.1.len)) in
-    let wide_lem : length (take (c.loop-at.from + c.args.width - c.loop-at.from) (drop c.loop-at.from c.args.a.now)) ≡ c.args.width =
-    let f = fits in simp (length-take, length-drop) (omega arith) in
-    let tall : length (take (c.loop-at.at + c.args.step - c.loop-at.at) (drop c.loop-at.at c.loop-at.to)) ≡ c.args.step =
-    let f = fits in let l = c.loop-at.invariant.1.1.len in simp (length-take, length-drop) (omega arith) in
-    rw (wide_lem, tall) c.requires.fact_2
-
-pub overflow_add-from-in-loop-at : goal.overflow_add-from-in-loop-at
-overflow_add-from-in-loop-at c =
-    let fits : (c.loop-at.from + c.args.width ≤ length c.args.a.now) × (c.loop-at.at + c.args.step ≤ length c.args.to.now) =
-    row_fits c.requires.fact_1 c.loop-at.invariant.0 (omega (arith, c.loop-at-test.true, c.loop-at.invariant.1.1.len)) in
-    omega (arith, fits)
-
-pub overflow_add-at-in-loop-at : goal.overflow_add-at-in-loop-at
-overflow_add-at-in-loop-at c =
-    let fits : (c.loop-at.from + c.args.width ≤ length c.args.a.now) × (c.loop-at.at + c.args.step ≤ length c.args.to.now) =
-    row_fits c.requires.fact_1 c.loop-at.invariant.0 (omega (arith, c.loop-at-test.true, c.loop-at.invariant.1.1.len)) in
-    omega (arith, fits)
-
-pub loop-at-smaller : goal.loop-at-smaller
-loop-at-smaller c =
-    let fits : (c.loop-at.from + c.args.width ≤ length c.args.a.now) × (c.loop-at.at + c.args.step ≤ length c.args.to.now) =
-    row_fits c.requires.fact_1 c.loop-at.invariant.0 (omega (arith, c.loop-at-test.true, c.loop-at.invariant.1.1.len)) in
-    omega (arith, fits, c.requires.fact_1.pos)
 
 pub loop-at-preserved : goal.loop-at-preserved
 loop-at-preserved c =
@@ -93,9 +52,3 @@ loop-at-preserved c =
             c.drop_part.ensures (tall)) f.1 es,
       ),
     )
-
-pub shape_of-to : goal.shape_of-to
-shape_of-to c = c.loop-at.invariant.1.1.len
-
-pub returns : goal.returns
-returns c = filled-all c.loop-at.invariant.1.1 c.loop-at.invariant.1.0 (omega (arith, c.loop-at-test.false, c.loop-at.invariant.1.1.len))

@@ -2,56 +2,12 @@ use Rattle.change.specs.Drop.{kept-start, kept-rest}
 use Rattle.product_linear.specs.Raised.{rows_more}
 use Rattle.lists.specs.Fill.{filled-all}
 use native.Mathlib.Omega.{arith}
-use mathlib.Core.Path.{◌≡◌, sym}
+use mathlib.Core.Path.{◌≡◌}
 use mathlib.Core.List.{◌++◌}
 use Prim.Native.Nat.{◌+◌, ◌*◌, ◌-◌}
 use lib.ListN.{length, drop, take, length-take, length-drop, length-append}
 use lib.Seq.{length-take-le}
 use Rattle.change.proofs.kernel.kept_rows.Goals as goal
-
-pub slice_bounds-front_row-end-2 : goal.slice_bounds-front_row-end-2
-slice_bounds-front_row-end-2 c =
-    sym (length-take-le _ c.args.to.now c.requires.0)
-
-pub front_row-next-requires : goal.front_row-next-requires
-front_row-next-requires c =
-    let cut : length (take c.args.s c.args.to.now) ≡ c.args.s =
-    length-take-le c.args.s c.args.to.now c.requires.0 in
-    rw (cut) (omega (arith, c.requires))
-
-pub offset_bounds-a-next : goal.offset_bounds-a-next
-offset_bounds-a-next c =
-    let cut : length (take c.args.s c.args.to.now) ≡ c.args.s =
-    length-take-le c.args.s c.args.to.now c.requires.0 in
-    let next-is : c.front_row-next.result ≡ c.args.m * c.args.s + c.args.s =
-    rw (cut) at c.front_row-next.ensures.places in
-    omega (arith, next-is, c.requires)
-
-pub slice_bounds-copy-count : goal.slice_bounds-copy-count
-slice_bounds-copy-count c =
-    let cut : length (take c.args.s c.args.to.now) ≡ c.args.s =
-    length-take-le c.args.s c.args.to.now c.requires.0 in
-    let next-is : c.front_row-next.result ≡ c.args.m * c.args.s + c.args.s =
-    rw (cut) at c.front_row-next.ensures.places in
-    omega (arith, next-is, c.requires)
-
-pub slice_bounds-copy-start : goal.slice_bounds-copy-start
-slice_bounds-copy-start c =
-    let cut : length (take c.args.s c.args.to.now) ≡ c.args.s =
-    length-take-le c.args.s c.args.to.now c.requires.0 in
-    let next-is : c.front_row-next.result ≡ c.args.m * c.args.s + c.args.s =
-    rw (cut) at c.front_row-next.ensures.places in
-    omega (arith, next-is, c.requires)
-
-pub copy-requires : goal.copy-requires
-copy-requires c =
-    let cut : length (take c.args.s c.args.to.now) ≡ c.args.s =
-    length-take-le c.args.s c.args.to.now c.requires.0 in
-    let next-is : c.front_row-next.result ≡ c.args.m * c.args.s + c.args.s =
-    rw (cut) at c.front_row-next.ensures.places in
-    let whole : length (c.front_row-next.new.to ++ drop c.args.s c.args.to.now) ≡ length c.args.to.now =
-    simp (length-append, length-drop) (omega (arith, c.front_row-next.auto.to, cut)) in
-    let n = next-is in let w = whole in simp (length-take, length-drop) (omega arith)
 
 pub returns : goal.returns
 returns c =

@@ -4,16 +4,7 @@ use mathlib.Core.Path.{refl, ap}
 use mathlib.Core.List.{List}
 use Prim.Native.Nat.{ℕ}
 use Rattle.lists.specs.Four.{at}
-use Rattle.shape_words.specs.Rules.{ruled-at}
-use Rattle.shape_words.specs.Lengths.{lengths_of_lem}
 use Rattle.change.proofs.kernel.shift_rows.Goals as goal
-
-pub strides_of-strides-requires : goal.strides_of-strides-requires
-strides_of-strides-requires c = lengths_of_lem c.requires.rules
-
-pub overflow_add-n : goal.overflow_add-n
-overflow_add-n c =
-    omega (arith, c.requires.below, (ruled-at c.requires.rules c.args.v c.requires.var).most)
 
 pub overflow_mul-l : goal.overflow_mul-l
 overflow_mul-l c =

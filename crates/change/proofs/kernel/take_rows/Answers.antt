@@ -10,7 +10,6 @@ use Rattle.lists.specs.Table.{length-table}
 use Rattle.model.specs.Header.{stored}
 use Rattle.model.specs.Refusals.{zeros, padded}
 use Rattle.model.specs.Poly.{Poly, poly}
-use Rattle.shape_words.specs.Rules.{ruled-at}
 use Rattle.shape_words.specs.Lengths.{lengths_of_lem, count-pos}
 use Rattle.readings_row.specs.Term.{padded-zero, padded-full}
 use Rattle.change.proofs.kernel.take_rows.Goals as goal
@@ -27,13 +26,6 @@ returns-then-l-v c =
           (sym (scaled-past c.args.plain c.args.v c.args.n
           (poly c.args.h c.args.a.now) c.requires.is c.if-l-v.true))));
     }
-
-pub strides_of-strides-requires : goal.strides_of-strides-requires
-strides_of-strides-requires c = lengths_of_lem c.requires.rules
-
-pub first_factor-requires : goal.first_factor-requires
-first_factor-requires c =
-    omega (arith, c.requires.below, (ruled-at c.requires.rules c.args.v c.requires.var).most)
 
 pub overflow_mul-l : goal.overflow_mul-l
 overflow_mul-l c =

@@ -1,9 +1,5 @@
 use Rattle.mending.specs.Lines.{old-more, old-stop, old_end}
-use Rattle.lists.specs.Every.{passing-none}
 use Rattle.mending.proofs.lines.is_old_line.Goals as goal
-
-pub loop-k-init : goal.loop-k-init
-loop-k-init c = passing-none _ _ _
 
 pub returns-then-not-is_digit : goal.returns-then-not-is_digit
 returns-then-not-is_digit c =

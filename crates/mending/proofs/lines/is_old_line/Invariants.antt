@@ -1,4 +1,3 @@
-use Prim.Native.Nat.{◌-◌}
 use Rattle.lists.specs.Every.{Passing}
 use Rattle.model_texts.specs.Hex.{digit_at}
 use Rattle.model_mending.specs.Lines.{low}
@@ -6,6 +5,3 @@ use Rattle.mending.proofs.lines.is_old_line.Given as goal
 
 abbrev pub invariant-loop-k : goal.invariant-loop-k
 invariant-loop-k l = Passing (digit_at (low l.text)) 16 l.at l.k
-
-abbrev pub decreases-loop-k : goal.decreases-loop-k
-decreases-loop-k l = 16 - l.k

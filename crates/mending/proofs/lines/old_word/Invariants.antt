@@ -1,10 +1,6 @@
-use Prim.Native.Nat.{◌-◌, ◌+◌}
 use Rattle.sheet_text.specs.Lines.{Taking}
 use Rattle.model_mending.specs.Lines.{low}
 use Rattle.mending.proofs.lines.old_word.Given as goal
 
 abbrev pub invariant-loop-k : goal.invariant-loop-k
 invariant-loop-k l = Taking (low l.text) l.at l.k l.word
-
-abbrev pub decreases-loop-k : goal.decreases-loop-k
-decreases-loop-k l = l.at + 16 - l.k

@@ -3,7 +3,7 @@ use native.Mathlib.Omega.{arith}
 use Rattle.sheet_text.specs.Put.{put-len}
 use Rattle.model_texts.specs.Hex.{hex_line}
 use Rattle.mending.specs.Lines.{going-small, end-most}
-use Rattle.mending.specs.Changes.{printing-none, printing-more, printing_end, word-is, sheet-length}
+use Rattle.mending.specs.Changes.{printing-none, printing-more, word-is, sheet-length}
 use Rattle.mending.proofs.print.put_sheet.Goals as goal
 
 pub loop-k-init : goal.loop-k-init
@@ -41,9 +41,3 @@ loop-k-preserved c =
     printing-more c.loop-k.invariant c.loop-k-test.true c.line_end-from.ensures (ap hex_line (word-is
     c.args.inputs c.args.count c.loop-k.invariant.going c.old_word.ensures
     c.mended_word.ensures)) c.put_line-next.ensures
-
-pub shape_of-to : goal.shape_of-to
-shape_of-to c = put-len c.loop-k.invariant.put
-
-pub returns : goal.returns
-returns c = printing_end c.loop-k.invariant c.loop-k-test.false

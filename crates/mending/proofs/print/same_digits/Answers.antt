@@ -1,10 +1,7 @@
 use mathlib.Core.Path.{sym}
-use Rattle.lists.specs.Every.{passing-none, passing_end}
+use Rattle.lists.specs.Every.{passing_end}
 use Rattle.mending.specs.Changes.{same_stop, same_more}
 use Rattle.mending.proofs.print.same_digits.Goals as goal
-
-pub loop-k-init : goal.loop-k-init
-loop-k-init c = passing-none _ _ _
 
 pub returns-then-byte_at-line_byte : goal.returns-then-byte_at-line_byte
 returns-then-byte_at-line_byte c =

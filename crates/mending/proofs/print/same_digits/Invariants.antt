@@ -1,4 +1,4 @@
-use Prim.Native.Nat.{◌-◌, ◌+◌}
+use Prim.Native.Nat.{◌+◌}
 use lib.Dec.{eqb}
 use Rattle.lists.specs.Every.{Passing}
 use Rattle.model_texts.specs.Hex.{byte_at, hex_digit}
@@ -6,6 +6,3 @@ use Rattle.mending.proofs.print.same_digits.Given as goal
 
 abbrev pub invariant-loop-k : goal.invariant-loop-k
 invariant-loop-k l = Passing (λ j. eqb (byte_at l.text (l.at + j)) (hex_digit l.word j)) 16 0 l.k
-
-abbrev pub decreases-loop-k : goal.decreases-loop-k
-decreases-loop-k l = 16 - l.k

@@ -2,7 +2,7 @@ use borrow.Author.Tests.{not-true, not-false}
 use mathlib.Core.Path.{ap}
 use Rattle.model_recipes.specs.declared.Step.{Step}
 use Rattle.recipes_kinds.specs.Known.{small-kind}
-use Rattle.mending.specs.Words.{step-ready, step-refused, step_used}
+use Rattle.mending.specs.Words.{used_is, step-ready, step-refused, step_used}
 use Rattle.mending.proofs.words.mended_step.Goals as goal
 
 pub uses_of-u-requires : goal.uses_of-u-requires
@@ -14,11 +14,15 @@ returns-then-not-u c =
 
 pub pack-requires : goal.pack-requires
 pack-requires c =
-    step-ready _ c.step_of-s.ensures c.uses_of-u.ensures c.if_used.ensures
-    c.if_used-2.ensures c.if_used-3.ensures c.number_if_used.ensures
+    step-ready _ c.step_of-s.ensures c.uses_of-u.ensures (used_is c.uses_of-u.result.a _ _ c.if_used.ensures)
+    (used_is c.uses_of-u.result.b _ _ c.if_used-2.ensures)
+    (used_is c.uses_of-u.result.variable _ _ c.if_used-3.ensures)
+    (used_is c.uses_of-u.result.n _ _ c.if_used-4.ensures)
 
 pub returns : goal.returns
 returns c =
-    step_used _ c.step_of-s.ensures c.uses_of-u.ensures c.if_used.ensures c.if_used-2.ensures
-    c.if_used-3.ensures c.number_if_used.ensures (not-false _ c.if-not-u.false)
+    step_used _ c.step_of-s.ensures c.uses_of-u.ensures (used_is c.uses_of-u.result.a _ _ c.if_used.ensures)
+    (used_is c.uses_of-u.result.b _ _ c.if_used-2.ensures)
+    (used_is c.uses_of-u.result.variable _ _ c.if_used-3.ensures)
+    (used_is c.uses_of-u.result.n _ _ c.if_used-4.ensures) (not-false _ c.if-not-u.false)
     c.pack.ensures

@@ -22,10 +22,6 @@ times_to-b-requires c =
       fact_2 = omega arith;
     }
 
-pub loop-left-smaller : goal.loop-left-smaller
-loop-left-smaller c =
-    omega (arith, c.loop-left-test.true)
-
 pub loop-left-preserved : goal.loop-left-preserved
 loop-left-preserved c = (
   turn-next c.requires.fact_1 c.requires.fact_2 c.loop-left.invariant.0 (simp length-set) c.loop-left-test.true

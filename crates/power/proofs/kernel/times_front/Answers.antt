@@ -1,17 +1,11 @@
 use native.Mathlib.Omega.{arith}
 use mathlib.Core.Path.{refl}
-use Rattle.power.specs.Kept.{step-lens, step-ends, step_room, step-made}
+use Rattle.power.specs.Kept.{step-ends, step_room}
 use Rattle.power.proofs.kernel.times_front.Goals as goal
-
-pub count_of-requires : goal.count_of-requires
-count_of-requires c = (step-lens c.requires).0
 
 pub overflow_add-ea : goal.overflow_add-ea
 overflow_add-ea c =
     omega (arith, (step-ends c.requires c.args.work.now refl c.count_of.ensures refl).0)
-
-pub count_of-requires-2 : goal.count_of-requires-2
-count_of-requires-2 c = (step-lens c.requires).1
 
 pub overflow_add-eb : goal.overflow_add-eb
 overflow_add-eb c =
@@ -20,9 +14,3 @@ overflow_add-eb c =
 pub times-requires : goal.times-requires
 times-requires c =
     step_room c.requires c.args.work.now refl c.count_of.ensures c.count_of-2.ensures
-
-pub returns : goal.returns
-returns c =
-    step-made c.requires c.args.work.now refl c.count_of.ensures
-    c.count_of-2.ensures
-    c.times.ensures

@@ -1,4 +1,4 @@
-use Rattle.std.proofs.Common.{◌≡◌, ◌+◌, ◌*◌, ◌≤◌, length, refl, ◌∙◌, arith}
+use Rattle.std.proofs.Common.{sym, ◌≡◌, ◌+◌, ◌*◌, ◌≤◌, length, refl, ◌∙◌, arith}
 use lib.ListN.{set}
 use Rattle.lists.specs.Part.{part}
 use Rattle.model.specs.Poly.{block}
@@ -6,6 +6,8 @@ use Rattle.model.specs.Product.{grown}
 use Rattle.product.specs.Line.{room-full, room-lens, room-plain, room-four, room_five, made-four, made_five}
 use Rattle.product.specs.Line.{made_plain, line-within, line-raises, line-none, First, up-shape, up-lens}
 use Rattle.product.specs.Line.{up-wide, Second, line-room, lens-k, small-k, len3, line_joins, line_made}
+use Rattle.product.specs.Chosen.{by_number}
+use Rattle.product.specs.declared.kernel.Way.TheVariants.{LineRight, LineLeft}
 use Rattle.product.proofs.kernel.+linear_product_product.Goals as goal
 
 pub linear_product-offset_bounds-work-p : goal.linear_product-offset_bounds-work-p
@@ -206,32 +208,40 @@ product-choose-w-requires t c = record {
   fact_4 = (room-full c.requires).1;
 }
 
-pub product-linear_product-requires : goal.product-linear_product-requires
-product-linear_product-requires t c = (omega (arith, c.decreases), room-four c.requires c.choose-w.result c.choose-w.ensures c.if-kind-eq4.true)
-
-pub product-returns-then-kind-eq4 : goal.product-returns-then-kind-eq4
-product-returns-then-kind-eq4 t c =
-    made-four c.args.limits c.args.stage
-    (block c.args.la (part c.args.pa c.args.ea c.args.work.now))
-    (block c.args.lb (part c.args.pb c.args.eb c.args.work.now))
-    c.choose-w.result c.choose-w.ensures c.if-kind-eq4.true c.linear_product.ensures
-
-pub product-linear_product-requires-then-kind-eq5 : goal.product-linear_product-requires-then-kind-eq5
-product-linear_product-requires-then-kind-eq5 t c = (omega (arith, c.decreases), room_five c.requires c.choose-w.result c.choose-w.ensures c.if-kind-eq5.true)
-
-pub product-returns-then-kind-eq5 : goal.product-returns-then-kind-eq5
-product-returns-then-kind-eq5 t c =
-    made_five c.args.limits c.args.stage
-    (block c.args.la (part c.args.pa c.args.ea c.args.work.now))
-    (block c.args.lb (part c.args.pb c.args.eb c.args.work.now))
-    c.choose-w.result c.choose-w.ensures c.if-kind-eq5.true c.linear_product-then-kind-eq5.ensures
-
 pub product-plain-requires : goal.product-plain-requires
 product-plain-requires t c = room-plain c.requires
 
-pub product-returns : goal.product-returns
-product-returns t c =
+pub product-linear_product-requires : goal.product-linear_product-requires
+product-linear_product-requires t c = (
+  omega (arith, c.decreases),
+  room-four c.requires (LineRight c.in-LineRight.line) (sym c.in-LineRight.is ∙ c.choose-w.ensures) refl,
+)
+
+pub product-linear_product-requires-in-LineLeft : goal.product-linear_product-requires-in-LineLeft
+product-linear_product-requires-in-LineLeft t c = (
+  omega (arith, c.decreases),
+  room_five c.requires (LineLeft c.in-LineLeft.line) (sym c.in-LineLeft.is ∙ c.choose-w.ensures) refl,
+)
+
+pub product-returns-in-LineRight : goal.product-returns-in-LineRight
+product-returns-in-LineRight t c =
+    made-four c.args.limits c.args.stage
+    (block c.args.la (part c.args.pa c.args.ea c.args.work.now))
+    (block c.args.lb (part c.args.pb c.args.eb c.args.work.now))
+    (LineRight c.in-LineRight.line) (sym c.in-LineRight.is ∙ c.choose-w.ensures) refl c.linear_product.ensures
+
+pub product-returns-in-LineLeft : goal.product-returns-in-LineLeft
+product-returns-in-LineLeft t c =
+    made_five c.args.limits c.args.stage
+    (block c.args.la (part c.args.pa c.args.ea c.args.work.now))
+    (block c.args.lb (part c.args.pb c.args.eb c.args.work.now))
+    (LineLeft c.in-LineLeft.line) (sym c.in-LineLeft.is ∙ c.choose-w.ensures) refl c.linear_product-in-LineLeft.ensures
+
+pub product-returns-in_default : goal.product-returns-in_default
+product-returns-in_default t c =
     made_plain c.args.limits c.args.stage
     (block c.args.la (part c.args.pa c.args.ea c.args.work.now))
     (block c.args.lb (part c.args.pb c.args.eb c.args.work.now))
-    c.choose-w.result c.choose-w.ensures c.if-kind-eq4.false c.if-kind-eq5.false c.plain.ensures refl
+    c.choose-w.result c.choose-w.ensures
+    (λ z. c.in_default.not-LineRight _ (by_number _ z))
+    (λ z. c.in_default.not-LineLeft _ (by_number _ z)) c.plain.ensures refl

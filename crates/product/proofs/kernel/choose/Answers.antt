@@ -18,14 +18,14 @@ pub returns-then-ca-x : goal.returns-then-ca-x
 returns-then-ca-x c =
     rw (choose-is c.args.stage (block c.args.la c.args.a.now)
     (block c.args.lb c.args.b.now) (length c.args.a.now) (length c.args.b.now)
-    c.requires.fact_3 c.requires.fact_4) (simp (c.none-none.ensures, c.if-ca-x.true))
+    c.requires.fact_3 c.requires.fact_4) (simp c.if-ca-x.true)
 
 pub returns-then-cb-y : goal.returns-then-cb-y
 returns-then-cb-y c =
     rw (choose-is c.args.stage (block c.args.la c.args.a.now)
     (block c.args.lb c.args.b.now) (length c.args.a.now) (length c.args.b.now)
     c.requires.fact_3 c.requires.fact_4)
-    (simp (c.none-none.ensures, c.if-ca-x.false, c.if-cb-y.true))
+    (simp (c.if-ca-x.false, c.if-cb-y.true))
 
 pub returns-then-ca : goal.returns-then-ca
 returns-then-ca c =
@@ -36,7 +36,7 @@ returns-then-ca c =
       c.if-ca-x.false,
       c.if-cb-y.false,
       c.if-ca.true,
-    ) (rw c.just.ensures)
+    )
 
 pub returns-then-cb : goal.returns-then-cb
 returns-then-cb c =
@@ -48,7 +48,7 @@ returns-then-cb c =
       c.if-cb-y.false,
       ne_eqb _ _ c.if-ca.false,
       c.if-cb.true,
-    ) (rw c.just-then-cb.ensures)
+    )
 
 pub returns-then-stage-eq0 : goal.returns-then-stage-eq0
 returns-then-stage-eq0 c =
@@ -56,7 +56,6 @@ returns-then-stage-eq0 c =
     (block c.args.lb c.args.b.now) (length c.args.a.now) (length c.args.b.now)
     c.requires.fact_3 c.requires.fact_4)
     (simp (
-      c.none-none.ensures,
       ne_eqb _ _ c.if-ca.false,
       ne_eqb _ _ c.if-cb.false,
       eq-eqb _ _ c.if-stage-eq0.true,

@@ -27,4 +27,4 @@ returns c =
     ∙ c.if-f.false in
     let z : (linear (block c.args.lb c.args.b.now)).yes ≡ false =
     sym (ap (λ (l : Linear). l.yes) c.linear_of-g.ensures) ∙ c.if-g.false in
-    simp (y, z, c.none.ensures)
+    simp (y, z)

@@ -1,78 +1,48 @@
-use mathlib.Core.Path.{refl, sym, ◌∙◌}
-use lib.Seq.{length-take-le}
+use mathlib.Core.Path.{refl}
 use Rattle.model.specs.Poly.{block}
-use Rattle.product.specs.Ways.{put_same, put_front_lem, plain_0, plain_1, plain_2, plain_3, plain_6, plain-lens}
-use Rattle.product.specs.Ways.{plain-room-a, plain-room-b, plain-whole, plain_fits, plain-general}
+use Rattle.model.specs.Refusals.{zero_f}
+use Rattle.product.specs.Chosen.{kind_of, line_of, by_number}
+use Rattle.product.specs.Ways.{put_same, plain_0, plain_1, plain_2, plain_3, plain_6}
+use Rattle.product.specs.Ways.{plain-room-a, plain-room-b}
 use Rattle.product.proofs.kernel.plain.Goals as goal
 
 pub copied-requires : goal.copied-requires
 copied-requires c = plain-room-b c.requires
 
-pub returns-then-kind-eq0 : goal.returns-then-kind-eq0
-returns-then-kind-eq0 c =
-    put_same (plain_0 c.args.limits c.args.c (block c.args.la c.args.a.now)
-    (block c.args.lb c.args.b.now) c.args.kind
-    c.if-kind-eq0.true) c.copied.ensures
+pub copied-requires-in-Left : goal.copied-requires-in-Left
+copied-requires-in-Left c = plain-room-a c.requires
 
-pub copied-requires-then-kind-eq1 : goal.copied-requires-then-kind-eq1
-copied-requires-then-kind-eq1 c = plain-room-a c.requires
+pub scaled_to-requires-clause-fact_2 : goal.scaled_to-requires-clause-fact_2
+scaled_to-requires-clause-fact_2 c = plain-room-b c.requires
 
-pub returns-then-kind-eq1 : goal.returns-then-kind-eq1
-returns-then-kind-eq1 c =
-    put_same (plain_1 c.args.limits c.args.c (block c.args.la c.args.a.now)
-    (block c.args.lb c.args.b.now) c.args.kind
-    c.if-kind-eq1.true) c.copied-then-kind-eq1.ensures
+pub scaled_to-requires-in-ScaledLeft-clause-fact_2 : goal.scaled_to-requires-in-ScaledLeft-clause-fact_2
+scaled_to-requires-in-ScaledLeft-clause-fact_2 c = plain-room-a c.requires
 
-pub scaled_to-requires : goal.scaled_to-requires
-scaled_to-requires c =
-    record { fact_1 = c.requires.full_b; fact_2 = plain-room-b c.requires }
+pub returns-in-Right : goal.returns-in-Right
+returns-in-Right c =
+    rw c.in-Right.is
+    (put_same (plain_0 c.args.limits zero_f (block c.args.la c.args.a.now) (block c.args.lb c.args.b.now) 0 refl) c.copied.ensures)
 
-pub returns-then-kind-eq2 : goal.returns-then-kind-eq2
-returns-then-kind-eq2 c =
-    put_same (plain_2 c.args.limits c.args.c (block c.args.la c.args.a.now)
-    (block c.args.lb c.args.b.now) c.args.kind
-    c.if-kind-eq2.true) c.scaled_to.ensures
+pub returns-in-Left : goal.returns-in-Left
+returns-in-Left c =
+    rw c.in-Left.is
+    (put_same (plain_1 c.args.limits zero_f (block c.args.la c.args.a.now) (block c.args.lb c.args.b.now) 1 refl) c.copied-in-Left.ensures)
 
-pub scaled_to-requires-then-kind-eq3 : goal.scaled_to-requires-then-kind-eq3
-scaled_to-requires-then-kind-eq3 c =
-    record { fact_1 = c.requires.full_a; fact_2 = plain-room-a c.requires }
+pub returns-in-ScaledRight : goal.returns-in-ScaledRight
+returns-in-ScaledRight c =
+    rw c.in-ScaledRight.is
+    (put_same (plain_2 c.args.limits c.in-ScaledRight.c (block c.args.la c.args.a.now) (block c.args.lb c.args.b.now) 2 refl) c.scaled_to.ensures)
 
-pub returns-then-kind-eq3 : goal.returns-then-kind-eq3
-returns-then-kind-eq3 c =
-    put_same (plain_3 c.args.limits c.args.c (block c.args.la c.args.a.now)
-    (block c.args.lb c.args.b.now) c.args.kind
-    c.if-kind-eq3.true) c.scaled_to-then-kind-eq3.ensures
+pub returns-in-ScaledLeft : goal.returns-in-ScaledLeft
+returns-in-ScaledLeft c =
+    rw c.in-ScaledLeft.is
+    (put_same (plain_3 c.args.limits c.in-ScaledLeft.c (block c.args.la c.args.a.now) (block c.args.lb c.args.b.now) 3 refl) c.scaled_to-in-ScaledLeft.ensures)
 
-pub sum_shape-r-requires : goal.sum_shape-r-requires
-sum_shape-r-requires c = let whole = plain-lens c.requires in record { fact_1 = whole.0; fact_2 = whole.1 }
-
-pub count_of-z-requires : goal.count_of-z-requires
-count_of-z-requires c =
-    plain-whole c.requires c.sum_shape-r.ensures
-
-pub slice_bounds-general-end : goal.slice_bounds-general-end
-slice_bounds-general-end c =
-    plain_fits c.requires c.sum_shape-r.ensures c.count_of-z.ensures
-
-pub slice_bounds-general-end-2 : goal.slice_bounds-general-end-2
-slice_bounds-general-end-2 c =
-    sym (length-take-le _ c.args.out.now (plain_fits c.requires c.sum_shape-r.ensures c.count_of-z.ensures))
-
-pub general-requires : goal.general-requires
-general-requires c =
-    plain-general c.requires c.sum_shape-r.ensures
-    (length-take-le _ c.args.out.now
-    (plain_fits c.requires c.sum_shape-r.ensures c.count_of-z.ensures)
-    ∙ c.count_of-z.ensures)
-
-pub returns : goal.returns
-returns c =
-    put_same (plain_6 c.args.limits c.args.c (block c.args.la c.args.a.now)
-    (block c.args.lb c.args.b.now) c.args.kind c.if-kind-eq0.false c.if-kind-eq1.false
-    c.if-kind-eq2.false
-    c.if-kind-eq3.false)
-    (put_front_lem {xs = c.general.new.out} c.count_of-z.result
-    c.sum_shape-r.ensures (rw (← c.sum_shape-r.ensures) c.general.ensures)
-    (c.general.auto.out
-    ∙ length-take-le c.count_of-z.result c.args.out.now
-    (plain_fits c.requires c.sum_shape-r.ensures c.count_of-z.ensures)) refl)
+pub returns-in_default : goal.returns-in_default
+returns-in_default c =
+    let w = c.args.way in
+    let others = c.in_default in
+    put_same (plain_6 c.args.limits (line_of w).c (block c.args.la c.args.a.now) (block c.args.lb c.args.b.now) (kind_of w)
+    (λ z. others.not-Right (by_number w z)) (λ z. others.not-Left (by_number w z))
+    (λ z. others.not-ScaledRight _ (by_number w z)) (λ z. others.not-ScaledLeft _ (by_number w z)))
+    c.general_to.ensures

@@ -44,6 +44,7 @@ short_into-requires c =
           lengths_of_lem {h = c.header_of-x.result} (rw c.header_of-x.ensures c.requires.good.regular.rules);
       full = length-take-le _ _ (omega (arith, counted, c.requires.full)) ∙ c.stored_of-n.ensures;
       room = length-take-le _ _ (omega (arith, counted, c.requires.lent)) ∙ c.stored_of-n.ensures;
+      kind = c.requires.kind;
       var = c.requires.var;
     }
 

@@ -4,7 +4,7 @@ use lib.Seq.{length-take-le}
 use Rattle.product.proofs.own.short_way.Goals as goal
 
 pub returns-then-n-eq0 : goal.returns-then-n-eq0
-returns-then-n-eq0 c = c.long_way.ensures ∙ short_none _ _ _ _ _ _ c.own_count-n.ensures c.if-n-eq0.true
+returns-then-n-eq0 c = short_none _ _ _ _ _ _ c.own_count-n.ensures c.if-n-eq0.true
 
 pub stored_of-m-requires : goal.stored_of-m-requires
 stored_of-m-requires c =

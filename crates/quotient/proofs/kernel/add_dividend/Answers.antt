@@ -52,10 +52,6 @@ join_block-requires c =
     (omega (arith, c.if-lx-k.false)) c.count_of.ensures
     (simp (length-take, length-drop) (omega arith)) refl
 
-pub shape_of-row : goal.shape_of-row
-shape_of-row c =
-    ap length c.join_block.ensures ∙ (length-table _ _ ∙ (row_count c.args.r ∙ sym c.requires.row))
-
 pub returns : goal.returns
 returns c =
     row_added c.args.xs.now c.requires

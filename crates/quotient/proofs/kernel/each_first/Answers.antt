@@ -18,7 +18,6 @@ overflow_add-end c = omega (arith, level-top c.requires.fact_1 c.requires.fact_3
 
 pub loop-k-init : goal.loop-k-init
 loop-k-init c = (
-  omega arith,
   refl,
   firsts-none c.requires.fact_1 c.requires.fact_2 c.args.work.now c.requires.fact_3,
 )
@@ -52,7 +51,7 @@ slice_bounds-gather_first-end c =
     let room : Room c.args.ly c.args.r 0 c.args.p (c.args.p + count c.args.r)
     c.args.q c.args.b c.args.f (length c.loop-k.work)
     (length c.loop-k.row) =
-    rw (c.loop-k.invariant.1, c.loop-k.invariant.2.len) c.requires.fact_3 in
+    rw (c.loop-k.invariant.0, c.loop-k.invariant.1.len) c.requires.fact_3 in
     let fits : at c.args.sr 0 ≤ length c.loop-k.row =
     level-row c.requires.fact_1 (room) in
     fits
@@ -62,7 +61,7 @@ slice_bounds-gather_first-end-in-loop-k c =
     let room : Room c.args.ly c.args.r 0 c.args.p (c.args.p + count c.args.r)
     c.args.q c.args.b c.args.f (length c.loop-k.work)
     (length c.loop-k.row) =
-    rw (c.loop-k.invariant.1, c.loop-k.invariant.2.len) c.requires.fact_3 in
+    rw (c.loop-k.invariant.0, c.loop-k.invariant.1.len) c.requires.fact_3 in
     let fits : at c.args.sr 0 ≤ length c.loop-k.row =
     level-row c.requires.fact_1 (room) in
     sym (length-take-le _ _ (fits))
@@ -72,7 +71,7 @@ gather_first-requires c =
     let room : Room c.args.ly c.args.r 0 c.args.p (c.args.p + count c.args.r)
     c.args.q c.args.b c.args.f (length c.loop-k.work)
     (length c.loop-k.row) =
-    rw (c.loop-k.invariant.1, c.loop-k.invariant.2.len) c.requires.fact_3 in
+    rw (c.loop-k.invariant.0, c.loop-k.invariant.1.len) c.requires.fact_3 in
     let fits : at c.args.sr 0 ≤ length c.loop-k.row =
     level-row c.requires.fact_1 (room) in
     record {
@@ -87,59 +86,44 @@ level-requires c =
     let room : Room c.args.ly c.args.r 0 c.args.p (c.args.p + count c.args.r)
     c.args.q c.args.b c.args.f (length c.loop-k.work)
     (length c.loop-k.row) =
-    rw (c.loop-k.invariant.1, c.loop-k.invariant.2.len) c.requires.fact_3 in
+    rw (c.loop-k.invariant.0, c.loop-k.invariant.1.len) c.requires.fact_3 in
     let fits : at c.args.sr 0 ≤ length c.loop-k.row =
     level-row c.requires.fact_1 (room) in
     let kept : length (c.gather_first.new.row
     ++ drop (at c.args.sr 0) c.loop-k.row)
     ≡ length c.args.row.now =
     let n = c.gather_first.auto.row ∙ length-take-le _ _ (fits) in
-    simp (length-append, length-drop) (omega (arith, n, fits, c.loop-k.invariant.1)) in
+    simp (length-append, length-drop) (omega (arith, n, fits, c.loop-k.invariant.0)) in
     let room2 : Room c.args.ly c.args.r 0 c.args.p (c.args.p + count c.args.r)
     c.args.q c.args.b c.args.f (length c.gather_first.new.work)
     (length (c.gather_first.new.row
     ++ drop (at c.args.sr 0) c.loop-k.row)) =
-    rw (kept, c.gather_first.ensures.laid.len, c.loop-k.invariant.2.len)
+    rw (kept, c.gather_first.ensures.laid.len, c.loop-k.invariant.1.len)
     c.requires.fact_3 in
     (c.requires.fact_1, first_next_lem c.requires.fact_1 (room2) c.loop-k-test.true refl)
-
-pub overflow_add-k : goal.overflow_add-k
-overflow_add-k c =
-    omega (arith, row_small c.requires.fact_1.strided.result (omega arith) c.loop-k-test.true)
-
-pub loop-k-smaller : goal.loop-k-smaller
-loop-k-smaller c =
-    omega (arith, c.loop-k-test.true)
 
 pub loop-k-preserved : goal.loop-k-preserved
 loop-k-preserved c =
     let room : Room c.args.ly c.args.r 0 c.args.p (c.args.p + count c.args.r)
     c.args.q c.args.b c.args.f (length c.loop-k.work)
     (length c.loop-k.row) =
-    rw (c.loop-k.invariant.1, c.loop-k.invariant.2.len) c.requires.fact_3 in
+    rw (c.loop-k.invariant.0, c.loop-k.invariant.1.len) c.requires.fact_3 in
     let fits : at c.args.sr 0 ≤ length c.loop-k.row =
     level-row c.requires.fact_1 (room) in
     let kept : length (c.gather_first.new.row
     ++ drop (at c.args.sr 0) c.loop-k.row)
     ≡ length c.args.row.now =
     let n = c.gather_first.auto.row ∙ length-take-le _ _ (fits) in
-    simp (length-append, length-drop) (omega (arith, n, fits, c.loop-k.invariant.1)) in (
-      omega (arith, c.loop-k-test.true),
+    simp (length-append, length-drop) (omega (arith, n, fits, c.loop-k.invariant.0)) in (
       c.level.auto.row
           ∙ kept,
       firsts_more c.requires.fact_1 c.requires.fact_2 c.args.work.now c.requires.fact_3 c.loop-k-test.true
-          c.loop-k.invariant.2 c.gather_first.ensures.laid c.level.ensures.laid,
+          c.loop-k.invariant.1 c.gather_first.ensures.laid c.level.ensures.laid,
     )
-
-pub shape_of-work : goal.shape_of-work
-shape_of-work c = c.loop-k.invariant.2.len
-
-pub shape_of-row : goal.shape_of-row
-shape_of-row c = c.loop-k.invariant.1
 
 pub returns : goal.returns
 returns c = record {
   laid = firsts-all c.requires.fact_1 c.requires.fact_2 c.args.work.now c.requires.fact_3
-      (omega (arith, c.loop-k.invariant.0, c.loop-k-test.false)) c.loop-k.invariant.2;
+      (omega arith) c.loop-k.invariant.1;
   spent = search rules;
 }

@@ -1,14 +1,9 @@
 use mathlib.Core.Path.{◌≡◌}
-use Prim.Native.Nat.{◌-◌, ◌≤◌}
 use lib.ListN.{length}
-use Rattle.lists.specs.Four.{at}
 use Rattle.quotient_lessening.specs.Laid.{Laid}
 use Rattle.quotient.specs.Firsts.{firsts_laid}
 use Rattle.quotient.proofs.kernel.each_first.Given as goal
 
 abbrev pub invariant-loop-k : goal.invariant-loop-k
-invariant-loop-k l = (l.k ≤ at l.r 0) × (length l.row ≡ length l.initial.row) × Laid l.q (firsts_laid l.lx l.nx l.ly l.r l.b l.f
+invariant-loop-k l = (length l.row ≡ length l.initial.row) × Laid l.q (firsts_laid l.lx l.nx l.ly l.r l.b l.f
     l.initial.work l.k) l.p l.initial.work l.work
-
-abbrev pub decreases-loop-k : goal.decreases-loop-k
-decreases-loop-k l = l.n - l.k

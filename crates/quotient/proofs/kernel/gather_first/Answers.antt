@@ -114,11 +114,6 @@ copy-requires c =
     ∙ (c.turn.auto.to ∙ (c.taken_row.auto.row ∙ c.requires.fact_3.row)) in
     simp (length-take, length-drop) (omega (arith, n))
 
-pub shape_of-row : goal.shape_of-row
-shape_of-row c =
-    c.add_dividend.auto.row
-    ∙ (c.turn.auto.to ∙ c.taken_row.auto.row)
-
 pub returns : goal.returns
 returns c = record {
   laid = let m = c.requires.fact_3.room in

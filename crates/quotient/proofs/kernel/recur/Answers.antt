@@ -48,14 +48,6 @@ copy-requires c =
     let m = c.each_first.auto.row in
     simp (length-take, length-drop) (omega (arith, c.requires.work, c.requires.out))
 
-pub shape_of-work : goal.shape_of-work
-shape_of-work c =
-    c.each_first.ensures.laid.len
-
-pub shape_of-out : goal.shape_of-out
-shape_of-out c =
-    c.copy.auto.to ∙ c.each_first.auto.row
-
 pub returns : goal.returns
 returns c = record {
   out_after = recur-is c.requires _ _ refl c.each_first.ensures.laid c.each_first.auto.row

@@ -1,7 +1,7 @@
 use native.Mathlib.Omega.{arith}
 use mathlib.Core.Path.{◌≡◌, sym, ap, ◌∙◌}
 use mathlib.Core.List.{◌++◌}
-use Prim.Native.Nat.{ℕ, ◌+◌, ◌*◌, ◌≤◌}
+use Prim.Native.Nat.{ℕ, ◌*◌, ◌≤◌}
 use lib.ListN.{length, drop, length-append, length-take}
 use lib.Seq.{length-take-le}
 use Rattle.model.specs.declared.Refusal.{Refusal}
@@ -159,18 +159,16 @@ returns-then-made-steps c =
     c.args.steps.now)) c.place.new.starts =
     rw (run-passed c.requires.fact_1).part at c.place.ensures in
     record {
-      stop = c.at.ensures ∙ sym (c.run_steps-made.ensures.made.stop c.if-made-steps.true);
-      values = λ z. absurd (omega (
-        arith,
-        z,
-        ap (λ (x : Refusal). x.number)
-            c.at.ensures,
-      ));
-      words = λ z. absurd (omega (arith, z, ap (λ (x : Refusal). x.number) c.at.ensures));
-      no_values = λ n. pool_end (total (announced_steps
+      stop = record {
+        some = λ z. omega (arith, z, ap (λ (x : Refusal). x.number) c.at.ensures);
+        holds = c.at.ensures ∙ sym (c.run_steps-made.ensures.made.stop c.if-made-steps.true);
+      };
+      values = tt;
+      words = tt;
+      no_values = pool_end (total (announced_steps
           (recipe_of c.args.edition c.args.headers.now c.args.steps.now))) c.args.pool.now
           c.run_steps-made.new.pool (total-is) c.run_steps-made.ensures.behind c.leave_zeros.ensures.values;
-      no_words = λ n. c.leave_zeros.ensures.words;
+      no_words = c.leave_zeros.ensures.words;
       cleared = scratch_end (largest (announced_steps (recipe_of c.args.edition c.args.headers.now
           c.args.steps.now))) c.args.scratch.now c.run_steps-made.new.scratch (ap (λ
           (k : ℕ). 8 * k) (most_is))
@@ -206,9 +204,9 @@ returns c =
     c.args.steps.now)) c.place.new.starts =
     rw (run-passed c.requires.fact_1).part at c.place.ensures in
     record {
-      stop = c.none.ensures ∙ sym (c.run_steps-made.ensures.made.whole (omega (arith, c.run_steps-made.ensures.made.most, c.if-made-steps.false)));
-      values = λ z. c.run_steps-made.ensures.values (omega (arith, c.run_steps-made.ensures.made.most, c.if-made-steps.false));
-      words = λ z. words_end (length
+      stop = sym (c.run_steps-made.ensures.made.whole (omega (arith, c.run_steps-made.ensures.made.most, c.if-made-steps.false)));
+      values = c.run_steps-made.ensures.values (omega (arith, c.run_steps-made.ensures.made.most, c.if-made-steps.false));
+      words = words_end (length
           c.args.headers.now) (length c.args.steps.now) c.run_steps-made.new.known _ c.args.words.now
           (c.run_steps-made.ensures.words (omega (arith, c.run_steps-made.ensures.made.most, c.if-made-steps.false))) (omega (
             arith,
@@ -217,9 +215,8 @@ returns c =
             c.requires.fact_1.many,
             c.run_steps-made.auto.known,
           )) c.note_inputs.ensures;
-      no_values = λ n. absurd
-          (n (ap (λ (x : Refusal). x.number) c.none.ensures));
-      no_words = λ n. absurd (n (ap (λ (x : Refusal). x.number) c.none.ensures));
+      no_values = tt;
+      no_words = tt;
       cleared = scratch_end
           (largest (announced_steps (recipe_of c.args.edition c.args.headers.now c.args.steps.now)))
           c.args.scratch.now

@@ -1,7 +1,6 @@
 use native.Mathlib.Omega.{arith}
 use mathlib.Core.Path.{◌≡◌, refl, sym, ap, ◌∙◌}
-use Prim.Native.Nat.{◌-◌}
-use lib.ListN.{get_or, take}
+use lib.ListN.{get_or, length, take}
 use lib.Seq.{length-take-le}
 use Rattle.model.specs.Header.{stored}
 use Rattle.model_recipes.specs.Recipe.{recipe_of, announced_step, announced_places}
@@ -87,8 +86,8 @@ stored_of-room-requires c =
     rw c.header_of.ensures (room_ruled c.requires.fact_1 (running-from c.requires.fact_1 c.loop-i.invariant.0 c.loop-i-test.true)
     c.loop-i-test.true)
 
-pub step_word-word-requires : goal.step_word-word-requires
-step_word-word-requires c =
+pub step_word-requires : goal.step_word-requires
+step_word-requires c =
     let counted : c.stored_of-room.result ≡ stored (announced_step c.args.edition (get_or c.args.steps.now c.loop-i.i 0) (announced_places (recipe_of
     c.args.edition c.args.headers.now (take c.loop-i.i c.args.steps.now)))) =
     c.stored_of-room.ensures ∙ (ap stored c.header_of.ensures ∙ room-is c.requires.fact_1 c.loop-i.invariant.0 c.loop-i-test.true) in
@@ -107,20 +106,16 @@ pub bounds-known-p-in-loop-i : goal.bounds-known-p-in-loop-i
 bounds-known-p-in-loop-i c =
     omega (arith, fit c.requires.fact_1, c.loop-i-test.true, c.loop-i.invariant.0.len-known, c.requires.fact_1.many)
 
-pub overflow_add-i : goal.overflow_add-i
-overflow_add-i c =
-    omega (arith, fit c.requires.fact_1, c.loop-i-test.true)
-
 pub loop-i-preserved : goal.loop-i-preserved
 loop-i-preserved c =
     let counted : c.stored_of-room.result ≡ stored (announced_step c.args.edition (get_or c.args.steps.now c.loop-i.i 0) (announced_places (recipe_of
     c.args.edition c.args.headers.now (take c.loop-i.i c.args.steps.now)))) =
     c.stored_of-room.ensures ∙ (ap stored c.header_of.ensures ∙ room-is c.requires.fact_1 c.loop-i.invariant.0 c.loop-i-test.true) in (
       running-at c.requires.fact_1 (running_more c.requires.fact_1 (running-from c.requires.fact_1 c.loop-i.invariant.0 c.loop-i-test.true)
-          c.loop-i-test.true (counted) c.loop-i.invariant.0.len-pool (rw c.step_of-s.ensures at c.step_word-word.ensures.word) (rw
-          c.step_of-s.ensures at c.step_word-word.ensures.kept)),
+          c.loop-i-test.true (counted) c.loop-i.invariant.0.len-pool (rw c.step_of-s.ensures at c.step_word.ensures.word) (rw
+          c.step_of-s.ensures at c.step_word.ensures.kept)),
       (
-        c.step_word-word.auto.scratch ∙ c.loop-i.invariant.1.0,
+        c.step_word.auto.scratch ∙ c.loop-i.invariant.1.0,
         ahead_more c.requires.fact_1 (running-from c.requires.fact_1
             c.loop-i.invariant.0 c.loop-i-test.true) c.loop-i-test.true c.loop-i.invariant.0.len-pool c.loop-i.invariant.1.1 (sym (stop_is
             c.requires.fact_1 (running-from c.requires.fact_1 c.loop-i.invariant.0 c.loop-i-test.true) c.loop-i-test.true
@@ -139,8 +134,9 @@ shape_of-scratch c = c.loop-i.invariant.1.0
 
 pub returns : goal.returns
 returns c =
+    let all : c.loop-i.i ≡ length c.args.steps.now = omega (arith, c.loop-i.invariant.0.most, c.loop-i-test.false) in
     record {
-      made = stood-all c.loop-i.invariant.1.1 c.loop-i.invariant.0.most c.loop-i-test.false;
+      made = rw all at (stood-all c.loop-i.invariant.1.1 c.loop-i.invariant.0.most c.loop-i-test.false);
       words = λ z. end-words c.requires.fact_1
           c.loop-i.invariant.0 c.loop-i-test.false;
       values = λ z. end-pool c.requires.fact_1 c.loop-i.invariant.0 c.loop-i-test.false;

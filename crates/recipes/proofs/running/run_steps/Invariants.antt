@@ -1,5 +1,4 @@
 use mathlib.Core.Path.{◌≡◌}
-use Prim.Native.Nat.{◌-◌}
 use lib.ListN.{length, take}
 use Rattle.model_recipes.specs.Recipe.{recipe_of, announced_steps, total}
 use Rattle.recipes.specs.Running.{Running}
@@ -10,6 +9,3 @@ abbrev pub invariant-loop-i : goal.invariant-loop-i
 invariant-loop-i l = Running (recipe_of l.edition l.headers l.steps) l.coefficients l.initial.known l.initial.pool l.i (total (take l.i (announced_steps
     (recipe_of l.edition l.headers l.steps)))) l.known l.starts l.pool × ((length l.scratch ≡ length l.initial.scratch) × Ahead
     (recipe_of l.edition l.headers l.steps) l.coefficients l.i)
-
-abbrev pub decreases-loop-i : goal.decreases-loop-i
-decreases-loop-i l = length l.steps - l.i

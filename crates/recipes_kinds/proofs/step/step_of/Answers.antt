@@ -1,11 +1,7 @@
 use Prim.Native.Nat.{◌/◌, ◌^◌}
-use native.Mathlib.Omega.{arith}
 use lib.Bits.{and_mask}
 use Rattle.model_recipes.specs.Steps.{step_of}
 use Rattle.recipes_kinds.proofs.step.step_of.Goals as goal
-
-pub overflow_cast-result : goal.overflow_cast-result
-overflow_cast-result c = record { fits = simp (and_mask (c.args.word / 2 ^ 14) 32) (omega arith) }
 
 pub returns : goal.returns
 unfolding step_of

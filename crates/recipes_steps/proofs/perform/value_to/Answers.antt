@@ -3,8 +3,8 @@ use Prim.Native.Nat.{◌-◌}
 use Rattle.model.specs.Refusals.{padded}
 use Rattle.model.specs.Poly.{Poly}
 use Rattle.shape_operands.specs.Lent.{lying, kept_as}
-use Rattle.recipes_steps.specs.Ready.{to-power, power-value, to-pair, pair-value, to-substitute, substitute-value, to_exponential, exponential-value}
-use Rattle.recipes_steps.specs.Ready.{to-change, change-value}
+use Rattle.recipes_steps.specs.Ready.{to-power, power-value, to-pair, pair-value, to-substitute}
+use Rattle.recipes_steps.specs.Ready.{substitute-value, to_exponential, exponential-value, to-change, change-value}
 use borrow.Author.Rules.{rules}
 use Rattle.recipes_steps.proofs.perform.value_to.Goals as goal
 

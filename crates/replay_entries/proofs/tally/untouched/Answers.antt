@@ -6,21 +6,19 @@ use borrow.Author.Tests.{eq-eqb, ne_eqb}
 use Rattle.replay_entries.proofs.tally.untouched.Goals as goal
 
 pub loop-k-init : goal.loop-k-init
-loop-k-init c = (omega arith, below_none _)
+loop-k-init c = below_none _
 
 pub returns-then-word_of-ne4607182418800017409 : goal.returns-then-word_of-ne4607182418800017409
 returns-then-word_of-ne4607182418800017409 c =
     record {
       within = omega arith;
-      each = c.loop-k.invariant.1;
+      each = c.loop-k.invariant;
       stop = λ l. ne_eqb _ 0x3ff0000000000001 (λ e. c.if-word_of-ne4607182418800017409.true (c.word_of.ensures ∙ e));
     }
 
 pub loop-k-preserved : goal.loop-k-preserved
-loop-k-preserved c = (
-  omega arith,
-  below_more _ _ c.loop-k.invariant.1 (eq-eqb _ 0x3ff0000000000001 (sym c.word_of.ensures ∙ c.if-word_of-ne4607182418800017409.false)),
-)
+loop-k-preserved c =
+    below_more _ _ c.loop-k.invariant (eq-eqb _ 0x3ff0000000000001 (sym c.word_of.ensures ∙ c.if-word_of-ne4607182418800017409.false))
 
 pub returns : goal.returns
-returns c = record { within = omega arith; each = c.loop-k.invariant.1; stop = λ l. absurd (omega arith) }
+returns c = record { within = omega arith; each = λ k h. c.loop-k.invariant k (omega arith); stop = λ l. absurd (omega arith) }

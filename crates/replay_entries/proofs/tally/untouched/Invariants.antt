@@ -1,12 +1,8 @@
-use lib.ListN.{length}
-use Prim.Native.Nat.{ℕ, ◌≤◌, ◌<◌, ◌-◌}
+use Prim.Native.Nat.{ℕ, ◌<◌}
 use mathlib.Core.Path.{◌≡◌}
 use mathlib.Core.Bool.{true}
 use Rattle.replay_entries.specs.Tally.{untouched_at}
 use Rattle.replay_entries.proofs.tally.untouched.Given as goal
 
 abbrev pub invariant-loop-k : goal.invariant-loop-k
-invariant-loop-k l = (l.k ≤ length l.xs) × ((j : ℕ) → j < l.k → untouched_at l.xs j ≡ true)
-
-abbrev pub decreases-loop-k : goal.decreases-loop-k
-decreases-loop-k l = length l.xs - l.k
+invariant-loop-k l = (j : ℕ) → j < l.k → untouched_at l.xs j ≡ true

@@ -1,17 +1,17 @@
 use native.Mathlib.Omega.{arith}
 use borrow.Author.Count.{below_more}
-use Prim.Native.Nat.{◌-◌}
 use Rattle.replay_recipes.specs.Alike.{alike-one}
 use Rattle.replay_recipes.proofs.alike.alike_words.Goals as goal
 
 pub loop-k-init : goal.loop-k-init
-loop-k-init c = (omega arith, (omega arith, alike-one _ _))
+loop-k-init c = alike-one _ _
 
 pub returns-then-xs-k : goal.returns-then-xs-k
-returns-then-xs-k c = record { after = omega arith; within = omega arith; each = c.loop-k.invariant.1.1; stop = λ l e. c.if-xs-k.true e }
+returns-then-xs-k c = record { after = omega arith; within = omega arith; each = c.loop-k.invariant; stop = λ l e. c.if-xs-k.true e }
 
 pub loop-k-preserved : goal.loop-k-preserved
-loop-k-preserved c = (omega arith, (omega arith, below_more _ _ c.loop-k.invariant.1.1 (λ m. c.if-xs-k.false)))
+loop-k-preserved c = below_more _ _ c.loop-k.invariant (λ m. c.if-xs-k.false)
 
 pub returns : goal.returns
-returns c = record { after = omega arith; within = omega arith; each = c.loop-k.invariant.1.1; stop = λ l e. absurd (omega arith) }
+returns c =
+    record { after = omega arith; within = omega arith; each = λ k h m. c.loop-k.invariant k (omega arith) m; stop = λ l e. absurd (omega arith) }

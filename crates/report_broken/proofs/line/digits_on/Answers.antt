@@ -1,5 +1,5 @@
-use Prim.Native.Nat.{◌-◌}
-use mathlib.Core.Path.{sym, ap, ◌∙◌}
+use native.Mathlib.Omega.{arith}
+use mathlib.Core.Path.{sym, ap, ◌∙◌, ◌≡◌}
 use Rattle.model_texts.specs.Hex.{is_digit}
 use Rattle.model_faults.specs.Broken.{digits_on}
 use Rattle.report_say.specs.First.{looking-none, front-more, front-stop, front_end}
@@ -21,4 +21,6 @@ loop-j-preserved c =
 
 pub returns : goal.returns
 unfolding digits_on
-returns c = front_end c.loop-j.invariant c.loop-j-test.false
+returns c =
+    let all : 16 ≡ c.loop-j.j = omega (arith, c.loop-j.invariant.most, c.loop-j-test.false) in
+    all ∙ front_end c.loop-j.invariant c.loop-j-test.false

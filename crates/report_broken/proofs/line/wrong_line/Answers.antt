@@ -1,6 +1,6 @@
 use native.Mathlib.Omega.{arith}
-use Prim.Native.Nat.{◌-◌}
-use mathlib.Core.Path.{sym, ◌∙◌}
+use Prim.Native.Nat.{ℕ, ◌+◌}
+use mathlib.Core.Path.{sym, ◌∙◌, ◌≡◌, ap}
 use Rattle.report_say.specs.First.{looking-none, looking-more, looking-stop, looking_end}
 use Rattle.report_broken.proofs.line.wrong_line.Goals as goal
 
@@ -17,8 +17,7 @@ loop-k-preserved c =
     looking-more c.loop-k.invariant c.loop-k-test.true (sym c.is_line.ensures
     ∙ c.if-not-is_line.false)
 
-pub overflow_add-result-2 : goal.overflow_add-result-2
-overflow_add-result-2 c = omega (arith, c.loop-k.invariant.most)
-
 pub returns : goal.returns
-returns c = looking_end c.loop-k.invariant c.loop-k-test.false
+returns c =
+    let all : c.args.n ≡ c.loop-k.k = omega (arith, c.loop-k.invariant.most, c.loop-k-test.false) in
+    ap (λ (x : ℕ). c.args.from + x) all ∙ looking_end c.loop-k.invariant c.loop-k-test.false

@@ -1,10 +1,6 @@
-use Prim.Native.Nat.{◌-◌}
 use Rattle.model_texts.specs.Sheet.{lined}
 use Rattle.report_say.specs.First.{Looking}
 use Rattle.report_broken.proofs.line.wrong_line.Given as goal
 
 abbrev pub invariant-loop-k : goal.invariant-loop-k
 invariant-loop-k l = Looking (lined l.text) l.n l.from l.k
-
-abbrev pub decreases-loop-k : goal.decreases-loop-k
-decreases-loop-k l = l.n - l.k

@@ -1,5 +1,6 @@
-use Prim.Native.Nat.{◌-◌}
-use mathlib.Core.Path.{ap, ◌∙◌}
+use native.Mathlib.Omega.{arith}
+use lib.ListN.{length}
+use mathlib.Core.Path.{ap, ◌∙◌, ◌≡◌}
 use Rattle.model.specs.Header.{stored}
 use Rattle.recipes_check.specs.Counts.{word_ruled}
 use Rattle.report_say.specs.First.{looking-none, front-more}
@@ -26,4 +27,6 @@ loop-p-preserved c =
     ∙ ap stored c.header_of.ensures) c.if-stored_of-gt256.false)
 
 pub returns : goal.returns
-returns c = large_end c.args.known.now c.loop-p.invariant c.loop-p-test.false
+returns c =
+    let all : length c.args.known.now ≡ c.loop-p.p = omega (arith, c.loop-p.invariant.most, c.loop-p-test.false) in
+    all ∙ large_end c.args.known.now c.loop-p.invariant c.loop-p-test.false

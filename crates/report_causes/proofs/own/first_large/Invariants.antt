@@ -1,4 +1,3 @@
-use Prim.Native.Nat.{◌-◌}
 use mathlib.Core.List.{map}
 use lib.ListN.{length}
 use Rattle.model.specs.Word.{header_of}
@@ -8,6 +7,3 @@ use Rattle.report_causes.proofs.own.first_large.Given as goal
 
 abbrev pub invariant-loop-p : goal.invariant-loop-p
 invariant-loop-p l = Looking (small_at (map header_of l.known)) (length l.known) 0 l.p
-
-abbrev pub decreases-loop-p : goal.decreases-loop-p
-decreases-loop-p l = length l.known - l.p

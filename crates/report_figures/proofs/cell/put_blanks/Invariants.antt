@@ -1,10 +1,6 @@
-use Prim.Native.Nat.{◌-◌}
 use Rattle.model_figures.specs.Cells.{blanks}
 use Rattle.report_figures.specs.Lines.{Putting}
 use Rattle.report_figures.proofs.cell.put_blanks.Given as goal
 
-abbrev pub invariant-loop-k : goal.invariant-loop-k
-invariant-loop-k l = Putting (blanks l.k) l.n l.k l.at l.initial.to l.to l.next
-
-abbrev pub decreases-loop-k : goal.decreases-loop-k
-decreases-loop-k l = l.n - l.k
+abbrev pub invariant-loop : goal.invariant-loop
+invariant-loop l = Putting (blanks l.counter) l.n l.counter l.at l.initial.to l.to l.next

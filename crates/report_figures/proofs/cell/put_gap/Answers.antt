@@ -1,12 +1,7 @@
 use Rattle.report_lines.specs.Puts.{puts_then}
 use Rattle.lists.specs.Bytes.{bytes}
-use Rattle.report_figures.specs.Fill.{fills-never, fills-gap, gap-short, gap-wide, puts-is}
+use Rattle.report_figures.specs.Fill.{fills-gap, gap-short, gap-wide, puts-is}
 use Rattle.report_figures.proofs.cell.put_gap.Goals as goal
-
-pub returns-then-next-from : goal.returns-then-next-from
-returns-then-next-from c =
-    fills-never c.args.c c.args.n c.args.from c.args.next _
-    c.if-next-from.true
 
 pub returns-then-used-n : goal.returns-then-used-n
 returns-then-used-n c =

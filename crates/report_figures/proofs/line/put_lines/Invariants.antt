@@ -1,4 +1,3 @@
-use Prim.Native.Nat.{◌-◌}
 use lib.ListN.{length}
 use Rattle.model_texts.specs.Report.{joined}
 use Rattle.model_figures.specs.Figures.{figure_text}
@@ -7,6 +6,3 @@ use Rattle.report_figures.proofs.line.put_lines.Given as goal
 
 abbrev pub invariant-loop-p : goal.invariant-loop-p
 invariant-loop-p l = Putting (joined (figure_text l.h l.xs l.total l.parts) l.p) (length l.xs) l.p l.at l.initial.to l.to l.next
-
-abbrev pub decreases-loop-p : goal.decreases-loop-p
-decreases-loop-p l = (length l.xs) - l.p

@@ -1,10 +1,7 @@
-use Prim.Native.Nat.{◌-◌}
 use mathlib.Core.Path.{refl, ◌∙◌}
 use native.Mathlib.Omega.{arith}
 use Rattle.model_texts.specs.Report.{joined}
 use Rattle.report_lines.specs.Puts.{puts_none, puts-joined}
-use Rattle.model_figures.specs.Figures.{part_text}
-use Rattle.report_figures.specs.Lines.{putting_end}
 use Rattle.report_figures.proofs.line.put_parts.Goals as goal
 
 pub loop-v-init : goal.loop-v-init
@@ -19,10 +16,3 @@ loop-v-preserved c =
           ∙ c.loop-v.invariant.len;
       put = puts-joined _ _ c.loop-v.invariant.put c.put_part-next.ensures;
     }
-
-pub shape_of-to : goal.shape_of-to
-shape_of-to c = c.loop-v.invariant.len
-
-pub returns : goal.returns
-returns c =
-    putting_end (joined (part_text c.args.vars c.args.i)) c.loop-v.invariant c.loop-v-test.false

@@ -11,9 +11,6 @@ loop-v-preserved c =
     putting-more c.loop-v.invariant
     c.loop-v-test.true (omega arith) c.put_cut-next.ensures
 
-pub shape_of-to : goal.shape_of-to
-shape_of-to c = c.loop-v.invariant.len
-
 pub returns : goal.returns
 unfolding cuts_text
 returns c = putting_end c.loop-v.invariant c.loop-v-test.false

@@ -1,5 +1,5 @@
 use native.Mathlib.Omega.{arith}
-use Rattle.report_lines.specs.Puts.{putting-none, putting-more, putting_end}
+use Rattle.report_lines.specs.Puts.{putting-none, putting-more}
 use Rattle.report_lines.proofs.ends.put_ends.Goals as goal
 
 pub loop-v-init : goal.loop-v-init
@@ -9,9 +9,3 @@ pub loop-v-preserved : goal.loop-v-preserved
 loop-v-preserved c =
     putting-more c.loop-v.invariant
     c.loop-v-test.true (omega arith) c.put_end-next.ensures
-
-pub shape_of-to : goal.shape_of-to
-shape_of-to c = c.loop-v.invariant.len
-
-pub returns : goal.returns
-returns c = putting_end c.loop-v.invariant c.loop-v-test.false

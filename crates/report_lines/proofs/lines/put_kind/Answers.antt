@@ -3,7 +3,7 @@ use lib.ListN.{get_or-eq_default}
 use Rattle.report_lines.specs.Puts.{puts_none}
 use Rattle.lists.specs.Bytes.{bytes}
 use Rattle.model_texts.specs.Report.{kind_text, kind_names}
-use Rattle.recipes_kinds.specs.Arms.{past-kinds}
+use Prim.Native.Nat.{◌≤◌}
 use Rattle.report_lines.proofs.lines.put_kind.Goals as goal
 
 pub returns-in-0 : goal.returns-in-0
@@ -58,6 +58,5 @@ returns-in-11 c = rw c.in-11.is c.put-in-11.ensures
 pub returns-in_default : goal.returns-in_default
 unfolding kind_text kind_names bytes
 returns-in_default c =
-    let r = c.in_default.in_default-own.rest in
-    let ne = r.0.0.0.0.0.0.0.0.0.0.0.1 in
-    rw (get_or-eq_default kind_names "" {n = c.args.kind} (past-kinds (omega arith) r)) (puts_none _ _)
+    let far : 12 ≤ c.args.kind = omega arith in
+    rw (get_or-eq_default kind_names "" {n = c.args.kind} far) (puts_none _ _)

@@ -1,5 +1,5 @@
 use native.Mathlib.Omega.{arith}
-use Rattle.report_lines.specs.Puts.{putting-none, putting-more, putting_end}
+use Rattle.report_lines.specs.Puts.{putting-none, putting-more}
 use Rattle.report_lines.proofs.lines.put_places.Goals as goal
 
 pub loop-p-init : goal.loop-p-init
@@ -9,9 +9,3 @@ pub loop-p-preserved : goal.loop-p-preserved
 loop-p-preserved c =
     putting-more c.loop-p.invariant
     c.loop-p-test.true (omega arith) c.put_place-next.ensures
-
-pub shape_of-to : goal.shape_of-to
-shape_of-to c = c.loop-p.invariant.len
-
-pub returns : goal.returns
-returns c = putting_end c.loop-p.invariant c.loop-p-test.false

@@ -1,4 +1,3 @@
-use Prim.Native.Nat.{◌-◌}
 use mathlib.Core.Path.{◌≡◌}
 use lib.ListN.{length}
 use Rattle.lists.specs.Table.{table}
@@ -8,6 +7,3 @@ use Rattle.report_totals.proofs.amount.amounts.Given as goal
 
 abbrev pub invariant-loop-i : goal.invariant-loop-i
 invariant-loop-i l = (length l.found ≡ 64) × Chained amount_step (table (length l.headers) (input_sum l.headers l.xs)) l.steps l.initial.found l.found l.i
-
-abbrev pub decreases-loop-i : goal.decreases-loop-i
-decreases-loop-i l = length l.steps - l.i

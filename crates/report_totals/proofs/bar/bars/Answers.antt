@@ -1,4 +1,3 @@
-use Prim.Native.Nat.{◌-◌}
 use native.Mathlib.Omega.{arith}
 use mathlib.Core.Path.{refl, sym}
 use lib.ListN.{length, length-set}
@@ -32,9 +31,6 @@ offset_bounds-found-at c = omega (arith, c.loop-i.invariant.0, c.requires)
 
 pub bounds-found-at : goal.bounds-found-at
 bounds-found-at c = omega (arith, c.loop-i.invariant.0, c.requires)
-
-pub overflow_add-i : goal.overflow_add-i
-overflow_add-i c = omega (arith, c.requires)
 
 pub loop-i-smaller : goal.loop-i-smaller
 loop-i-smaller c = omega (arith, c.loop-i-test.true)

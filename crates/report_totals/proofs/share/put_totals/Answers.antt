@@ -5,13 +5,13 @@ use Rattle.report_totals.proofs.share.put_totals.Goals as goal
 pub returns-then-s-ge64 : goal.returns-then-s-ge64
 unfolding totals_text
 returns-then-s-ge64 c =
-    rw (c.in-Nothing.is, le-leb _ _ c.if-s-ge64.true) c.put_total-then-s-ge64.ensures
+    rw (c.in-None.is, le-leb _ _ c.if-s-ge64.true) c.put_total-then-s-ge64.ensures
 
-pub returns-in-Number : goal.returns-in-Number
+pub returns-in-Some : goal.returns-in-Some
 unfolding totals_text
-returns-in-Number c = rw c.in-Number.is c.put_total.ensures
+returns-in-Some c = rw c.in-Some.is c.put_total.ensures
 
 pub returns-else-s-ge64 : goal.returns-else-s-ge64
 unfolding totals_text
 returns-else-s-ge64 c =
-    rw (c.in-Nothing.is, lt-leb _ _ c.if-s-ge64.false) c.put_bar.ensures
+    rw (c.in-None.is, lt-leb _ _ c.if-s-ge64.false) c.put_bar.ensures

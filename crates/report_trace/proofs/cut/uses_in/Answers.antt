@@ -5,6 +5,3 @@ use Rattle.report_trace.proofs.cut.uses_in.Goals as goal
 
 pub uses_of-requires : goal.uses_of-requires
 uses_of-requires c = rw (ap (λ (s : Step). s.kind) c.step_of.ensures) (small-kind _)
-
-pub returns : goal.returns
-returns c = rw (c.uses_of.ensures, c.step_of.ensures)

@@ -3,12 +3,12 @@ use Rattle.model_texts.specs.Trace.{decider}
 use native.Mathlib.Omega.{arith}
 use Rattle.report_trace.proofs.decide.decider.Goals as goal
 
-pub loop-k-init : goal.loop-k-init
-loop-k-init c = (omega arith, walked_none _ 0 _)
+pub loop-init : goal.loop-init
+loop-init c = walked_none _ 0 _
 
-pub loop-k-preserved : goal.loop-k-preserved
-loop-k-preserved c = (omega arith, walked_more c.loop-k.invariant.1 c.follow-place.ensures)
+pub loop-preserved : goal.loop-preserved
+loop-preserved c = walked_more c.loop.invariant c.follow-place.ensures
 
 pub returns : goal.returns
 unfolding decider
-returns c = walked_end 64 c.loop-k.invariant.1 (omega (arith, c.loop-k.invariant.0))
+returns c = walked_end 64 c.loop.invariant (omega arith)

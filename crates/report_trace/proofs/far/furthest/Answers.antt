@@ -1,36 +1,16 @@
-use mathlib.Core.Path.{sym, ap, ◌∙◌}
-use Rattle.report_trace.specs.Traced.{grown-none, grown-len, grown-more, grown_end}
+use mathlib.Core.Path.{ap, ◌∙◌}
+use Rattle.report_trace.specs.Traced.{grown-none, grown-more, grown_end}
 use Rattle.model_texts.specs.Trace.{furthest_next, furthests}
-use mathlib.Core.Path.{sym}
 use native.Mathlib.Omega.{arith}
-use lib.Seq.{length-take-le}
 use Rattle.report_trace.proofs.far.furthest.Goals as goal
 
 pub loop-k-init : goal.loop-k-init
-loop-k-init c = (omega arith, grown-none _ _)
-
-pub slice_bounds-found-end : goal.slice_bounds-found-end
-slice_bounds-found-end c = omega (arith, grown-len c.loop-k.invariant.1)
-
-pub slice_bounds-furthest_next-end : goal.slice_bounds-furthest_next-end
-slice_bounds-furthest_next-end c = sym (length-take-le _ _ (omega (arith, grown-len c.loop-k.invariant.1)))
-
-pub offset_bounds-found-k : goal.offset_bounds-found-k
-offset_bounds-found-k c = omega (arith, grown-len c.loop-k.invariant.1)
-
-pub bounds-found-k : goal.bounds-found-k
-bounds-found-k c = omega (arith, grown-len c.loop-k.invariant.1)
+loop-k-init c = grown-none _ _
 
 pub loop-k-preserved : goal.loop-k-preserved
-loop-k-preserved c = (omega arith, grown-more c.loop-k.invariant.1 c.furthest_next.ensures (omega arith))
-
-pub slice_bounds-found-end-2 : goal.slice_bounds-found-end-2
-slice_bounds-found-end-2 c = omega (arith, grown-len c.loop-k.invariant.1)
-
-pub slice_bounds-furthest_next-end-2 : goal.slice_bounds-furthest_next-end-2
-slice_bounds-furthest_next-end-2 c = sym (length-take-le _ _ (omega (arith, grown-len c.loop-k.invariant.1)))
+loop-k-preserved c = grown-more c.loop-k.invariant c.furthest_next.ensures (omega arith)
 
 pub returns : goal.returns
 unfolding furthests
 returns c =
-    c.furthest_next-2.ensures ∙ ap (furthest_next _ _ _ _) (grown_end c.loop-k.invariant.1 c.loop-k.invariant.0 (omega arith))
+    c.furthest_next-2.ensures ∙ ap (furthest_next _ _ _ _) (grown_end c.loop-k.invariant (omega arith) (omega arith))

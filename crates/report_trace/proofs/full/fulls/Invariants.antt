@@ -1,4 +1,3 @@
-use Prim.Native.Nat.{◌-◌, ◌*◌, ◌≤◌}
 use mathlib.Core.List.{map}
 use Rattle.model.specs.Word.{header_of}
 use Rattle.report_trace.specs.Traced.{Grown}
@@ -6,7 +5,4 @@ use Rattle.model_texts.specs.Full.{full_next}
 use Rattle.report_trace.proofs.full.fulls.Given as goal
 
 abbrev pub invariant-loop-k : goal.invariant-loop-k
-invariant-loop-k l = (l.k ≤ 4 * l.n) × Grown (full_next (map header_of l.known) l.steps l.inputs) l.initial.full l.full l.k
-
-abbrev pub decreases-loop-k : goal.decreases-loop-k
-decreases-loop-k l = 4 * l.n - l.k
+invariant-loop-k l = Grown (full_next (map header_of l.known) l.steps l.inputs) l.initial.full l.full l.k

@@ -2,10 +2,9 @@ use mathlib.Core.Path.{sym, ◌∙◌}
 use Rattle.settings_command.specs.Tests.{whole-nothing, whole_says}
 use Rattle.settings_command.proofs.argument.whole_of.Goals as goal
 
-pub returns-then-not-is_number : goal.returns-then-not-is_number
-returns-then-not-is_number c =
-    c.nothing.ensures ∙ whole-nothing c.args.text.now (sym c.is_number.ensures ∙ c.if-not-is_number.true)
+pub returns-then-is_number : goal.returns-then-is_number
+returns-then-is_number c =
+    whole_says c.args.text.now (sym c.is_number.ensures ∙ c.if-is_number.true) c.number.ensures
 
-pub returns : goal.returns
-returns c =
-    whole_says c.args.text.now (sym c.is_number.ensures ∙ c.if-not-is_number.false) c.number.ensures
+pub returns-else-is_number : goal.returns-else-is_number
+returns-else-is_number c = whole-nothing c.args.text.now (sym c.is_number.ensures ∙ c.if-is_number.false)

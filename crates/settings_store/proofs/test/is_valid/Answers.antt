@@ -1,4 +1,3 @@
-use Prim.Native.Nat.{◌-◌}
 use native.Mathlib.Omega.{arith}
 use Rattle.lists.specs.Every.{passing-none, passing-more, passing-stop, passing_end}
 use Rattle.settings_store.specs.Loops.{department-test, valid-is, valid_no}

@@ -1,5 +1,5 @@
 use native.Mathlib.Omega.{arith}
-use Prim.Native.Nat.{◌-◌, ◌*◌}
+use Prim.Native.Nat.{◌*◌}
 use mathlib.Core.Path.{sym, ◌∙◌}
 use Rattle.model_texts.specs.Hex.{is_line}
 use Rattle.lists.specs.Every.{passing-none, passing-more, passing-stop, passing_end}

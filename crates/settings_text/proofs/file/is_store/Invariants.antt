@@ -1,4 +1,4 @@
-use Prim.Native.Nat.{◌-◌, ◌*◌}
+use Prim.Native.Nat.{◌*◌}
 use mathlib.Core.Path.{◌≡◌}
 use lib.ListN.{length}
 use Rattle.model_texts.specs.Hex.{is_line}
@@ -7,6 +7,3 @@ use Rattle.settings_text.proofs.file.is_store.Given as goal
 
 abbrev pub invariant-loop-k : goal.invariant-loop-k
 invariant-loop-k l = (length l.text ≡ 9248) × Passing (λ i. is_line l.text (17 * i)) 544 0 l.k
-
-abbrev pub decreases-loop-k : goal.decreases-loop-k
-decreases-loop-k l = 544 - l.k

@@ -1,5 +1,4 @@
 use native.Mathlib.Omega.{arith}
-use Prim.Native.Nat.{◌-◌}
 use Rattle.report_lines.specs.Puts.{putting-none, putting-more, putting_end}
 use Rattle.settings_text.specs.Text.{store_text}
 use Rattle.settings_text.proofs.file.put_store.Goals as goal

@@ -1,4 +1,3 @@
-use Prim.Native.Nat.{◌-◌}
 use Rattle.model_texts.specs.Hex.{hex_line}
 use Rattle.model_settings.specs.Words.{word}
 use Rattle.report_lines.specs.Puts.{Putting}
@@ -6,6 +5,3 @@ use Rattle.settings_text.proofs.file.put_store.Given as goal
 
 abbrev pub invariant-loop-k : goal.invariant-loop-k
 invariant-loop-k l = Putting (λ i. hex_line (word l.words i)) 544 l.at l.initial.to l.to l.next l.k
-
-abbrev pub decreases-loop-k : goal.decreases-loop-k
-decreases-loop-k l = 544 - l.k

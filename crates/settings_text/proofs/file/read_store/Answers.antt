@@ -1,28 +1,23 @@
 use native.Mathlib.Omega.{arith}
-use Prim.Native.Nat.{◌-◌}
-use Rattle.lists.specs.Table.{filled_none, filled_more, filled_end}
-use Rattle.settings_text.specs.Text.{store_words}
+use Rattle.std.proofs.Common.{length-take}
+use Rattle.lists.specs.Table.{filled_none, filled_more}
+use Rattle.lists.specs.Fill.{filled-all}
+use Rattle.settings_text.specs.Tests.{read-words}
 use Rattle.settings_text.proofs.file.read_store.Goals as goal
 
 pub loop-k-init : goal.loop-k-init
-loop-k-init c = (omega arith, (omega arith, filled_none))
+loop-k-init c = filled_none
 
-pub bounds-words-k : goal.bounds-words-k
-bounds-words-k c = let l = c.loop-k.invariant.1.1.len in omega arith
+-- there are 544 of them
+pub overflow_mul-k : goal.overflow_mul-k
+overflow_mul-k c = omega (arith, length-take 544 c.args.words.now)
+
+pub word_at-requires : goal.word_at-requires
+word_at-requires c = omega (arith, length-take 544 c.args.words.now)
 
 pub loop-k-preserved : goal.loop-k-preserved
-loop-k-preserved c = (
-  omega arith,
-  (
-    c.loop-k.invariant.1.0,
-    filled_more c.loop-k.invariant.1.1
-        c.word_at.ensures (omega arith),
-  ),
-)
-
-pub shape_of-words : goal.shape_of-words
-shape_of-words c = c.loop-k.invariant.1.1.len
+loop-k-preserved c = filled_more c.loop-k.invariant c.word_at.ensures (omega arith)
 
 pub returns : goal.returns
-unfolding store_words
-returns c = filled_end c.loop-k.invariant.1.1 c.loop-k.invariant.0 (omega arith)
+returns c =
+    read-words _ _ _ c.requires (filled-all c.loop-k.invariant c.loop-k.auto.k-end c.loop-k-test.false)

@@ -1,5 +1,4 @@
 use native.Mathlib.Omega.{arith}
-use Prim.Native.Nat.{◌-◌}
 use Rattle.report_lines.specs.Puts.{putting-none, putting-more, putting_end}
 use Rattle.settings_text.specs.Text.{departments_text}
 use Rattle.settings_text.proofs.line.put_departments.Goals as goal

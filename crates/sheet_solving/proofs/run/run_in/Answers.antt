@@ -1,3 +1,4 @@
+use Rattle.std.proofs.lemmas.Result.{err_from_is_err_and}
 use native.Mathlib.Omega.{arith}
 use mathlib.Core.Path.{◌≡◌, refl, sym, ap, ◌∙◌}
 use Rattle.model.specs.declared.Refusal.{Refusal}
@@ -23,16 +24,19 @@ run_admitted-ran-requires c =
     }
 
 -- the run stopped
-pub returns-then-ran-ne0 : goal.returns-then-ran-ne0
-returns-then-ran-ne0 c =
+pub returns-in_err-ran : goal.returns-in_err-ran
+returns-in_err-ran c =
+    let p = err_from_is_err_and c.from_residual.result c.from_residual.ensures.1 in
     let coefficients-read : c.fill_floats.new.to ≡ sheet_coefficients c.args.text.now =
     floats-read c.args.pool.now c.args.words.now c.args.scratch.now c.requires refl
     c.fill_floats.ensures in
+    let stop = rw c.in_err-ran.was at c.run_admitted-ran.ensures.stop in
+    let left = rw c.in_err-ran.was at c.run_admitted-ran.ensures.no_values in
     record {
-      ends = let some = c.if-ran-ne0.true in
-          ran-stopped c.args.pool.now c.args.words.now c.args.scratch.now c.requires
-          (coefficients-read) c.run_admitted-ran.ensures.stop some (c.run_admitted-ran.ensures.no_values some)
-          c.refused.ensures;
+      ends =
+          rw (p.1, p.2)
+          (ran-stopped c.args.pool.now c.args.words.now c.args.scratch.now c.requires
+          coefficients-read stop.holds stop.some left);
       spent_known = search rules;
       spent_coefficients = search rules;
       spent_words = search rules;
@@ -62,11 +66,12 @@ done-requires c =
     let coefficients-read : c.fill_floats.new.to ≡ sheet_coefficients c.args.text.now =
     floats-read c.args.pool.now c.args.words.now c.args.scratch.now c.requires refl
     c.fill_floats.ensures in
-    let none = c.if-ran-ne0.false in
+    let stop = rw c.in_ok-ran.was at c.run_admitted-ran.ensures.stop in
+    let values = rw c.in_ok-ran.was at c.run_admitted-ran.ensures.values in
+    let words = rw c.in_ok-ran.was at c.run_admitted-ran.ensures.words in
     ran_ruled c.args.pool.now c.args.words.now c.args.scratch.now c.requires
-    (coefficients-read) (ap (λ (q : Refusal). q.number) (sym c.run_admitted-ran.ensures.stop) ∙ none)
-    (c.run_admitted-ran.ensures.values none) (c.run_admitted-ran.ensures.words none)
-    c.run_admitted-ran.ensures.last c.run_admitted-ran.auto.pool
+    coefficients-read (ap (λ (q : Refusal). q.number) (sym stop))
+    values words c.run_admitted-ran.ensures.last c.run_admitted-ran.auto.pool
 
 pub shape_of-coefficients : goal.shape_of-coefficients
 shape_of-coefficients c =
@@ -77,11 +82,13 @@ returns c =
     let coefficients-read : c.fill_floats.new.to ≡ sheet_coefficients c.args.text.now =
     floats-read c.args.pool.now c.args.words.now c.args.scratch.now c.requires refl
     c.fill_floats.ensures in
-    let none = c.if-ran-ne0.false in record {
+    let stop = rw c.in_ok-ran.was at c.run_admitted-ran.ensures.stop in
+    let values = rw c.in_ok-ran.was at c.run_admitted-ran.ensures.values in
+    let words = rw c.in_ok-ran.was at c.run_admitted-ran.ensures.words in
+    record {
       ends = ran-done c.args.pool.now c.args.words.now c.args.scratch.now c.requires
-          (coefficients-read) (ap (λ (q : Refusal). q.number) (sym c.run_admitted-ran.ensures.stop) ∙ none)
-          (c.run_admitted-ran.ensures.values none) (c.run_admitted-ran.ensures.words none)
-          c.run_admitted-ran.ensures.last c.run_admitted-ran.auto.pool c.done.ensures;
+          coefficients-read (ap (λ (q : Refusal). q.number) (sym stop))
+          values words c.run_admitted-ran.ensures.last c.run_admitted-ran.auto.pool c.done.ensures;
       spent_known = search (rules, c.run_admitted-ran.auto.known);
       spent_coefficients = c.fill_floats.auto.to;
       spent_words = search (rules, c.run_admitted-ran.auto.words);

@@ -1,12 +1,11 @@
+use Rattle.std.proofs.lemmas.Result.{err_from_is_err_and}
 use Prim.Native.Nat.{◌+◌}
 use native.Mathlib.Omega.{arith}
 use mathlib.Core.Path.{refl, sym, ap, ◌∙◌}
 use lib.ListN.{length}
 use lib.Seq.{length-take-le}
-use Rattle.sheet_solving.specs.declared.Solved.{Solved}
-use Rattle.sheet_solving.specs.Solves.{unsolved-by}
-use Rattle.sheet_solving.specs.Ended.{opening-few, opening-fit, opening-known, opening-small, steps-room, steps-read}
-use Rattle.sheet_solving.specs.Ended.{judged-refused, judged-left, running, ended-done}
+use Rattle.sheet_solving.specs.Ended.{opening-few, opening-fit, opening-known, opening-small, steps-room}
+use Rattle.sheet_solving.specs.Ended.{steps-read, judged-refused, judged-left, running, ended-done}
 use Rattle.sheet_solving.proofs.run.run_read.Goals as goal
 
 pub overflow_add-end : goal.overflow_add-end
@@ -67,25 +66,18 @@ slice_bounds-judge_own-end-2 c = sym (length-take-le _ _ (omega (
   c.requires.fact_2.steps,
 )))
 
-pub returns-then-refusal-ne0 : goal.returns-then-refusal-ne0
-returns-then-refusal-ne0 c =
-    record {
-      refusal =
-          ap (λ (s : Solved). s.refusal) c.refused.ensures ∙ judged-refused c.requires.fact_1
-          (steps-read c.requires.fact_1 c.args.steps.now c.step_count-n.ensures c.total_of-given.ensures
-          c.requires.fact_2.steps c.fill_words.ensures)
-          c.judge_own-refusal.ensures c.if-refusal-ne0.true;
-      refused = λ z.
-          record {
-            numbers = unsolved-by c.refused.ensures;
-            pool =
-                judged-left c.requires.fact_1 c.args.pool.now
-                (steps-read c.requires.fact_1 c.args.steps.now c.step_count-n.ensures c.total_of-given.ensures
-                c.requires.fact_2.steps c.fill_words.ensures)
-                c.judge_own-refusal.ensures c.if-refusal-ne0.true;
-          };
-      done = λ z. absurd (c.if-refusal-ne0.true (ap (λ (s : Solved). s.refusal.number) (sym c.refused.ensures) ∙ z));
-    }
+pub returns-in_err-judge_own : goal.returns-in_err-judge_own
+returns-in_err-judge_own c =
+    let p = err_from_is_err_and c.from_residual.result c.from_residual.ensures.1 in
+    let q = c.in_err-judge_own.ensures in
+    let read = steps-read c.requires.fact_1 c.args.steps.now c.step_count-n.ensures c.total_of-given.ensures
+    c.requires.fact_2.steps c.fill_words.ensures in
+    rw (p.1, p.2)
+    (record {
+      says = record { some = q.some; holds = judged-refused c.requires.fact_1 read q.holds q.some };
+      refused = judged-left c.requires.fact_1 c.args.pool.now read q.holds q.some;
+      done = tt;
+    })
 
 pub slice_bounds-run_judged-end : goal.slice_bounds-run_judged-end
 slice_bounds-run_judged-end c =
@@ -110,7 +102,7 @@ pub slice_bounds-run_judged-end-3 : goal.slice_bounds-run_judged-end-3
 slice_bounds-run_judged-end-3 c =
     omega (
       arith,
-      c.judge_own-refusal.ensures.len,
+      c.in_ok-judge_own.ensures.len,
       c.requires.fact_2.known,
       opening-fit c.requires.fact_1,
       c.step_count-n.ensures,
@@ -119,7 +111,7 @@ slice_bounds-run_judged-end-3 c =
 pub slice_bounds-run_judged-end-4 : goal.slice_bounds-run_judged-end-4
 slice_bounds-run_judged-end-4 c = sym (length-take-le _ _ (omega (
   arith,
-  c.judge_own-refusal.ensures.len,
+  c.in_ok-judge_own.ensures.len,
   c.requires.fact_2.known,
   opening-fit c.requires.fact_1,
   c.step_count-n.ensures,
@@ -130,8 +122,8 @@ run_judged-requires c =
     record {
       fact_1 = running c.requires.fact_1 (steps-read c.requires.fact_1 c.args.steps.now c.step_count-n.ensures
           c.total_of-given.ensures c.requires.fact_2.steps c.fill_words.ensures)
-          c.judge_own-refusal.ensures
-          c.if-refusal-ne0.false (ap (λ n. length c.args.headers.now + n)
+          c.in_ok-judge_own.ensures
+          refl (ap (λ n. length c.args.headers.now + n)
           (sym (length-take-le (_) _ (omega (
             arith,
             steps-room c.requires.fact_1 c.args.steps.now c.step_count-n.ensures c.total_of-given.ensures c.requires.fact_2.steps c.fill_words.ensures,
@@ -146,8 +138,8 @@ pub returns : goal.returns
 returns c =
     ended-done _ _ _
     (running c.requires.fact_1 (steps-read c.requires.fact_1 c.args.steps.now c.step_count-n.ensures
-    c.total_of-given.ensures c.requires.fact_2.steps c.fill_words.ensures) c.judge_own-refusal.ensures
-    c.if-refusal-ne0.false
+    c.total_of-given.ensures c.requires.fact_2.steps c.fill_words.ensures) c.in_ok-judge_own.ensures
+    refl
     (ap (λ n. length c.args.headers.now + n)
     (sym (length-take-le (_) _ (omega (
       arith,

@@ -1,10 +1,6 @@
-use Prim.Native.Nat.{◌-◌}
 use Rattle.lists.specs.Every.{Passing}
 use Rattle.model_texts.specs.Hex.{digit_at}
 use Rattle.sheet_text.proofs.line.is_line.Given as goal
 
 abbrev pub invariant-loop-k : goal.invariant-loop-k
 invariant-loop-k l = Passing (digit_at l.text) 16 l.at l.k
-
-abbrev pub decreases-loop-k : goal.decreases-loop-k
-decreases-loop-k l = 16 - l.k

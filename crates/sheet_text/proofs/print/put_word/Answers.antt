@@ -1,5 +1,6 @@
-use Rattle.sheet_text.specs.Put.{put-len, table_none, table_more, table_end}
+use Rattle.sheet_text.specs.Put.{put-len, table_none, table_more}
 use native.Mathlib.Omega.{arith}
+use mathlib.Core.Path.{◌≡◌}
 use Rattle.sheet_text.proofs.print.put_word.Goals as goal
 
 pub loop-k-init : goal.loop-k-init
@@ -15,4 +16,6 @@ pub shape_of-to : goal.shape_of-to
 shape_of-to c = put-len c.loop-k.invariant.put
 
 pub returns : goal.returns
-returns c = table_end c.loop-k.invariant c.loop-k-test.false
+returns c =
+    let e : c.loop-k.k ≡ 16 = omega (arith, c.loop-k.invariant.most) in
+    rw e at c.loop-k.invariant.put

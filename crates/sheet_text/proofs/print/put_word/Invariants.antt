@@ -1,10 +1,6 @@
 use Rattle.sheet_text.specs.Put.{PutTable}
-use Prim.Native.Nat.{◌-◌}
 use Rattle.model_texts.specs.Hex.{hex_digit}
 use Rattle.sheet_text.proofs.print.put_word.Given as goal
 
 abbrev pub invariant-loop-k : goal.invariant-loop-k
 invariant-loop-k l = PutTable 16 (hex_digit l.word) l.at l.initial.to l.to l.k
-
-abbrev pub decreases-loop-k : goal.decreases-loop-k
-decreases-loop-k l = 16 - l.k

@@ -11,6 +11,3 @@ abbrev pub invariant-loop-left : goal.invariant-loop-left
 invariant-loop-left l = RunsTo l.p.head.lengths l.v (taken l.p l.a l.initial.out).coeffs l.left l.value l.b l.c l.limits l.n (stored l.p.head)
     (turns l.limits l.v (block_of (taken l.p l.a l.initial.out)) l.k (put_in l.b l.initial.work) (value_in l.n l.initial.value
     l.initial.work)) l.at l.initial.out l.out l.work
-
-abbrev pub decreases-loop-left : goal.decreases-loop-left
-decreases-loop-left l = l.left

@@ -1,7 +1,0 @@
-use Rattle.report_causes.proofs.step.is_named.Goals as goal
-
-pub returns-then-used : goal.returns-then-used
-returns-then-used c = rw c.if-used.true
-
-pub returns-else-used : goal.returns-else-used
-returns-else-used c = rw c.if-used.false

@@ -1,4 +1,0 @@
-use Rattle.report_trace.proofs.cut.limit_at.Goals as goal
-
-pub returns : goal.returns
-returns c = rw c.head_at.ensures

@@ -1,4 +1,0 @@
-use Rattle.report_trace.proofs.decide.is_equal.Goals as goal
-
-pub returns : goal.returns
-returns c = rw (c.has.ensures, c.limit_at.ensures, c.limit_at-2.ensures)
