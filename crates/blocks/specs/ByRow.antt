@@ -1,9 +1,9 @@
 -- A loop that fills a block with f row by row; and the rows that `load_rows` and `join_rows` make.
-use Rattle.std.specs.Prelude.{ℕ, ◌+◌, ◌≤◌, ◌<◌, List, ◌++◌, Bool, true, false, ◌≡◌, ltb, take, drop, Float}
+use Rattle.std.specs.Prelude.{ℕ, ◌+◌, ◌-◌, ◌*◌, ◌≤◌, ◌<◌, List, ◌++◌, Bool, true, false, ◌≡◌, ltb, take, drop, Float}
 use Rattle.std.proofs.Math.Path.{sym, ap}
-use Rattle.std.proofs.Common.{◌∙◌, arith, le_refl, length-take, length-drop, get_or-drop, drop-drop}
+use Rattle.std.proofs.Common.{◌∙◌, arith, le_refl, length-take, length-drop, get_or-drop, drop-drop, mul-le-mul_left, mul-le-mul_right}
 use Rattle.std.proofs.Math.ListN.{length, get_or}
-use Rattle.std.proofs.Math.Seq.{get_or-take}
+use Rattle.std.proofs.Math.Seq.{get_or-take, take-take}
 use borrow.Rule.Slice.PartMut.{put_mid}
 use Rattle.std.specs.Float.Ieee.{nan}
 use borrow.Author.Tests.{ltb-true, ltb-false}
@@ -16,7 +16,7 @@ use Rattle.model.specs.Poly.{block, read_at}
 use Rattle.model.specs.Add.{join_at}
 use Rattle.shape_words.specs.Lengths.{Sizes, Inside, RowAt, inside_is, is_inside_lem}
 use Rattle.lists.specs.Fill.{filled_row, filled-rest, filled-all, part-table}
-use Rattle.blocks.specs.Rows.{AtRow, at_first, at_next, at_row, row_fits, along_row, index-row, place-row}
+use Rattle.blocks.specs.Rows.{AtRow, at_first, at_next, at_row, row_fits, rows, count-rows, along_row, index-row, place-row}
 use Rattle.blocks.specs.Rows.{along-fits, CuttingRows, JoiningRows, inner-inside, line_joined}
 
 -- the rows before the place p are done, and i is the index of p
@@ -51,6 +51,46 @@ module _ {c : List ℕ} {f : ℕ → Float} {d : List Float} (g : Sizes c) (full
 
   pub by-len : {out : List Float} {p : ℕ} {i : List ℕ} → ByRow c f d out p i → length out ≡ count c
   by-len b = b.done.len ∙ full
+
+-- the number of rows is small
+pub rows-small : {c : List ℕ} → Sizes c → (at c 0 * at c 1 ≤ 16777216) × (at c 0 * at c 1 * at c 2 ≤ 16777216)
+rows-small {c} g =
+    let x : rows c * 1 ≤ rows c * at c 3 = mul-le-mul_left (rows c) g.p3 in
+    let y : at c 0 * at c 1 * 1 ≤ rows c = mul-le-mul_left (at c 0 * at c 1) g.p2 in
+    (omega (arith, x, y, count-rows c, g.most), omega (arith, x, count-rows c, g.most))
+
+-- the loop over the rows, from row to row
+module _ {c : List ℕ} (g : Sizes c) (row : ℕ) where
+  pub row-begins : row < at c 0 * at c 1 * at c 2 → row * at c 3 < count c
+  row-begins h =
+      let x : (row + 1) * at c 3 ≤ rows c * at c 3 = mul-le-mul_right (at c 3) (omega arith) in
+      omega (arith, x, count-rows c, g.p3)
+
+  pub rows-end : at c 0 * at c 1 * at c 2 ≤ row → count c ≤ row * at c 3
+  rows-end h =
+      let x : rows c * at c 3 ≤ row * at c 3 = mul-le-mul_right (at c 3) h in
+      omega (arith, x, count-rows c)
+
+module _ {c : List ℕ} {f : ℕ → Float} {d : List Float} (g : Sizes c) (full : length d ≡ count c) where
+  pub by-start : ByRow c f d d (0 * at c 3) (four (λ k. 0))
+  by-start = let z : 0 * at c 3 ≡ 0 = omega arith in rw z (by-none g full)
+
+  pub by-row : (row : ℕ) {out new : List Float} {m : ℕ} {i j : List ℕ} → ByRow c f d out (row * at c 3) i → row * at c 3 < count c
+      → m ≡ at c 3 → new ≡ table (at c 3) (λ k. f (row * at c 3 + k))
+      → j ≡ index c (place c i + at c 3) → ByRow c f d (put_mid (row * at c 3) m out new) ((row + 1) * at c 3) j
+  by-row row b h e r k = let x : (row + 1) * at c 3 ≡ row * at c 3 + at c 3 = omega arith in rw x (by-put g full b h e r k)
+
+  pub by-rows : (row : ℕ) {out : List Float} {i : List ℕ} → ByRow c f d out (row * at c 3) i → at c 0 * at c 1 * at c 2 ≤ row → out ≡ table (count c) f
+  by-rows row b h = by_end g full b (rows-end g row h)
+
+-- a row of w places that was copied from one place to another
+pub copied : (w at' from : ℕ) (a out : List Float) {new : List Float} → at' + w ≤ length out
+    → new ≡ take (length (take (at' + w - at') (drop at' out))) (take (from + w - from) (drop from a)) → new ≡ take w (drop from a)
+copied w at' from a out fit e =
+    let k : at' + w - at' ≡ w = omega arith in
+    let z : from + w - from ≡ w = omega arith in
+    let n : length (take w (drop at' out)) ≡ w = simp (length-take, length-drop) (omega arith) in
+    e ∙ (rw (k, n, z) (take-take w w _ (omega arith)))
 
 -- a row that is cut out of a block with greater lengths
 module _ (n c : List ℕ) (a d : List Float) (q : CuttingRows n c (length a) (length d)) {out : List Float} {p : ℕ}

@@ -1,6 +1,6 @@
 -- What an entry shows at its two returns, whatever the operation: refused, and done with the front of each buffer
 -- written.
-use Rattle.std.specs.Prelude.{Ok, Err, ℕ, ◌+◌, ◌-◌, ◌*◌, List, ◌++◌, ◌≡◌, Float}
+use Rattle.std.specs.Prelude.{Ok, Err, ℕ, ◌-◌, ◌*◌, List, ◌++◌, ◌≡◌, Float}
 use Rattle.std.proofs.Common.{append-nil, sym, ◌∙◌, arith, eq-eqb, ne_eqb}
 use Rattle.std.proofs.Math.Path.{ap}
 use Rattle.std.proofs.Math.ListN.{length, drop}

@@ -37,10 +37,10 @@ pub record AtRow (c : List ℕ) (p : ℕ) (i : List ℕ) : Type 0 where
   pub begins : p % at c 3 ≡ 0
 
 -- the number of rows
-abbrev rows : List ℕ → ℕ
+abbrev pub rows : List ℕ → ℕ
 rows c = at c 0 * at c 1 * at c 2
 
-count-rows : (c : List ℕ) → count c ≡ rows c * at c 3
+pub count-rows : (c : List ℕ) → count c ≡ rows c * at c 3
 count-rows c = count-is c ∙ simp mul_assoc
 
 module _ {c : List ℕ} (g : Sizes c) where

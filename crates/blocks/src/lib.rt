@@ -108,12 +108,11 @@ fn load_rows(a: &[f64], n: [usize; 4], c: [usize; 4], to: &mut [f64])
     ensures { to.new ≡ table (count c) (λ k. read_at (block n a.now) (index c k)) }
 {
     let width = c[3];
-    let mut at = 0;
     let mut i = [0usize; 4];
-    while at < to.len() {
+    for row in 0..c[0] * c[1] * c[2] {
         let from = shape_words::places::place_of(n, i);
+        let at = row * width;
         copy(&a[from..from + width], &mut to[at..at + width]);
-        at += width;
         let next = shape_words::places::next_row(c, i);
         i = next;
     }
@@ -154,11 +153,10 @@ fn join_rows(minus: bool, a: &[f64], n: [usize; 4], r: [usize; 4], to: &mut [f64
     ensures { to.new ≡ table (count r) (λ k. join_at minus (get_or to.old k nan) (block n a.now) (index r k)) }
 {
     let width = r[3];
-    let mut at = 0;
     let mut i = [0usize; 4];
-    while at < to.len() {
+    for row in 0..r[0] * r[1] * r[2] {
+        let at = row * width;
         join_row(minus, a, n, i, &mut to[at..at + width]);
-        at += width;
         let next = shape_words::places::next_row(r, i);
         i = next;
     }

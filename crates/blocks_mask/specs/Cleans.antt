@@ -1,6 +1,6 @@
 -- 17 (document 02, W10), looked for row by row: what a row says of the places of its block, and going on by a row.
 use Rattle.std.specs.Prelude.{ℕ, zero, suc, ◌+◌, ◌-◌, ◌≤◌, ◌<◌, List, Bool, true, false, ◌&&◌, ◌||◌, ◌≡◌, refl, ltb, eqb, length, get_or, take, drop, Float}
-use Rattle.std.proofs.Common.{ap, ap₂, ◌∙◌, arith, add-zero, zero-add, get_or-take, get_or-drop, lt-ltb, le-ltb, eq-eqb, ne_eqb}
+use Rattle.std.proofs.Common.{ap, ap₂, ◌∙◌, arith, add-zero, zero-add, get_or-take, get_or-drop, length-take, length-drop, lt-ltb, le-ltb, eq-eqb, ne_eqb}
 use Rattle.std.specs.Float.{nan, binary64}
 use Rattle.std.specs.Float.Ieee.{to_bits}
 use Rattle.lists.specs.Four.{at}
@@ -65,6 +65,9 @@ module _ (n : List ℕ) (c : ℕ) (a : List Float) (s : 0 < c) (q : Masking n (l
   pub clean-begins : RowAt n i
   clean-begins = at_row (sizes-of q.to) r h
 
+  pub clean-small : at i 0 + at i 1 + at i 2 ≤ 192
+  clean-small = let b = clean-begins.inside in let l = q.to in omega (arith, b, l)
+
   pub clean-fits : p + at n 3 ≤ count n
   clean-fits = row_fits (sizes-of q.to) r.begins h
 
@@ -73,6 +76,14 @@ module _ (n : List ℕ) (c : ℕ) (a : List Float) (s : 0 < c) (q : Masking n (l
 
   abbrev row : ℕ → Bool
   row = clean_along (at i 0 + at i 1 + at i 2) c (take (at n 3) (drop p a))
+
+  -- what the test of the row answers
+  pub clean-told : {b : Bool} → b ≡ every (clean_along (at i 0 + at i 1 + at i 2) c (take (p + at n 3 - p) (drop p a)))
+      (length (take (p + at n 3 - p) (drop p a))) 0 → b ≡ every row (at n 3) 0
+  clean-told e =
+      let k : p + at n 3 - p ≡ at n 3 = omega arith in
+      let m : length (take (at n 3) (drop p a)) ≡ at n 3 = simp (length-take, length-drop) (omega (arith, q.full, clean-fits)) in
+      (rw k at e) ∙ (rw m)
 
   place_is : (k : ℕ) → k < at n 3 → row k ≡ places (p + k)
   place_is k l =

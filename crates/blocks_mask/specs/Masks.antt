@@ -52,6 +52,9 @@ module _ (n : List ℕ) (c : ℕ) (d : List Float) (q : Masking n (length d)) {o
   pub mask-begins : RowAt n i
   mask-begins = at_row (sizes-of q.to) b.row h
 
+  pub mask-small : at i 0 + at i 1 + at i 2 ≤ 192
+  mask-small = let r = mask-begins.inside in let l = q.to in omega (arith, r, l)
+
   old : (k : ℕ) → k < at n 3 → get_or (take (at n 3) (drop p out)) k nan ≡ get_or d (p + k) nan
   old k l = get_or-take (at n 3) (drop p out) k nan l ∙ (ap (λ (x : List Float). get_or x k nan) (filled-rest b.done) ∙ get_or-drop p d k nan)
 

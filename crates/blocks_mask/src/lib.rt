@@ -32,11 +32,10 @@ fn mask_rows(n: [usize; 4], cap: usize, to: &mut [f64])
     ensures { to.new ≡ table (count n) (capped_at cap n to.old) }
 {
     let width = n[3];
-    let mut at = 0;
     let mut i = [0usize; 4];
-    while at < to.len() {
+    for row in 0..n[0] * n[1] * n[2] {
+        let at = row * width;
         mask_row(i[0] + i[1] + i[2], cap, &mut to[at..at + width]);
-        at += width;
         let next = shape_words::places::next_row(n, i);
         i = next;
     }
@@ -74,13 +73,12 @@ fn rows_are_clean(n: [usize; 4], cap: usize, of: &[f64]) -> bool
     ensures { result ≡ every (clean_place cap n of.now) (count n) 0 }
 {
     let width = n[3];
-    let mut at = 0;
     let mut i = [0usize; 4];
-    while at < of.len() {
+    for row in 0..n[0] * n[1] * n[2] {
+        let at = row * width;
         if !row_is_clean(i[0] + i[1] + i[2], cap, &of[at..at + width]) {
             return false;
         }
-        at += width;
         let next = shape_words::places::next_row(n, i);
         i = next;
     }

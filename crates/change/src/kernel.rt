@@ -46,6 +46,7 @@ fn drop_parts(all: bool, a: &[f64], s: usize, m: usize, width: usize, step: usiz
 {
     let mut from = 0;
     let mut at = 0;
+    // Stays a while: tried as `for t in 0..to.len() / step`, and up to a fifth slower on small parts by the division.
     while at < to.len() {
         drop_part(all, &a[from..from + width], s, m, &mut to[at..at + step]);
         from += width;

@@ -17,7 +17,7 @@ fn add_row(row: &[f64], to: &mut [f64])
     }
 }
 
-// Each place of `row` with that of `to` added to it.
+// Each place of `row` with that of `to` added to it. Not `add_row`: each contract says which of the two stands left.
 fn add_to_row(row: &[f64], to: &mut [f64])
     requires { length to.old ≤ length row.now }
     ensures { to.new ≡ table (length to.old) (λ k. add binary64 (get_or row.now k nan) (get_or to.old k nan)) }

@@ -14,6 +14,7 @@ fn trimmed(part: u64) -> u64
     ensures { decimal result ≡ 49 ∷ trimmed_places 9 part }
 {
     let mut m = 1000000000 + part;
+    // No `for`: the number of turns is how often 10 divides, which only the divisions say.
     while m % 10 == 0 {
         m = m / 10;
     }

@@ -10,6 +10,7 @@ const WORD_ONE: u64 = 17592186044416;
 
 const HEADER: u64 = 8192;
 
+// Not one function of the constant: each contract names its own definition, and each body is one expression.
 pub fn mended_one(word: u64) -> u64
     ensures { result ≡ mended_one word }
 {

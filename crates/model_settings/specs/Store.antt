@@ -1,8 +1,10 @@
 -- Document 02, W8: the settings store as 32 lists of contents, a list a department, oldest first; each call as a
 -- function of the lists and its arguments.
-use Rattle.std.specs.Prelude.{ℕ, ◌+◌, ◌-◌, Bool, true, false, ◌&&◌, ◌||◌, cond, List, [], ◌∷◌, ◌++◌, length, get_or, set, replicate, ltb, leb, eqb}
+use Rattle.std.specs.Prelude.{ℕ, ◌+◌, ◌-◌, Bool, true, false, ◌&&◌, ◌||◌, List, [], ◌∷◌, ◌++◌, length, get_or, set, replicate, ltb, leb, eqb, Result, Ok, Err}
 use Rattle.model_settings.specs.declared.Content.{Content}
 use Rattle.model_settings.specs.declared.Settled.{Settled}
+use Rattle.model_settings.specs.declared.Unsettled.{Unsettled}
+use Rattle.model_settings.specs.declared.Unsettled.TheVariants.{NoDepartment, OutOfRange, Stale, NotKept, LastVersion, NoStore}
 
 -- chance 0.0, horizon 1, recipe 0
 abbrev pub fresh_content : Content
@@ -27,33 +29,49 @@ last_version = 4294967295
 unfoldable pub kept : ℕ → ℕ → Bool
 kept v u = leb u v && ltb (v - u) 8
 
--- a refusal by its number, all other answers 0
-abbrev pub refuse : ℕ → Settled
-refuse n = record { number = n; version = 0; content = blank }
+-- what a call answers: a version and its content, or why it was refused
+abbrev pub Answer : Type 0
+Answer = Result Settled Unsettled
 
-abbrev pub told : ℕ → Content → Settled
-told v c = record { number = 0; version = v; content = c }
+-- the number of a refusal in document 02
+unfoldable pub number : Unsettled → ℕ
+number NoDepartment = 3
+number OutOfRange = 4
+number Stale = 13
+number NotKept = 14
+number LastVersion = 15
+number NoStore = 18
+
+abbrev pub refuse : Unsettled → Answer
+refuse q = Err q
+
+-- version v, which holds c
+abbrev pub settled : ℕ → Content → Settled
+settled v c = record { version = v; content = c }
+
+abbrev pub told : ℕ → Content → Answer
+told v c = Ok (settled v c)
 
 -- what follows where the test holds, else a refusal
-unfoldable pub ask : Bool → ℕ → Settled → Settled
-ask true n next = next
-ask false n next = refuse n
+unfoldable pub ask : Bool → Unsettled → Answer → Answer
+ask true q next = next
+ask false q next = refuse q
 
 -- The calls of department d, whose current version is v and whose versions hold `at`, refusals in the order in which
 -- they are tested.
-unfoldable pub reading : ℕ → ℕ → (ℕ → Content) → Settled
-reading d v at = ask (ltb d 32) 3 (told v (at v))
+unfoldable pub reading : ℕ → ℕ → (ℕ → Content) → Answer
+reading d v at = ask (ltb d 32) NoDepartment (told v (at v))
 
-unfoldable pub reading_version : ℕ → ℕ → ℕ → (ℕ → Content) → Settled
-reading_version d u v at = ask (ltb d 32) 3 (ask (kept v u) 14 (told u (at u)))
+unfoldable pub reading_version : ℕ → ℕ → ℕ → (ℕ → Content) → Answer
+reading_version d u v at = ask (ltb d 32) NoDepartment (ask (kept v u) NotKept (told u (at u)))
 
-unfoldable pub saving : ℕ → ℕ → Content → ℕ → Settled
+unfoldable pub saving : ℕ → ℕ → Content → ℕ → Answer
 saving d from c v =
-    ask (ltb d 32) 3 (ask (in_range c) 4 (ask (eqb from v) 13 (ask (ltb v last_version) 15 (told (v + 1) c))))
+    ask (ltb d 32) NoDepartment (ask (in_range c) OutOfRange (ask (eqb from v) Stale (ask (ltb v last_version) LastVersion (told (v + 1) c))))
 
-unfoldable pub bringing : ℕ → ℕ → ℕ → ℕ → (ℕ → Content) → Settled
+unfoldable pub bringing : ℕ → ℕ → ℕ → ℕ → (ℕ → Content) → Answer
 bringing d from u v at =
-    ask (ltb d 32) 3 (ask (eqb from v) 13 (ask (kept v u) 14 (ask (ltb v last_version) 15 (told (v + 1) (at u)))))
+    ask (ltb d 32) NoDepartment (ask (eqb from v) Stale (ask (kept v u) NotKept (ask (ltb v last_version) LastVersion (told (v + 1) (at u)))))
 
 -- The lists.
 abbrev pub State : Type 0
@@ -79,7 +97,7 @@ pub data Call : Type 0 where
   save : ℕ → ℕ → Content → Call
   bring_back : ℕ → ℕ → ℕ → Call
 
-unfoldable pub answer : Call → State → Settled
+unfoldable pub answer : Call → State → Answer
 answer fresh s = told 0 fresh_content
 answer (read d) s = reading d (current s d) (content_at s d)
 answer (read_version d u) s = reading_version d u (current s d) (content_at s d)
@@ -87,8 +105,9 @@ answer (save d from c) s = saving d from c (current s d)
 answer (bring_back d from u) s = bringing d from u (current s d) (content_at s d)
 
 -- an accepted save or bringing back makes one version more, of the content answered
-unfoldable pub onward : ℕ → Settled → State → State
-onward d a s = cond (eqb a.number 0) (set s d (versions s d ++ (a.content ∷ []))) s
+unfoldable pub onward : ℕ → Answer → State → State
+onward d (Ok a) s = set s d (versions s d ++ (a.content ∷ []))
+onward d (Err q) s = s
 
 unfoldable pub after : Call → State → State
 after fresh s = fresh_state

@@ -1,11 +1,11 @@
 -- The store as words: 17 a department, its version, then for slot 0 to 7 the chance's bits and horizon + 256 * recipe.
 -- Version u stands in slot u mod 8.
-use Rattle.std.specs.Prelude.{ℕ, zero, suc, ◌+◌, ◌-◌, ◌*◌, ◌/◌, ◌%◌, Bool, ◌&&◌, cond, List, length, get_or, set, ltb, leb, eqb}
+use Rattle.std.specs.Prelude.{ℕ, zero, suc, ◌+◌, ◌-◌, ◌*◌, ◌/◌, ◌%◌, Bool, ◌&&◌, cond, List, length, get_or, set, ltb, leb, eqb, Ok, Err}
 use Rattle.lists.specs.Table.{table, front}
 use Rattle.lists.specs.Every.{every}
 use Rattle.model_settings.specs.declared.Content.{Content}
-use Rattle.model_settings.specs.declared.Settled.{Settled}
-use Rattle.model_settings.specs.Store.{State, versions, blank, fresh_content, last_version, in_range, ask, told}
+use Rattle.model_settings.specs.declared.Unsettled.TheVariants.{NoStore}
+use Rattle.model_settings.specs.Store.{State, Answer, versions, blank, fresh_content, last_version, in_range, ask, told}
 use Rattle.model_settings.specs.Store.{reading, reading_version, saving, bringing}
 
 abbrev pub packed : Content → ℕ
@@ -59,8 +59,8 @@ unfoldable pub valid : List ℕ → Bool
 valid w = leb 544 (length w) && every (good_department w) 32 0
 
 -- The calls on words.
-unfoldable pub fresh_answer : List ℕ → Settled
-fresh_answer w = ask (leb 544 (length w)) 18 (told 0 fresh_content)
+unfoldable pub fresh_answer : List ℕ → Answer
+fresh_answer w = ask (leb 544 (length w)) NoStore (told 0 fresh_content)
 
 unfoldable pub fresh_word : ℕ → ℕ
 fresh_word i = cond (eqb (i % 17) 2) 1 0
@@ -68,25 +68,26 @@ fresh_word i = cond (eqb (i % 17) 2) 1 0
 unfoldable pub fresh_words : List ℕ → List ℕ
 fresh_words w = cond (leb 544 (length w)) (front 544 fresh_word w) w
 
-unfoldable pub read_words : List ℕ → ℕ → Settled
-read_words w d = ask (valid w) 18 (reading d (version_of w d) (held_at w d))
+unfoldable pub read_words : List ℕ → ℕ → Answer
+read_words w d = ask (valid w) NoStore (reading d (version_of w d) (held_at w d))
 
-unfoldable pub read_version_words : List ℕ → ℕ → ℕ → Settled
-read_version_words w d u = ask (valid w) 18 (reading_version d u (version_of w d) (held_at w d))
+unfoldable pub read_version_words : List ℕ → ℕ → ℕ → Answer
+read_version_words w d u = ask (valid w) NoStore (reading_version d u (version_of w d) (held_at w d))
 
-unfoldable pub save_words : List ℕ → ℕ → ℕ → Content → Settled
-save_words w d from c = ask (valid w) 18 (saving d from c (version_of w d))
+unfoldable pub save_words : List ℕ → ℕ → ℕ → Content → Answer
+save_words w d from c = ask (valid w) NoStore (saving d from c (version_of w d))
 
-unfoldable pub bring_words : List ℕ → ℕ → ℕ → ℕ → Settled
-bring_words w d from u = ask (valid w) 18 (bringing d from u (version_of w d) (held_at w d))
+unfoldable pub bring_words : List ℕ → ℕ → ℕ → ℕ → Answer
+bring_words w d from u = ask (valid w) NoStore (bringing d from u (version_of w d) (held_at w d))
 
 -- version v of department d, with its content
 unfoldable pub put : List ℕ → ℕ → ℕ → Content → List ℕ
 put w d v c =
     set (set (set w (d * 17) v) (d * 17 + 1 + 2 * (v % 8)) c.chance) (d * 17 + 2 + 2 * (v % 8)) (packed c)
 
-unfoldable pub put_answer : List ℕ → ℕ → Settled → List ℕ
-put_answer w d a = cond (eqb a.number 0) (put w d a.version a.content) w
+unfoldable pub put_answer : List ℕ → ℕ → Answer → List ℕ
+put_answer w d (Ok a) = put w d a.version a.content
+put_answer w d (Err q) = w
 
 -- the words after a save and after bringing back
 abbrev pub words_saved : List ℕ → ℕ → ℕ → Content → List ℕ

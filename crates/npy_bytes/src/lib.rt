@@ -125,7 +125,8 @@ pub fn float_of_4(word: u64) -> f64
     f32::from_bits(word as u32) as f64
 }
 
-// The same of f32s.
+// The same of f32s. Not one with `judge_words`: a width would have to choose the float, the bytes and their place, and
+// only the line of the loop is shared.
 pub fn fill_4(file: &[u8], at: usize, out: &mut [f64])
     requires { at + 4 * length out.old ≤ length file.now }
     ensures { out.new ≡ table (length out.old) (value_at four file.now at) }

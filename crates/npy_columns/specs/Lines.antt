@@ -1,12 +1,12 @@
 -- Values of a file that lie some values apart; and the rows of a block in column order.
 use Rattle.std.specs.Prelude.{ℕ, ◌+◌, ◌*◌, ◌≤◌, ◌<◌, List, cond, ◌≡◌, eqb, length, set, Float}
-use Rattle.std.proofs.Common.{sym, ◌∙◌, subst, arith, mul-add, mul-one, mul_assoc, mul-zero, mul-le-mul, mul-le-mul_left, ne_eqb}
+use Rattle.std.proofs.Common.{sym, ◌∙◌, subst, arith, mul-add, mul-one, mul_assoc, mul-zero, mul-le-mul, mul-le-mul_left, mul-le-mul_right, ne_eqb}
 use Rattle.std.proofs.Math.Path.{ap}
 use Rattle.lists.specs.Four.{at}
 use Rattle.lists.specs.Table.{table, table_same, Filled, filled_none, filled_more}
 use Rattle.lists.specs.Fill.{filled-all}
 use Rattle.model.specs.Header.{count}
-use Rattle.shape_words.specs.Lengths.{Lengths, Inside, RowAt, sizes-of, count_most}
+use Rattle.shape_words.specs.Lengths.{Lengths, Inside, RowAt, sizes-of, count-is, count_most}
 use Rattle.blocks.specs.Rows.{at_row, along_row, index-row}
 use Rattle.blocks.specs.ByRow.{ByRow}
 use Rattle.npy_grammar.specs.Text as text
@@ -80,6 +80,28 @@ along-step c i k z =
 step-most : {c : List ℕ} → Lengths c → step_of c ≤ 16777216
 step-most g =
     let m = mul-le-mul (mul-le-mul g.m0 g.m1) g.m2 in omega (arith, m)
+
+-- the step is the number of rows
+count-rows : (c : List ℕ) → count c ≡ step_of c * last_of c
+count-rows c = count-is c ∙ simp mul_assoc
+
+pub row_most : (c : List ℕ) (r : ℕ) → r < step_of c → r * last_of c + last_of c ≤ count c
+row_most c r h =
+    let x : (r + 1) * last_of c ≤ step_of c * last_of c = mul-le-mul_right (last_of c) (omega arith) in
+    omega (arith, x, count-rows c)
+
+pub row_more : {c : List ℕ} → Lengths c → (r : ℕ) → r < step_of c → r * last_of c < count c
+row_more {c} g r h = let p = g.p3 in omega (arith, row_most c r h)
+
+pub rows-none : (c : List ℕ) {f : ℕ → Float} {d out : List Float} {i : List ℕ} → ByRow c f d out 0 i → ByRow c f d out (0 * last_of c) i
+rows-none c {f} {d} {out} {i} b = subst (λ (p : ℕ). ByRow c f d out p i) (omega arith) b
+
+pub rows-next : (c : List ℕ) (r : ℕ) {f : ℕ → Float} {d out : List Float} {i : List ℕ} → ByRow c f d out (r * last_of c + last_of c) i
+    → ByRow c f d out ((r + 1) * last_of c) i
+rows-next c r {f} {d} {out} {i} b = subst (λ (p : ℕ). ByRow c f d out p i) (omega arith) b
+
+pub rows-end : (c : List ℕ) (r : ℕ) → r ≡ step_of c → count c ≤ r * last_of c
+rows-end c r e = omega (arith, ap (λ (x : ℕ). x * last_of c) e, count-rows c)
 
 pub record ColumnsFit (w : Width) (d n m l : ℕ) : Type 0 where
   pub bytes : d + bytes_of w * n ≤ m

@@ -46,20 +46,20 @@ fn column_of(n: [usize; 4], i: [usize; 4]) -> usize
     place_of([n[3], n[2], n[1], n[0]], [i[3], i[2], i[1], i[0]])
 }
 
-// Row by row, each from a running index.
+// Row by row, each from the index that it begins with.
 fn rows<const WIDTH: usize>(file: &[u8], at: usize, n: [usize; 4], out: &mut [f64])
     requires fact_1 { Lengths n }
     requires fact_2 { ColumnsFit (width_of WIDTH) at (count n) (length file.now) (length out.old) }
     ensures { out.new ≡ table (count n) (columns_of (width_of WIDTH) file.now at n) }
 {
     let long = n[3];
+    // so many rows, and so far apart the values of one
     let step = n[0] * n[1] * n[2];
-    let mut p = 0;
     let mut i = [0usize; 4];
-    while p < out.len() {
+    for r in 0..step {
+        let p = r * long;
         let from = column_of(n, i);
         line::<WIDTH>(file, at, from, step, &mut out[p..p + long]);
-        p += long;
         let next = next_row(n, i);
         i = next;
     }
@@ -88,7 +88,8 @@ fn fill_columns<const WIDTH: usize>(file: &[u8], at: usize, n: [usize; 4], out: 
     rows::<WIDTH>(file, at, c, out);
 }
 
-// All values of a file, of `width` bytes each; columns where `order` is 2.
+// All values of a file, of `width` bytes each; columns where `order` is 2. Numbers and no enums: the contract reads
+// them so, by `width_of` and `order_of`.
 pub fn fill_as(width: usize, order: usize, file: &[u8], at: usize, n: [usize; 4], out: &mut [f64])
     requires fact_1 { Lengths n }
     requires fact_2 { ColumnsFit (width_of width) at (count n) (length file.now) (length out.old) }

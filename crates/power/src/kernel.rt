@@ -94,6 +94,7 @@ fn squarings(
     let mut lr = [1usize; 4];
     let mut lb = la;
     let mut left = e;
+    // A while, as `left` is halved: no index is counted.
     while 1 < left {
         let r = take_bit(work, left, lr, lb, n, limits, out);
         let b = times_to(work, 0, lb, 0, lb, 0, n, limits, out);

@@ -1,14 +1,14 @@
 -- Rows that are shifted up by s, and the loop that goes from row to row.
 use Rattle.std.specs.Prelude.{ℕ, ◌+◌, ◌-◌, ◌*◌, ◌/◌, ◌%◌, ◌≤◌, ◌<◌, List, ◌++◌, true, ◌≡◌, refl, ltb, length, get_or, take, drop, Float}
-use Rattle.std.proofs.Common.{sym, ap, ◌∙◌, arith, mul-le-mul_right, get_or-take, drop_at, drop-drop, ltb-true, ltb-false, lt-ltb, le-ltb}
+use Rattle.std.proofs.Common.{sym, ap, subst, ◌∙◌, arith, mul-le-mul_right, get_or-take, drop_at, drop-drop, ltb-true, ltb-false, lt-ltb, le-ltb}
 use Rattle.std.proofs.Math.Arith.{digits_div, digits_mod}
 use Rattle.std.specs.Float.{nan, binary64}
 use Rattle.std.specs.Float.Ieee.{mul}
 use borrow.Rule.Slice.PartMut.{put_mid}
 use Rattle.lists.specs.Test.{decide}
-use Rattle.lists.specs.Table.{table, table_same, length-table, Filled}
+use Rattle.lists.specs.Table.{table, table_same, length-table, Filled, filled_none}
 use Rattle.model.specs.Refusals.{zero_f, zeros}
-use Rattle.lists.specs.Fill.{filled_row}
+use Rattle.lists.specs.Fill.{filled_row, filled-all}
 use Rattle.product_linear.specs.Rows.{raised_row, raised_flat, Rows}
 
 -- ---- one row
@@ -79,3 +79,22 @@ pub rows_more : (w q : ℕ) {at' : ℕ} {f : ℕ → Float} {d out row : List Fl
 rows_more w q {at'} {f} {d} {out} {row} e r h eq =
     let k : drop q (drop at' out) ≡ drop (at' + w) out = drop-drop q at' out ∙ ap (λ (j : ℕ). drop (at' + j) out) eq in
     rw k (filled_row w e r h)
+
+-- ---- rows of w places, counted
+
+pub turn-none : (w : ℕ) {f : ℕ → Float} {d : List Float} → Filled (0 * w) f d d
+turn-none w {f} {d} = subst (λ (n : ℕ). Filled n f d d) (omega arith) filled_none
+
+-- the row r of n lies before their end
+pub turn-below : (w r n : ℕ) → r < n → r * w + w ≤ n * w
+turn-below w r n h = let x : (r + 1) * w ≤ n * w = mul-le-mul_right w (omega arith) in omega (arith, x)
+
+pub turn-more : (w q r : ℕ) {f : ℕ → Float} {d out row : List Float} → Filled (r * w) f d out
+    → row ≡ table w (λ k. f (r * w + k)) → r * w + w ≤ length d → q ≡ w → Filled ((r + 1) * w) f d (put_mid (r * w) q out row)
+turn-more w q r {f} {d} {out} {row} e v h eq =
+    subst (λ (n : ℕ). Filled n f d (put_mid (r * w) q out row)) (omega arith) (rows_more w q e v h eq)
+
+-- all n of them
+pub turn-all : (w r n : ℕ) {f : ℕ → Float} {d out : List Float} → Filled (r * w) f d out → r ≡ n → n * w ≡ length d → out ≡ table (length d) f
+turn-all w r n {d = d} e p l =
+    let h : r * w ≡ length d = ap (λ (x : ℕ). x * w) p ∙ l in filled-all e (omega (arith, h)) (omega (arith, h))

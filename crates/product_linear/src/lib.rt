@@ -35,6 +35,7 @@ pub fn raise_rows(a: &[f64], m: f64, s: usize, width: usize, step: usize, to: &m
 {
     let mut from = 0;
     let mut at = 0;
+    // Stays a while: tried as `for r in 0..to.len() / step`, and the division makes a call slower by some 2 ns.
     while at < to.len() {
         raise_row(&a[from..from + width], m, s, &mut to[at..at + step]);
         from += width;
@@ -95,6 +96,7 @@ pub fn line_rows(a: &[f64], c: f64, m: f64, s: usize, width: usize, step: usize,
 {
     let mut from = 0;
     let mut at = 0;
+    // Stays a while, as in `raise_rows`.
     while at < to.len() {
         line_row(&a[from..from + width], c, m, s, &mut to[at..at + step]);
         from += width;

@@ -74,6 +74,7 @@ fn four_on(xs: &[f64], ys: &[f64], k: usize, a: usize, b: usize, s: [f64; 4]) ->
     let mut s2 = s[2];
     let mut s3 = s[3];
     let mut j = a;
+    // No `step_by(2)`: the j at which it ends says whether one more is left.
     while j + 1 < b {
         let x = xs[j];
         let u = xs[j + 1];
@@ -176,6 +177,7 @@ pub fn lines(xs: &[f64], nx: usize, ys: &[f64], ny: usize, res: &mut [f64])
 {
     let n = res.len();
     let mut k = 0;
+    // No `for`: a test says whether a turn takes four places or one.
     while k < n {
         if k + 3 < n {
             add_four(res, k, four_at(xs, nx, ys, ny, k));

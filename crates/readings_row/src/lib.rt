@@ -34,6 +34,7 @@ fn pick_stretches(a: &[f64], from: usize, width: usize, step: usize, to: &mut [f
 {
     let mut k = 0;
     let mut at = from;
+    // Stays a while: tried as `for q in 0..to.len() / width`, and a tenth to a half slower by the division.
     while k < to.len() {
         copy(&a[at..at + width], &mut to[k..k + width]);
         k += width;
@@ -62,14 +63,13 @@ fn pick_rows(a: &[f64], n: [usize; 4], c: [usize; 4], v: usize, order: usize, to
     ensures { to.new ≡ table (count c) (λ k. read_at (block n a.now) (set (index c k) v order)) }
 {
     let width = c[3];
-    let mut at = 0;
     let mut i = [0usize; 4];
-    while at < to.len() {
+    for row in 0..c[0] * c[1] * c[2] {
         let mut j = i;
         j[v] = order;
         let from = shape_words::places::place_of(n, j);
+        let at = row * width;
         copy(&a[from..from + width], &mut to[at..at + width]);
-        at += width;
         let next = shape_words::places::next_row(c, i);
         i = next;
     }

@@ -57,6 +57,7 @@ fn lowest(lasts: &[usize], counts: &[usize], offsets: &[usize], count: usize) ->
 {
     let mut at = 0;
     let mut j = 0;
+    // No `for`: j starts again at 0 each time that a live part is in the way.
     while j < offsets.len() {
         let last = lasts[j];
         let start = offsets[j];

@@ -15,6 +15,7 @@ pub fn read_full(from: &mut impl Read, to: &mut [u8]) -> io::Result<usize>
     ensures { IfOk result (λ n. IsPrefixLen n to.new) }
 {
     let mut done = 0;
+    // No `for`: a turn goes on by as many bytes as were read.
     while done < to.len() {
         let n = from.read(&mut to[done..])?;
         if n == 0 {

@@ -19,6 +19,7 @@ fn show_places(rt: &impl Print, w: u64, count: usize) -> io::Result<()> {
 
 pub fn show_words(rt: &impl Print, xs: &[u64]) -> io::Result<()> {
     let mut k = 0;
+    // No `for`: a turn goes on to the end of a stretch of equal neighbours.
     while k < xs.len() {
         let end = alike_words(xs, k);
         show_places(rt, xs[k], end - k)?;
@@ -29,6 +30,7 @@ pub fn show_words(rt: &impl Print, xs: &[u64]) -> io::Result<()> {
 
 pub fn show_floats(rt: &impl Print, xs: &[f64]) -> io::Result<()> {
     let mut k = 0;
+    // No `for`: a turn goes on to the end of a stretch of equal neighbours.
     while k < xs.len() {
         let end = alike_floats(xs, k);
         show_places(rt, sheet_bits::word_of(xs[k]), end - k)?;

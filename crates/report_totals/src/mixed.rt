@@ -43,7 +43,7 @@ fn mixed_next(known: &[u64], steps: &[u64], inputs: usize, full: &[usize], found
     least(own, least(first, second))
 }
 
-// Of the place p; 64 for none.
+// Of the place p; 64 for none. Why its loop is not shared with `first_out` is said at `furthest`.
 pub fn first_mixed(known: &[u64], steps: &[u64], inputs: usize, full: &[usize], p: usize) -> usize
     requires { p < 64 }
     ensures { result ≡ first_mixed (map header_of known.now) steps.now inputs full.now p }

@@ -27,6 +27,7 @@ pub fn number_power(e: u32, x: f64) -> f64
     let mut reached = 1.0;
     let mut base = x;
     let mut left = e;
+    // No `for`: `left` is halved, and the turns are as many as the exponent has bits below the highest.
     while 1 < left {
         reached = take_bit(left, reached, base);
         base = base * base;

@@ -76,7 +76,8 @@ fn seek(known: &[u64], v: usize, steps: &[u64], inputs: usize, p: usize) -> usiz
     )
 }
 
-// The nearest shift that lowers the limit on the way back from the place p, where there is one.
+// The nearest shift that lowers the limit on the way back from the place p, where there is one. Not one with `decider`
+// over a closure: what a step answers would be said again in its contract, for a loop of one line.
 pub fn lowerer(known: &[u64], v: usize, steps: &[u64], inputs: usize, p: usize) -> usize
     requires { v < 4 }
     ensures { result ≡ lowerer (map header_of known.now) v steps.now inputs p }

@@ -53,7 +53,8 @@ fn furthest_next(known: &[u64], v: usize, steps: &[u64], inputs: usize, found: &
     pick(p < inputs, p, first)
 }
 
-// The place that goes furthest of all that the place p is made from.
+// The place that goes furthest of all that the place p is made from. Its loop is not shared with `first_out` and
+// `first_mixed`: what a closure finds next would be said again in its contract, for a loop of one line.
 pub fn furthest(known: &[u64], v: usize, steps: &[u64], inputs: usize, p: usize) -> usize
     requires fact_1 { v < 4 }
     requires fact_2 { p < 64 }

@@ -81,7 +81,8 @@ fn first_next(known: &[u64], steps: &[u64], inputs: usize, full: &[usize], found
     least(own, least(first, second))
 }
 
-// The first place that leaves terms out, of the place p and all that it is made of; 64 for none.
+// The first place that leaves terms out, of the place p and all that it is made of; 64 for none. Why its loop is not
+// shared with `furthest` is said there.
 pub fn first_out(known: &[u64], steps: &[u64], inputs: usize, full: &[usize], p: usize) -> usize
     requires { p < 64 }
     ensures { result ≡ first_out (map header_of known.now) steps.now inputs full.now p }

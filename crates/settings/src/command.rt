@@ -6,7 +6,7 @@ ghost use Rattle.settings.specs.Given.{Given, CallGiven, HeardGiven};
 use model_settings::Content;
 use replay_input::{argument, argument_count};
 use settings_command::argument::{call_of, chance_of, whole_of};
-use settings_command::asked::Asked;
+use settings_command::asked::{Asked, Call};
 use std::env::Env;
 
 // Where nothing can be printed the steps go on: what is made of FILE does not hang on who listens.
@@ -32,8 +32,8 @@ fn given_chance(rt: &impl Env, i: usize) -> Option<u64>
     chance_of(&text[..n])
 }
 
-// Which call argument 2 names, with as many arguments as it takes; 0 for none.
-pub fn call_given(rt: &impl Env) -> u8
+// Which call argument 2 names, with as many arguments as it takes.
+pub fn call_given(rt: &impl Env) -> Option<Call>
     ensures { CallGiven result }
 {
     let mut name = [0u8; 64];
@@ -42,33 +42,41 @@ pub fn call_given(rt: &impl Env) -> u8
 }
 
 // What the arguments ask of a call, where each one that it has says a number.
-pub fn asked_of(rt: &impl Env, call: u8) -> Option<Asked>
+pub fn asked_of(rt: &impl Env, call: Call) -> Option<Asked>
     ensures { HeardGiven call result }
 {
-    let department = given(rt, 3);
-    let from = given(rt, 4);
-    let kept = given(rt, 5);
-    let chance = given_chance(rt, 5);
-    let horizon = given(rt, 6);
-    let recipe = given(rt, 7);
-    let saved = from.is_some() & (chance.is_some() & (horizon.is_some() & recipe.is_some()));
-    let brought = from.is_some() & kept.is_some();
-    let good = (call < 3)
-        | (department.is_some()
-            & ((call == 3) | (((call == 4) & saved) | ((call == 5) & brought))));
-    if !good {
-        return None;
+    match call {
+        Call::Fresh => Some(Asked::Fresh),
+        Call::Departments => Some(Asked::Departments),
+        Call::Versions => {
+            let department = given(rt, 3)?;
+            Some(Asked::Versions { department })
+        }
+        Call::Save => {
+            let department = given(rt, 3)?;
+            let from = given(rt, 4)?;
+            let chance = given_chance(rt, 5)?;
+            let horizon = given(rt, 6)?;
+            let recipe = given(rt, 7)?;
+            Some(Asked::Save {
+                department,
+                from,
+                content: Content {
+                    chance,
+                    horizon,
+                    recipe,
+                },
+            })
+        }
+        Call::Back => {
+            let department = given(rt, 3)?;
+            let from = given(rt, 4)?;
+            let kept = given(rt, 5)?;
+            Some(Asked::Back {
+                department,
+                from,
+                kept,
+            })
+        }
     }
-    let content = Content {
-        chance: chance.unwrap_or(0),
-        horizon: horizon.unwrap_or(0),
-        recipe: recipe.unwrap_or(0),
-    };
-    Some(Asked {
-        call,
-        department: department.unwrap_or(0),
-        from: from.unwrap_or(0),
-        kept: kept.unwrap_or(0),
-        content,
-    })
 }

@@ -4,6 +4,7 @@ ghost use Rattle.settings.specs.Given.{Loaded};
 
 use replay_input::read_full;
 use settings_command::argument::folder_length;
+use settings_command::sentence::Unread;
 use settings_text::file::take_store;
 use settings_text::whole::store;
 use std::fs::{File, OpenFile};
@@ -44,17 +45,11 @@ pub fn removed(rt: &impl Files, path: &[u8]) -> io::Result<()> {
     }
 }
 
-// Whether the name is no file's yet: 0, or 4 where it is one's or that cannot be seen.
-pub fn is_free(rt: &impl Files, path: &[u8]) -> u8 {
+// Where the name is no file's yet; it is taken too where that cannot be seen.
+pub fn is_free(rt: &impl Files, path: &[u8]) -> Result<(), Unread> {
     match opened(rt, path) {
-        Ok(_) => 4,
-        Err(e) => {
-            if e.kind() == ErrorKind::NotFound {
-                0
-            } else {
-                4
-            }
-        }
+        Err(e) if e.kind() == ErrorKind::NotFound => Ok(()),
+        _ => Err(Unread::Taken),
     }
 }
 
@@ -69,23 +64,26 @@ pub fn is_link(rt: &impl Files, path: &[u8]) -> bool {
     }
 }
 
-// The store's words: 0 where they were read; else they are as they were. 1: the file could not be opened, 2: not read
-// to its end, 3: it is no store's file.
-pub fn load(rt: &impl Files, path: &[u8], words: &mut [u64; 544]) -> u8
+// Reads the store's words; where they cannot be read, they are as they were.
+pub fn load(rt: &impl Files, path: &[u8], words: &mut [u64; 544]) -> Result<(), Unread>
     ensures { Loaded result words.old words.new }
 {
     let Ok(mut file) = opened(rt, path) else {
-        return 1;
+        return Err(Unread::NotOpened);
     };
     let mut text = [0u8; 9249];
     let Ok(n) = read_full(&mut file, &mut text) else {
-        return 2;
+        return Err(Unread::Cut);
     };
     let mut more = [0u8; 1];
     if file.read(&mut more).is_err() {
-        return 2;
+        return Err(Unread::Cut);
     }
-    if take_store(&text[..n], words) { 0 } else { 3 }
+    if take_store(&text[..n], words) {
+        Ok(())
+    } else {
+        Err(Unread::NotStore)
+    }
 }
 
 // Writes the words to a new file, asks that they reach the disk, and closes it; whether all of it went well.

@@ -13,7 +13,7 @@ ghost use Rattle.io.specs.Counts.{IsPrefixLen};
 use command::{asked_of, call_given, say};
 use file::{created, folder_synced, is_free, is_link, load, removed, renamed, written};
 use replay_input::argument;
-use settings_command::asked::{Asked, Performed, perform};
+use settings_command::asked::{Asked, Call, Performed, perform};
 use settings_command::sentence::put_unread;
 use settings_text::whole::beside;
 use std::io::ErrorKind;
@@ -115,13 +115,12 @@ fn prepare(
 ) -> Performed
     ensures { IsPrefixLen result.length text.new }
 {
-    let how = if asked.call == 1 {
-        is_free(rt, path)
-    } else {
-        load(rt, path, words)
+    let ready = match asked {
+        Asked::Fresh => is_free(rt, path),
+        _ => load(rt, path, words),
     };
-    if how != 0 {
-        let n = put_unread(how, 0, text);
+    if let Err(why) = ready {
+        let n = put_unread(why, 0, text);
         return Performed {
             keep: false,
             length: n,
@@ -130,22 +129,22 @@ fn prepare(
     perform(asked, words, text)
 }
 
-// Writes the words into FILE.new and gives it FILE's name: 0 where nothing was changed, 1 where it is done, 2 where it
-// is done and may be lost with the machine's power.
+// Writes the words into FILE.new and gives it FILE's name: whether it stays there should the machine lose its power, or
+// none where nothing was changed.
 fn put_in_place<R: Files + Print>(
     rt: &R,
     path: &[u8],
     new: &[u8],
     file: R::File,
     words: &[u64; 544],
-) -> u8 {
+) -> Option<bool> {
     if !written(file, words) {
         say(
             rt,
             b"FILE.new could not be written whole: the disk is full or failed, or a limit was met. Nothing was changed.\n",
         );
         take_away(rt, new);
-        return 0;
+        return None;
     }
     if renamed(rt, new, path).is_err() {
         say(
@@ -153,9 +152,9 @@ fn put_in_place<R: Files + Print>(
             b"FILE.new could not take the place of FILE. Nothing was changed.\n",
         );
         take_away(rt, new);
-        return 0;
+        return None;
     }
-    if folder_synced(rt, path) { 1 } else { 2 }
+    Some(folder_synced(rt, path))
 }
 
 // A change, where FILE.new is this program's.
@@ -170,12 +169,11 @@ fn change_alone<R: Files + Print>(rt: &R, path: &[u8], new: &[u8], file: R::File
         take_away(rt, new);
         return;
     }
-    let done = put_in_place(rt, path, new, file, &words);
-    if done == 0 {
+    let Some(synced) = put_in_place(rt, path, new, file, &words) else {
         return;
-    }
+    };
     say(rt, &text[..n]);
-    if done == 2 {
+    if !synced {
         say(
             rt,
             b"This is in FILE. Whether it reached the disk is not known: should the machine lose its power now, look again.\n",
@@ -211,18 +209,20 @@ fn show(rt: &(impl Files + Print), path: &[u8], asked: Asked) {
 fn main(rt: HostRuntime) {
     let mut path = [0u8; 4000];
     let n = argument(&rt, 1, &mut path);
-    let call = call_given(&rt);
-    if (n == 0) | (call == 0) {
+    if n == 0 {
         say_usage(&rt);
         return;
     }
+    let Some(call) = call_given(&rt) else {
+        say_usage(&rt);
+        return;
+    };
     let Some(asked) = asked_of(&rt, call) else {
         say_no_number(&rt);
         return;
     };
-    if (call == 2) | (call == 3) {
-        show(&rt, &path[..n], asked);
-    } else {
-        change(&rt, &path[..n], asked);
+    match call {
+        Call::Departments | Call::Versions => show(&rt, &path[..n], asked),
+        _ => change(&rt, &path[..n], asked),
     }
 }

@@ -1,5 +1,5 @@
 -- What the arguments of the program `settings` say: definitions, and no laws.
-use Rattle.std.specs.Prelude.{Some, None, ℕ, ◌+◌, ◌-◌, ◌*◌, Bool, true, false, ◌&&◌, cond, List, ltb, leb, eqb, length, get_or, Option}
+use Rattle.std.specs.Prelude.{Some, None, ℕ, ◌+◌, ◌-◌, ◌*◌, Bool, ◌&&◌, cond, List, ltb, leb, eqb, length, get_or, Option}
 use Rattle.std.specs.Float.{binary64}
 use Rattle.std.specs.Float.Ieee.{to_bits}
 use Rattle.lists.specs.Bytes.{bytes}
@@ -7,6 +7,8 @@ use Rattle.lists.specs.Every.{every}
 use Rattle.lists.specs.Walk.{walk}
 use Rattle.model_texts.specs.Hex.{word_at, digit_at}
 use Rattle.model_decimals.specs.Results.{Read}
+use Rattle.settings_command.specs.declared.asked.Call.{Call}
+use Rattle.settings_command.specs.declared.asked.Call.TheVariants.{Fresh, Departments, Versions, Save, Back}
 use Rattle.model_decimals.specs.Typed.{read_text}
 
 -- '0' to '9'
@@ -52,14 +54,14 @@ module _ (t : List ℕ) where
   unfoldable pub is_text : List ℕ → Bool
   is_text u = eqb (length t) (length u) && every (λ p. eqb (get_or t p 0) (get_or u p 0)) (length t) 0
 
-  -- which call a name is, with as many words as it takes, the program's own among them; 0 for none
-  unfoldable pub call_of : ℕ → ℕ
+  -- which call a name is, with as many words as it takes, the program's own among them
+  unfoldable pub call_of : ℕ → Option Call
   call_of count =
-      cond (is_text (bytes "fresh") && eqb count 3) 1
-      (cond (is_text (bytes "list") && eqb count 3) 2
-      (cond (is_text (bytes "versions") && eqb count 4) 3
-      (cond (is_text (bytes "save") && eqb count 8) 4
-      (cond (is_text (bytes "back") && eqb count 6) 5 0))))
+      cond (is_text (bytes "fresh") && eqb count 3) (Some Fresh)
+      (cond (is_text (bytes "list") && eqb count 3) (Some Departments)
+      (cond (is_text (bytes "versions") && eqb count 4) (Some Versions)
+      (cond (is_text (bytes "save") && eqb count 8) (Some Save)
+      (cond (is_text (bytes "back") && eqb count 6) (Some Back) None))))
 
   -- how many bytes of a file's name are its folder's, the last / among them
   unfoldable pub folder_length : ℕ

@@ -1,5 +1,5 @@
 -- What the loops over an argument carry, and which way a test went.
-use Rattle.std.specs.Prelude.{Some, None, ℕ, ◌+◌, ◌-◌, ◌*◌, ◌≤◌, ◌<◌, Bool, true, false, not}
+use Rattle.std.specs.Prelude.{Some, None, ℕ, ◌+◌, ◌-◌, ◌*◌, ◌≤◌, ◌<◌, Bool, true, false}
 use Rattle.std.specs.Prelude.{◌&&◌, cond, List, ◌≡◌, Float, length, get_or, zero, suc, [], ◌∷◌, drop, refl}
 use Rattle.std.proofs.Common.{sym, ap, arith, ◌∙◌, length-drop, get_or-drop}
 use Rattle.std.proofs.Math.Dec.{leb, eqb}
@@ -14,11 +14,10 @@ use Rattle.lists.specs.Every.{every, every-same}
 use Rattle.lists.specs.Test.{of-both, decide}
 use Rattle.model_texts.specs.Hex.{digit_at, word_at, is_digit}
 use Rattle.model_decimals.specs.Results.{Read}
-use Rattle.model_decimals.specs.Results.{Read}
 use Rattle.model_decimals.specs.Typed.{read_text}
 use Rattle.settings_command.specs.Argument.{is_decimal, is_number, is_bits, is_text, pushed, call_of, number_of}
 use Rattle.settings_command.specs.Argument.{says, says_nothing, whole_of, chance_read, chance_of}
-use Rattle.settings_command.specs.Sentence.{meaning, refusal_text, unread_text}
+use Rattle.settings_command.specs.declared.asked.Call.TheVariants.{Fresh, Departments, Versions, Save, Back}
 
 -- a test of each place, over a list one longer
 every-suc : (f : ℕ → Bool) (n p : ℕ) → every f n (suc p) ≡ every (λ q. f (suc q)) n p
@@ -130,29 +129,29 @@ module _ (t : List ℕ) (n : ℕ) where
   abbrev pub is_back : Bool
   is_back = is_text t (bytes "back") && eqb n 6
 
-  pub call_1 : starts_fresh ≡ true → 1 ≡ call_of t n
+  pub call_1 : starts_fresh ≡ true → Some Fresh ≡ call_of t n
   unfolding call_of
   call_1 a = rw a
 
-  pub call_2 : starts_fresh ≡ false → is_list ≡ true → 2 ≡ call_of t n
+  pub call_2 : starts_fresh ≡ false → is_list ≡ true → Some Departments ≡ call_of t n
   unfolding call_of
   call_2 a b = rw (a, b)
 
-  pub call_3 : starts_fresh ≡ false → is_list ≡ false → is_versions ≡ true → 3 ≡ call_of t n
+  pub call_3 : starts_fresh ≡ false → is_list ≡ false → is_versions ≡ true → Some Versions ≡ call_of t n
   unfolding call_of
   call_3 a b c = rw (a, b, c)
 
-  pub call_4 : starts_fresh ≡ false → is_list ≡ false → is_versions ≡ false → is_save ≡ true → 4 ≡ call_of t n
+  pub call_4 : starts_fresh ≡ false → is_list ≡ false → is_versions ≡ false → is_save ≡ true → Some Save ≡ call_of t n
   unfolding call_of
   call_4 a b c d = rw (a, b, c, d)
 
   pub call-5 :
-      starts_fresh ≡ false → is_list ≡ false → is_versions ≡ false → is_save ≡ false → is_back ≡ true → 5 ≡ call_of t n
+      starts_fresh ≡ false → is_list ≡ false → is_versions ≡ false → is_save ≡ false → is_back ≡ true → Some Back ≡ call_of t n
   unfolding call_of
   call-5 a b c d e = rw (a, b, c, d, e)
 
   pub call-0 :
-      starts_fresh ≡ false → is_list ≡ false → is_versions ≡ false → is_save ≡ false → is_back ≡ false → 0 ≡ call_of t n
+      starts_fresh ≡ false → is_list ≡ false → is_versions ≡ false → is_save ≡ false → is_back ≡ false → None ≡ call_of t n
   unfolding call_of
   call-0 a b c d e = rw (a, b, c, d, e)
 
@@ -174,14 +173,3 @@ pushed-small b n e h = rw (lt-ltb _ _ h, e)
 pub pushed_large : (b n : ℕ) → 100000000000000000 ≤ n → n ≡ pushed b n
 unfolding pushed
 pushed_large b n h = rw (le-ltb _ _ h)
-
-module _ (n : ℕ) where
-  pub meaning-rest :
-      (n ≡ 3 → ⊥) → (n ≡ 4 → ⊥) → (n ≡ 13 → ⊥) → (n ≡ 14 → ⊥) → (n ≡ 15 → ⊥)
-      → bytes "these are not a store's words: the file was damaged, or is something else." ≡ meaning n
-  unfolding meaning
-  meaning-rest a b c d e = rw (ne_eqb n 3 a, ne_eqb n 4 b, ne_eqb n 13 c, ne_eqb n 14 d, ne_eqb n 15 e)
-
-  pub unread-rest : (n ≡ 1 → ⊥) → (n ≡ 2 → ⊥) → (n ≡ 4 → ⊥) → refusal_text 18 ≡ unread_text n
-  unfolding unread_text
-  unread-rest a b c = rw (ne_eqb n 1 a, ne_eqb n 2 b, ne_eqb n 4 c)

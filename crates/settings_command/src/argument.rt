@@ -5,6 +5,7 @@ ghost use Rattle.settings_command.specs.Argument.{folder_length};
 ghost use Rattle.model_texts.specs.Hex.{is_digit};
 ghost use Rattle.io.specs.Counts.{IsPrefixLen};
 
+use crate::asked::Call;
 use model_decimals::Read;
 use sheet_bits::word_of;
 use sheet_text::line::word_at;
@@ -93,26 +94,26 @@ pub fn chance_of(text: &[u8]) -> Option<u64>
     }
 }
 
-// Which call a name is, with as many words as it takes: 1 fresh, 2 list, 3 versions, 4 save, 5 back; 0 for none.
-pub fn call_of(name: &[u8], count: usize) -> u8
+// Which call a name is, with as many words as it takes.
+pub fn call_of(name: &[u8], count: usize) -> Option<Call>
     ensures { result ≡ call_of name.now count }
 {
     if is_text(name, b"fresh") & (count == 3) {
-        return 1;
+        return Some(Call::Fresh);
     }
     if is_text(name, b"list") & (count == 3) {
-        return 2;
+        return Some(Call::Departments);
     }
     if is_text(name, b"versions") & (count == 4) {
-        return 3;
+        return Some(Call::Versions);
     }
     if is_text(name, b"save") & (count == 8) {
-        return 4;
+        return Some(Call::Save);
     }
     if is_text(name, b"back") & (count == 6) {
-        return 5;
+        return Some(Call::Back);
     }
-    0
+    None
 }
 
 // Where the folder's part ends once a byte more is seen, the place `next` behind it.

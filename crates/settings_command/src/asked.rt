@@ -2,44 +2,79 @@
 ghost use Rattle.std.specs.Prelude.{◌≡◌, ◌≤◌, length};
 ghost use Rattle.io.specs.Counts.{IsPrefixLen};
 ghost use Rattle.report_lines.specs.Puts.{Puts, Printed};
-ghost use Rattle.settings_command.specs.Asked.{settled_of, words_after, current_text, shown_text, reply_text};
+ghost use Rattle.settings_command.specs.Asked.{department_of, settled_of, words_after, current_text, kept_text, shown_text};
+ghost use Rattle.settings_command.specs.Asked.{reply_text};
 ghost use Rattle.settings_command.specs.Asked.{PerformPromise};
 
 use crate::sentence::put_refusal;
-use model_settings::{Content, Settled};
+use model_settings::{Answer, Content, Unsettled};
 use report_lines::put::put;
 use settings_text::line::{put_department, put_departments, put_versions};
 
-// What the arguments ask for: 1 fresh, 2 list, 3 versions, 4 save, 5 back; of the others those that the call has.
+// The calls that the program has.
+#[derive(Clone, Copy, PartialEq, Eq)]
+pub enum Call {
+    Fresh,
+    Departments,
+    Versions,
+    Save,
+    Back,
+}
+
+// What the arguments ask for: the call, and what it has.
 #[derive(Clone, Copy)]
-pub struct Asked {
-    pub call: u8,
-    pub department: u64,
-    pub from: u64,
-    pub kept: u64,
-    pub content: Content,
+pub enum Asked {
+    Fresh,
+    Departments,
+    Versions {
+        department: u64,
+    },
+    Save {
+        department: u64,
+        from: u64,
+        content: Content,
+    },
+    Back {
+        department: u64,
+        from: u64,
+        kept: u64,
+    },
+}
+
+impl Asked {
+    // Its department: of a fresh store and of a list 0, which every store has.
+    fn department(self) -> u64
+        ensures { result ≡ department_of self }
+    {
+        match self {
+            Asked::Fresh => 0,
+            Asked::Departments => 0,
+            Asked::Versions { department } => department,
+            Asked::Save { department, .. } => department,
+            Asked::Back { department, .. } => department,
+        }
+    }
 }
 
 // The call.
-fn settle(asked: Asked, words: &mut [u64]) -> Settled
+fn settle(asked: Asked, words: &mut [u64]) -> Answer
     ensures { (result ≡ settled_of asked words.old) × (words.new ≡ words_after asked words.old) }
 {
-    let call = asked.call;
-    let department = asked.department;
-    if call == 1 {
-        return settings_store::fresh(words);
+    match asked {
+        Asked::Fresh => settings_store::fresh(words),
+        Asked::Departments => settings_store::read(words, 0),
+        Asked::Versions { department } => settings_store::read(words, department),
+        Asked::Save {
+            department,
+            from,
+            content,
+        } => settings_store::save(words, department, from, content),
+        Asked::Back {
+            department,
+            from,
+            kept,
+        } => settings_store::bring_back(words, department, from, kept),
     }
-    if call == 4 {
-        let content = asked.content;
-        return settings_store::save(words, department, asked.from, content);
-    }
-    if call == 5 {
-        return settings_store::bring_back(words, department, asked.from, asked.kept);
-    }
-    if call == 3 {
-        return settings_store::read(words, department);
-    }
-    settings_store::read(words, 0)
 }
 
 // The current version of a department, where there is such a one.
@@ -53,49 +88,54 @@ fn put_current(department: u64, words: &[u64], at: usize, to: &mut [u8]) -> usiz
     at
 }
 
-// What an accepted call shows.
-fn put_shown(call: u8, department: u64, words: &[u64], at: usize, to: &mut [u8]) -> usize
+// The kept versions of a department, where there is such a one.
+fn put_kept_versions(department: u64, words: &[u64], at: usize, to: &mut [u8]) -> usize
     requires { 544 ≤ length words.now }
-    ensures { Puts (shown_text call department words.now) at to.old to.new result }
+    ensures { Puts (kept_text department words.now) at to.old to.new result }
 {
-    if call == 1 {
-        return put(
-            b"a fresh store: every department at version 0, chance 0, horizon 1, recipe 0.\n",
-            at,
-            to,
-        );
-    }
-    if call == 2 {
-        return put_departments(words, at, to);
-    }
-    if call != 3 {
-        return put_current(department, words, at, to);
-    }
     if department < 32 {
         return put_versions(words, department as usize, at, to);
     }
     at
 }
 
+// What an accepted call shows.
+fn put_shown(asked: Asked, words: &[u64], at: usize, to: &mut [u8]) -> usize
+    requires { 544 ≤ length words.now }
+    ensures { Puts (shown_text asked words.now) at to.old to.new result }
+{
+    match asked {
+        Asked::Fresh => put(
+            b"a fresh store: every department at version 0, chance 0, horizon 1, recipe 0.\n",
+            at,
+            to,
+        ),
+        Asked::Departments => put_departments(words, at, to),
+        Asked::Versions { department } => put_kept_versions(department, words, at, to),
+        Asked::Save { department, .. } => put_current(department, words, at, to),
+        Asked::Back { department, .. } => put_current(department, words, at, to),
+    }
+}
+
 // What is printed of a call's answer and the words after it.
-fn reply(asked: Asked, answer: Settled, words: &[u64], to: &mut [u8]) -> usize
+fn reply(asked: Asked, answer: Answer, words: &[u64], to: &mut [u8]) -> usize
     requires { 544 ≤ length words.now }
     ensures printed { Printed (reply_text asked answer words.now) to.old to.new result }
     ensures within { IsPrefixLen result to.new }
 {
-    let number = answer.number;
-    let department = asked.department;
-    if number == 0 {
-        return put_shown(asked.call, department, words, 0, to);
+    match answer {
+        Ok(_) => put_shown(asked, words, 0, to),
+        Err(why) => {
+            let next = put_refusal(why, 0, to);
+            match why {
+                Unsettled::Stale => put_current(asked.department(), words, next, to),
+                _ => next,
+            }
+        }
     }
-    let next = put_refusal(number, 0, to);
-    if number == 13 {
-        return put_current(department, words, next, to);
-    }
-    next
 }
 
-// Whether a call changed the words, and how many bytes are printed of it.
+// Whether a call changed the words, and how many bytes are printed of it. No Option: a refused call prints some too.
 #[derive(Clone, Copy)]
 pub struct Performed {
     pub keep: bool,
@@ -111,7 +151,7 @@ pub fn perform(asked: Asked, words: &mut [u64], to: &mut [u8]) -> Performed
     let answer = settle(asked, words);
     let n = reply(asked, answer, words, to);
     Performed {
-        keep: answer.number == 0,
+        keep: answer.is_ok(),
         length: n,
     }
 }

@@ -1,5 +1,5 @@
 -- The bits that are in range are those of the floats from 0 to 1, as IEEE compares.
-use Rattle.std.specs.Prelude.{ℕ, zero, suc, ◌+◌, ◌-◌, ◌*◌, ◌/◌, ◌%◌, ◌^◌, ◌≤◌, ◌<◌, Bool, not, ◌&&◌, ◌||◌, cond, ◌≡◌, T, ltb, Float}
+use Rattle.std.specs.Prelude.{ℕ, zero, suc, ◌+◌, ◌-◌, ◌*◌, ◌/◌, ◌%◌, ◌^◌, ◌≤◌, ◌<◌, Bool, ◌&&◌, ◌||◌, cond, ◌≡◌, T, ltb, Float}
 use Rattle.std.proofs.Math.Bool.{true, false}
 use Rattle.std.proofs.Common.{true≢false, ap, subst, ◌∙◌, mul-one, one-mul, zero-mul, mul-le-mul, mul-pos, le_trans}
 use Rattle.std.proofs.Common.{le_refl, lt_of_lt_of_le, mul-lt-mul_of_pos_right, pow_pos, pow_mono, pow-add}

@@ -1,4 +1,3 @@
 pub mod Face
-pub mod After
 pub mod Chance
 pub mod Between

@@ -5,7 +5,7 @@
 ghost use Rattle.std.specs.Prelude.{◌≡◌};
 ghost use Rattle.settings_face.specs.Face.{handed_over, word_of, version_after, horizon_after, recipe_after, chance_after};
 
-use model_settings::{Content, Settled};
+use model_settings::{Answer, Content};
 
 // What is handed over, the chance as its bits.
 pub fn content_of(chance: f64, horizon: u64, recipe: u64) -> Content
@@ -19,50 +19,47 @@ pub fn content_of(chance: f64, horizon: u64, recipe: u64) -> Content
 }
 
 // 0, or the refusal as one word.
-pub fn word_of(a: Settled) -> u64
+pub fn word_of(a: Answer) -> u64
     ensures { result ≡ word_of a }
 {
-    if a.number == 0 {
-        return 0;
+    match a {
+        Ok(_) => 0,
+        Err(q) => q.number() as u64 + 16384,
     }
-    a.number as u64 + 16384
 }
 
 // The version through its pointer; a refusal writes nothing.
-pub fn put_version(a: Settled, version: &mut u64)
+pub fn put_version(a: Answer, version: &mut u64)
     ensures { version.new ≡ version_after a version.old }
 {
-    if a.number == 0 {
-        *version = a.version;
+    if let Ok(s) = a {
+        *version = s.version;
     }
 }
 
 // The chance, as the float of its bits.
-pub fn put_chance(a: Settled, chance: &mut f64)
+pub fn put_chance(a: Answer, chance: &mut f64)
     ensures { chance.new ≡ chance_after a chance.old }
 {
-    if a.number == 0 {
-        let c = a.content;
-        *chance = sheet_bits::float_of(c.chance);
+    if let Ok(s) = a {
+        *chance = sheet_bits::float_of(s.content.chance);
     }
 }
 
 // The horizon.
-pub fn put_horizon(a: Settled, horizon: &mut u64)
+pub fn put_horizon(a: Answer, horizon: &mut u64)
     ensures { horizon.new ≡ horizon_after a horizon.old }
 {
-    if a.number == 0 {
-        let c = a.content;
-        *horizon = c.horizon;
+    if let Ok(s) = a {
+        *horizon = s.content.horizon;
     }
 }
 
 // The recipe's number.
-pub fn put_recipe(a: Settled, recipe: &mut u64)
+pub fn put_recipe(a: Answer, recipe: &mut u64)
     ensures { recipe.new ≡ recipe_after a recipe.old }
 {
-    if a.number == 0 {
-        let c = a.content;
-        *recipe = c.recipe;
+    if let Ok(s) = a {
+        *recipe = s.content.recipe;
     }
 }

@@ -9,9 +9,10 @@ use Rattle.std.proofs.Math.Arith.{digits_mod}
 use Rattle.lists.specs.Test.{and_left, and_right}
 use Rattle.lists.specs.Every.{every}
 use Rattle.model_settings.specs.declared.Content.{Content}
-use Rattle.model_settings.specs.declared.Settled.{Settled}
+use Rattle.model_settings.specs.declared.Unsettled.{Unsettled}
+use Rattle.model_settings.specs.declared.Unsettled.TheVariants.{NoDepartment, OutOfRange, Stale, NotKept, LastVersion, NoStore}
 use Rattle.model_settings.specs.Store.{State, versions, current, content_at, blank, fresh_content, in_range, last_version}
-use Rattle.model_settings.specs.Store.{kept, ask, told, reading, reading_version, saving, bringing}
+use Rattle.model_settings.specs.Store.{Answer, kept, ask, told, reading, reading_version, saving, bringing}
 use Rattle.model_settings.specs.Words.{slot_at, held_at, version_of, same_content, good_slot, good_department, valid}
 use Rattle.model_settings.specs.Words.{read_words, read_version_words, save_words, bring_words}
 use Rattle.settings_store.specs.Tests.{kept-parts}
@@ -106,14 +107,14 @@ module _ {s : State} {w : List ℕ} (g : Sound s) (h : Holds s w) where
       let m = (g.each d l).made in
       (h.each d l).slot u (omega (arith, p)) (omega (arith, p))
 
-ask-same : (b : Bool) (n : ℕ) {x y : Settled} → (b ≡ true → x ≡ y) → ask b n x ≡ ask b n y
+ask-same : (b : Bool) (q : Unsettled) {x y : Answer} → (b ≡ true → x ≡ y) → ask b q x ≡ ask b q y
 unfolding ask
-ask-same true n h = h refl
-ask-same false n h = refl
+ask-same true q h = h refl
+ask-same false q h = refl
 
-ask-yes : {b : Bool} (n : ℕ) (x : Settled) → b ≡ true → ask b n x ≡ x
+ask-yes : {b : Bool} (q : Unsettled) (x : Answer) → b ≡ true → ask b q x ≡ x
 unfolding ask
-ask-yes n x e = rw e
+ask-yes q x e = rw e
 
 kept-now : (v : ℕ) → kept v v ≡ true
 unfolding kept
@@ -129,36 +130,36 @@ module _ {s : State} {w : List ℕ} (g : Sound s) (h : Holds s w) (d : ℕ) wher
   pub read-agrees : read_words w d ≡ reading d (current s d) (content_at s d)
   unfolding read_words reading
   read-agrees =
-      ask-yes 18 _ (holds-valid g h)
-      ∙ ask-same (ltb d 32) 3
+      ask-yes NoStore _ (holds-valid g h)
+      ∙ ask-same (ltb d 32) NoDepartment
       (λ t. ap (λ z. told z (held_at w d z)) (now-same t) ∙ ap (told (current s d))
       (kept_same g h d (current s d) (low t) (kept-now (current s d))))
 
   pub version-agrees : (u : ℕ) → read_version_words w d u ≡ reading_version d u (current s d) (content_at s d)
   unfolding read_version_words reading_version
   version-agrees u =
-      ask-yes 18 _ (holds-valid g h)
-      ∙ ask-same (ltb d 32) 3
-      (λ t. ap (λ z. ask (kept z u) 14 (told u (held_at w d u))) (now-same t) ∙ ask-same (kept (current s d) u) 14
+      ask-yes NoStore _ (holds-valid g h)
+      ∙ ask-same (ltb d 32) NoDepartment
+      (λ t. ap (λ z. ask (kept z u) NotKept (told u (held_at w d u))) (now-same t) ∙ ask-same (kept (current s d) u) NotKept
       (λ k. ap (told u) (kept_same g h d u (low t) k)))
 
   pub save-agrees : (from : ℕ) (c : Content) → save_words w d from c ≡ saving d from c (current s d)
   unfolding save_words saving
   save-agrees from c =
-      ask-yes 18 _ (holds-valid g h)
-      ∙ ask-same (ltb d 32) 3
-      (λ t. ap (λ z. ask (in_range c) 4 (ask (eqb from z) 13 (ask (ltb z last_version) 15 (told (z + 1) c))))
+      ask-yes NoStore _ (holds-valid g h)
+      ∙ ask-same (ltb d 32) NoDepartment
+      (λ t. ap (λ z. ask (in_range c) OutOfRange (ask (eqb from z) Stale (ask (ltb z last_version) LastVersion (told (z + 1) c))))
       (now-same t))
 
   pub bring-agrees : (from u : ℕ) → bring_words w d from u ≡ bringing d from u (current s d) (content_at s d)
   unfolding bring_words bringing
   bring-agrees from u =
-      ask-yes 18 _ (holds-valid g h)
-      ∙ ask-same (ltb d 32) 3
+      ask-yes NoStore _ (holds-valid g h)
+      ∙ ask-same (ltb d 32) NoDepartment
       (λ t.
-      ap (λ z. ask (eqb from z) 13 (ask (kept z u) 14 (ask (ltb z last_version) 15 (told (z + 1) (held_at w d u)))))
+      ap (λ z. ask (eqb from z) Stale (ask (kept z u) NotKept (ask (ltb z last_version) LastVersion (told (z + 1) (held_at w d u)))))
       (now-same t)
-      ∙ ask-same (eqb from (current s d)) 13
-      (λ _. ask-same (kept (current s d) u) 14
-      (λ k. ask-same (ltb (current s d) last_version) 15
+      ∙ ask-same (eqb from (current s d)) Stale
+      (λ _. ask-same (kept (current s d) u) NotKept
+      (λ k. ask-same (ltb (current s d) last_version) LastVersion
       (λ _. ap (told (current s d + 1)) (kept_same g h d u (low t) k)))))

@@ -4,7 +4,7 @@
 -- from the current version, in range, with a number left others-stay     nothing but a save, a bringing back or a fresh
 -- store of that department changes what is read of it last-eight, dropped, unmade   the versions that are read are the
 -- last eight version-stays   what a version holds never changes
-use Rattle.std.specs.Prelude.{ℕ, ◌+◌, ◌-◌, ◌%◌, ◌≤◌, ◌<◌, Bool, true, false, not, ◌&&◌, ◌≡◌, length, set, drop, eqb, ltb, leb}
+use Rattle.std.specs.Prelude.{ℕ, ◌+◌, ◌-◌, ◌≤◌, ◌<◌, Bool, true, false, not, ◌&&◌, ◌≡◌, length, set, drop, eqb, ltb}
 use Rattle.std.proofs.Common.{true≢false, ap, ◌∙◌, arith}
 use mathlib.Core.List.{List, [], ◌∷◌, ◌++◌}
 use Rattle.std.proofs.Math.Path.{refl, sym}
@@ -14,16 +14,18 @@ use borrow.Author.Tests.{eqb-true, eqb-false, ltb-true, ltb-false, lt-ltb, le-lt
 use Rattle.lists.specs.Test.{and_left, and_right, decide}
 use Rattle.model_settings.specs.declared.Content.{Content}
 use Rattle.model_settings.specs.declared.Settled.{Settled}
-use Rattle.model_settings.specs.Store.{State, versions, current, content_at, blank, in_range, kept, last_version, ask}
+use Rattle.model_settings.specs.declared.Unsettled.TheVariants.{Stale, NotKept}
+use Rattle.std.specs.Prelude.{Ok, Err}
+use Rattle.model_settings.specs.Store.{State, Answer, versions, current, content_at, blank, in_range, kept, last_version, ask}
 use Rattle.model_settings.specs.Store.{told, refuse}
 use Rattle.model_settings.specs.Store.{reading, reading_version, Call, answer, after, onward}
 use Rattle.model_settings.specs.Store.Call.{fresh, read, read_version, save, bring_back}
-use Rattle.model_settings.specs.Words.{held_at, version_of, valid, put, put_answer, read_words, read_version_words}
-use Rattle.model_settings.specs.Words.{save_words, words_saved, bring_words}
+use Rattle.model_settings.specs.Words.{held_at, version_of, valid, put, read_words, read_version_words}
+use Rattle.model_settings.specs.Words.{save_words, words_saved}
 use Rattle.model_settings.specs.Calls.{answer_on, words_after, words_after_all, after_all}
 use Rattle.settings_store.specs.Tests.{ranged, valid-long}
 use Rattle.settings_store.specs.Gates.{Accepted, save-accepted, save-done, read_done, put-done}
-use Rattle.settings_laws.specs.Sound.{Sound, set_here, set_there, length_more, more-old}
+use Rattle.settings_laws.specs.Sound.{set_here, set_there, length_more, more-old}
 use Rattle.settings_laws.specs.Put.{put_version_lem, put-slot}
 use Rattle.settings_laws.specs.Agree.{holds-valid}
 use Rattle.settings_laws.specs.Sequences.{Stands, one_answer, one-step, all-steps}
@@ -48,12 +50,10 @@ is_fresh (save e from c) = false
 is_fresh (bring_back e from u) = false
 
 -- Of the lists.
-onward-other : (d e : ℕ) (a : Settled) (s : State) → eqb d e ≡ false → versions (onward e a s) d ≡ versions s d
+onward-other : (d e : ℕ) (a : Answer) (s : State) → eqb d e ≡ false → versions (onward e a s) d ≡ versions s d
 unfolding onward
-onward-other d e a s n =
-    decide (eqb a.number 0)
-    (λ t. rw t (set_there s (versions s e ++ (a.content ∷ [])) e d (eqb-false d e n)))
-    (λ t. rw t)
+onward-other d e (Ok a) s n = set_there s (versions s e ++ (a.content ∷ [])) e d (eqb-false d e n)
+onward-other d e (Err q) s n = refl
 
 pub others-versions : (c : Call) (s : State) (d : ℕ) → touches d c ≡ false → versions (after c s) d ≡ versions s d
 unfolding after touches
@@ -68,30 +68,26 @@ pub record Grown (old new : List Content) : Type 0 where
   pub longer : length old ≤ length new
   pub same : (u : ℕ) → u < length old → get_or new u blank ≡ get_or old u blank
 
-onward-grown : (d e : ℕ) (a : Settled) (s : State) → Grown (versions s d) (versions (onward e a s) d)
+stays : {xs : List Content} → Grown xs xs
+stays = record { longer = omega arith; same = λ u l. refl }
+
+one_more : (e : ℕ) (c : Content) (s : State) → Grown (versions s e) (versions (set s e (versions s e ++ (c ∷ []))) e)
+one_more e c s =
+    decide (ltb e (length s))
+    (λ t.
+    rw (set_here s (versions s e ++ (c ∷ [])) e (ltb-true e (length s) t))
+    (record {
+      longer = omega (arith, length_more (versions s e) c);
+      same = λ u l. more-old (versions s e) c u l;
+    }))
+    (λ t. rw (set_out s e (versions s e ++ (c ∷ [])) (ltb-false e (length s) t)) stays)
+
+onward-grown : (d e : ℕ) (a : Answer) (s : State) → Grown (versions s d) (versions (onward e a s) d)
 unfolding onward
-onward-grown d e a s =
-    decide (eqb a.number 0)
-    (λ t. rw t (decide (eqb d e) (λ q. rw (eqb-true d e q) (here e)) (λ q. rw (there q) stays)))
-    (λ t. rw t stays)
-  where
-    stays : {xs : List Content} → Grown xs xs
-    stays = record { longer = omega arith; same = λ u l. refl }
-
-    there : eqb d e ≡ false → versions (set s e (versions s e ++ (a.content ∷ []))) d ≡ versions s d
-    there q = set_there s (versions s e ++ (a.content ∷ [])) e d (eqb-false d e q)
-
-    here : (e : ℕ) → Grown (versions s e) (versions (set s e (versions s e ++ (a.content ∷ []))) e)
-    here e =
-        decide (ltb e (length s))
-        (λ t.
-        rw (set_here s (versions s e ++ (a.content ∷ [])) e (ltb-true e (length s) t))
-        (record {
-          longer = omega (arith, length_more (versions s e) a.content);
-          same = λ u l. more-old
-              (versions s e) a.content u l;
-        }))
-        (λ t. rw (set_out s e (versions s e ++ (a.content ∷ [])) (ltb-false e (length s) t)) stays)
+onward-grown d e (Ok a) s =
+    decide (eqb d e) (λ q. rw (eqb-true d e q) (one_more e a.content s))
+    (λ q. rw (set_there s (versions s e ++ (a.content ∷ [])) e d (eqb-false d e q)) stays)
+onward-grown d e (Err q) s = stays
 
 pub call-grown : (c : Call) (s : State) (d : ℕ) → is_fresh c ≡ false → Grown (versions s d) (versions (after c s) d)
 unfolding after is_fresh
@@ -132,11 +128,11 @@ module _ (s : State) (d u : ℕ) (low : d < 32) where
   last-eight a b = rw (lt-ltb d 32 low, le-leb u (current s d) a, lt-ltb (current s d - u) 8 (omega arith))
 
   -- and no others
-  pub dropped : u + 8 ≤ current s d → answer (read_version d u) s ≡ refuse 14
+  pub dropped : u + 8 ≤ current s d → answer (read_version d u) s ≡ refuse NotKept
   unfolding answer reading_version kept ask
   dropped a = rw (lt-ltb d 32 low, le-leb u (current s d) (omega arith), le-ltb (current s d - u) 8 (omega arith))
 
-  pub unmade : current s d < u → answer (read_version d u) s ≡ refuse 14
+  pub unmade : current s d < u → answer (read_version d u) s ≡ refuse NotKept
   unfolding answer reading_version kept ask
   unmade a = rw (lt-ltb d 32 low, lt-leb u (current s d) a)
 
@@ -149,20 +145,20 @@ module _ (w : List ℕ) (d from : ℕ) (c : Content) where
   first-accepted h low r e l =
       sym (save-done w d from c h low r e (omega arith)) ∙ ap (λ (v : ℕ). told (v + 1) c) (sym e)
 
-  module _ (h : (save_words w d from c).number ≡ 0) where
-    made : Accepted w d from c (save_words w d from c)
-    made = save-accepted w d from c refl h
+  module _ {a : Settled} (h : Ok a ≡ save_words w d from c) where
+    made : Accepted w d from c a
+    made = save-accepted w d from c h
 
     -- the words after an accepted save
     words_are : words_saved w d from c ≡ put w d (version_of w d + 1) c
-    words_are = sym (put-done w d refl h) ∙ ap (λ a. put w d a.version a.content) made.is
+    words_are = sym (put-done w d h) ∙ ap (λ (x : Settled). put w d x.version x.content) made.is
 
     stands_saved : Stands (drop 544 w) (after (save d from c) (decode w)) (words_saved w d from c)
     unfolding words_after
     stands_saved = one-step (valid-stands w made.sound) (save d from c)
 
     small : c.horizon ≤ 255
-    small = (ranged c (ap (λ a. in_range a.content) (sym made.is) ∙ made.range)).high
+    small = (ranged c (ap (λ (x : Settled). in_range x.content) (sym made.is) ∙ made.range)).high
 
     -- an accepted save is read back, bit for bit
     pub saved-back : read_words (words_saved w d from c) d ≡ told (version_of w d + 1) c
@@ -187,7 +183,7 @@ module _ (w : List ℕ) (d from : ℕ) (c : Content) where
     -- every later save from the same version is stale
     pub stale-for-ever :
         (cs : List Call) (e : Content) → none_fresh cs ≡ true → in_range e ≡ true → save_words
-        (words_after_all cs (words_saved w d from c)) d from e ≡ refuse 13
+        (words_after_all cs (words_saved w d from c)) d from e ≡ refuse Stale
     unfolding answer_on
     stale-for-ever cs e n r =
         let s : State = after (save d from c) (decode w) in
@@ -196,7 +192,7 @@ module _ (w : List ℕ) (d from : ℕ) (c : Content) where
         ∙ save_stale (after_all cs s) d e made.department r from (λ q. omega (arith, now_later, made.from))
 
     -- the other of two planners who started from one version
-    pub second_stale-words : (e : Content) → in_range e ≡ true → save_words (words_saved w d from c) d from e ≡ refuse 13
+    pub second_stale-words : (e : Content) → in_range e ≡ true → save_words (words_saved w d from c) d from e ≡ refuse Stale
     unfolding words_after_all none_fresh
     second_stale-words e r = stale-for-ever [] e refl r
 

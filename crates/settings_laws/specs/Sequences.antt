@@ -1,23 +1,23 @@
 -- The theorem: of any calls after a fresh one, the answers on words are the lists' answers, and the words hold the
 -- lists.
-use Prim.Native.Nat.{ℕ, ◌+◌, ◌-◌, ◌*◌, ◌/◌, ◌%◌, ◌≤◌, ◌<◌}
+use Prim.Native.Nat.{ℕ, ◌+◌, ◌*◌, ◌/◌, ◌%◌, ◌≤◌, ◌<◌}
 use Rattle.std.proofs.Math.Bool.{cond}
 use mathlib.Core.List.{List, [], ◌∷◌}
 use Rattle.std.specs.Prelude.{◌≡◌, refl, length, drop, eqb}
 use Rattle.std.proofs.Math.Path.{ap, subst}
-use Rattle.std.proofs.Common.{◌∙◌, eqb-true, le-leb, ne_eqb}
+use Rattle.std.proofs.Common.{◌∙◌, le-leb, ne_eqb}
 use native.Mathlib.Omega.{arith}
 use Rattle.std.proofs.Math.ListN.{get_or, get_or-append}
 use Rattle.std.proofs.Math.Seq.{drop_at}
 use Rattle.std.proofs.Math.Arith.{digits_mod}
-use Rattle.lists.specs.Test.{decide}
 use Rattle.lists.specs.Table.{table, front, length-table, length_front, table_at}
 use Rattle.model_settings.specs.declared.Content.{Content}
 use Rattle.model_settings.specs.declared.Settled.{Settled}
-use Rattle.model_settings.specs.Store.{State, versions, blank, fresh_content, fresh_state, told, ask, Call, answer}
+use Rattle.std.specs.Prelude.{Ok, Err}
+use Rattle.model_settings.specs.Store.{State, Answer, versions, blank, fresh_content, fresh_state, told, ask, Call, answer}
 use Rattle.model_settings.specs.Store.{after, onward}
 use Rattle.model_settings.specs.Store.Call.{fresh, read, read_version, save, bring_back}
-use Rattle.model_settings.specs.Words.{word, slot_at, fresh_word, fresh_words, fresh_answer, read_words, read_version_words}
+use Rattle.model_settings.specs.Words.{word, slot_at, fresh_word, fresh_words, fresh_answer}
 use Rattle.model_settings.specs.Words.{save_words, bring_words, put_answer}
 use Rattle.settings_store.specs.Tests.{same-fields}
 use Rattle.settings_store.specs.Gates.{Accepted, save-accepted, bring-accepted}
@@ -88,25 +88,23 @@ module _ (w : List ℕ) (long : 544 ≤ length w) where
   fresh-agrees = rw (le-leb 544 (length w) long)
 
 -- an answer of a save or of bringing back moves lists and words alike
-pub moved : {rest : List ℕ} {s : State} {w : List ℕ} {d f : ℕ} {c : Content} {a : Settled} →
-    Stands rest s w → (a.number ≡ 0 → Accepted w d f c a) → Stands rest (onward d a s) (put_answer w d a)
+pub moved : {rest : List ℕ} {s : State} {w : List ℕ} {d f : ℕ} {c : Content} (r : Answer) → Stands rest s w
+    → ((a : Settled) → ◌≡◌ {A = Answer} (Ok a) r → Accepted w d f c a) → Stands rest (onward d r s) (put_answer w d r)
 unfolding onward put_answer
-moved {rest} {s} {w} {d} {f} {c} {a} t h =
-    decide (eqb a.number 0)
-    (λ e.
-    let p = h (eqb-true a.number 0 e) in
+moved {rest} {s} {w} {d} {f} {c} (Ok a) t h =
+    let p = h a refl in
     let l = p.department in
     let x = t.sound.each d l in
     let v : a.version ≡ length (versions s d) = omega (arith, p.version, (t.holds.each d l).version, x.made) in
-    rw (e, v)
+    rw v
     (record {
       sound =
           sound-set d t.sound
           (good_more a.content x p.range (omega (arith, p.room, (t.holds.each d l).version, x.made))) l;
       holds = holds-put d a.content t.sound t.holds l p.range;
       behind = put-behind w d (length (versions s d)) a.content t.holds.long l ∙ t.behind;
-    }))
-    (λ e. rw e t)
+    })
+moved (Err q) t h = t
 
 module _ {rest : List ℕ} {s : State} {w : List ℕ} (t : Stands rest s w) where
   pub one_answer : (c : Call) → answer_on c w ≡ answer c s
@@ -123,9 +121,9 @@ module _ {rest : List ℕ} {s : State} {w : List ℕ} (t : Stands rest s w) wher
   one-step (read d) = t
   one-step (read_version d u) = t
   one-step (save d from c) = rw (← save-agrees t.sound t.holds d from c)
-      (moved t (save-accepted w d from c refl))
+      (moved (save_words w d from c) t (λ a e. save-accepted w d from c e))
   one-step (bring_back d from u) = rw (← bring-agrees t.sound t.holds d from u)
-      (moved t (bring-accepted w d from u refl))
+      (moved (bring_words w d from u) t (λ a e. bring-accepted w d from u e))
 
 pub all-answers :
     {rest : List ℕ} {s : State} {w : List ℕ} → Stands rest s w → (cs : List Call) → answers_on cs w ≡ answers cs s

@@ -5,6 +5,7 @@ use Rattle.std.proofs.lemmas.Bool.{lt-leb}
 use Rattle.lists.specs.Every.{every}
 use Rattle.lists.specs.Table.{table}
 use Rattle.model_settings.specs.declared.Content.{Content}
+use Rattle.model_settings.specs.declared.Unsettled.TheVariants.{NoStore}
 use Rattle.model_settings.specs.Store.{last_version, blank, fresh_content, in_range, told, refuse, ask}
 use Rattle.model_settings.specs.Words.{slot_at, same_content, good_slot, good_department, valid, version_of, fresh_word}
 use Rattle.model_settings.specs.Words.{fresh_words, fresh_answer}
@@ -69,6 +70,6 @@ pub fresh-done : (w : List ℕ) → 544 ≤ length w → told 0 fresh_content �
 unfolding fresh_answer ask
 fresh-done w h = rw (le-leb _ _ h)
 
-pub fresh-short : (w : List ℕ) → length w < 544 → refuse 18 ≡ fresh_answer w
+pub fresh-short : (w : List ℕ) → length w < 544 → refuse NoStore ≡ fresh_answer w
 unfolding fresh_answer ask
 fresh-short w h = rw (lt-leb _ _ h)

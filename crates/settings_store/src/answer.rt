@@ -1,79 +1,59 @@
 // What a save and bringing back answer, before any word changes.
 ghost use Rattle.std.specs.Prelude.{◌≡◌};
-ghost use Rattle.model_settings.specs.Store.{refuse, told};
 ghost use Rattle.model_settings.specs.Words.{save_words, bring_words};
 
 use crate::test::{in_range, is_kept, is_valid, slot};
-use model_settings::{Content, Settled};
+use model_settings::{Answer, Content, Settled, Unsettled};
 
-pub fn refused(number: u8) -> Settled
-    ensures { result ≡ refuse number }
-{
-    let content = Content {
-        chance: 0,
-        horizon: 0,
-        recipe: 0,
-    };
-    Settled {
-        number,
-        version: 0,
-        content,
-    }
-}
-
-pub fn tell(version: u64, content: Content) -> Settled
-    ensures { result ≡ told version content }
-{
-    Settled {
-        number: 0,
-        version,
-        content,
-    }
-}
-
-pub fn save_answer(words: &[u64], department: u64, from: u64, content: Content) -> Settled
+pub fn save_answer(words: &[u64], department: u64, from: u64, content: Content) -> Answer
     ensures { result ≡ save_words words.now department from content }
 {
     if !is_valid(words) {
-        return refused(18);
+        return Err(Unsettled::NoStore);
     }
     if 32 <= department {
-        return refused(3);
+        return Err(Unsettled::NoDepartment);
     }
     if !in_range(content) {
-        return refused(4);
+        return Err(Unsettled::OutOfRange);
     }
     let at = department as usize * 17;
     let v = words[at];
     if from != v {
-        return refused(13);
+        return Err(Unsettled::Stale);
     }
     if 4294967295 <= v {
-        return refused(15);
+        return Err(Unsettled::LastVersion);
     }
-    tell(v + 1, content)
+    Ok(Settled {
+        version: v + 1,
+        content,
+    })
 }
 
-pub fn bring_answer(words: &[u64], department: u64, from: u64, version: u64) -> Settled
+pub fn bring_answer(words: &[u64], department: u64, from: u64, version: u64) -> Answer
     ensures { result ≡ bring_words words.now department from version }
 {
     if !is_valid(words) {
-        return refused(18);
+        return Err(Unsettled::NoStore);
     }
     if 32 <= department {
-        return refused(3);
+        return Err(Unsettled::NoDepartment);
     }
     let d = department as usize;
     let at = d * 17;
     let current = words[at];
     if from != current {
-        return refused(13);
+        return Err(Unsettled::Stale);
     }
     if !is_kept(current, version) {
-        return refused(14);
+        return Err(Unsettled::NotKept);
     }
     if 4294967295 <= current {
-        return refused(15);
+        return Err(Unsettled::LastVersion);
     }
-    tell(current + 1, slot(words, d, (version % 8) as usize))
+    Ok(Settled {
+        version: current + 1,
+        content: slot(words, d, (version % 8) as usize),
+    })
 }

@@ -9,83 +9,85 @@ pub mod test;
 
 ghost use Rattle.model_settings.specs.Promises.{FreshPromise, ReadPromise, ReadVersionPromise, SavePromise, BringBackPromise};
 
-use answer::{bring_answer, refused, save_answer, tell};
+use answer::{bring_answer, save_answer};
 use change::{fresh_word, write};
-use model_settings::{Content, Settled};
+use model_settings::{Answer, Content, Settled, Unsettled};
 use test::{is_kept, is_valid, slot};
 
 // A fresh store: every department at version 0, 0.0, 1, 0. Refusal 18.
-pub fn fresh(words: &mut [u64]) -> Settled
+pub fn fresh(words: &mut [u64]) -> Answer
     ensures { FreshPromise words.old result words.new }
 {
     if words.len() < 544 {
-        return refused(18);
+        return Err(Unsettled::NoStore);
     }
     for (i, word) in words[..544].iter_mut().enumerate() {
         *word = fresh_word(i);
     }
-    tell(
-        0,
-        Content {
+    Ok(Settled {
+        version: 0,
+        content: Content {
             chance: 0,
             horizon: 1,
             recipe: 0,
         },
-    )
+    })
 }
 
 // The current version and its content: refusals 18, 3.
-pub fn read(words: &[u64], department: u64) -> Settled
+pub fn read(words: &[u64], department: u64) -> Answer
     ensures { ReadPromise words.now department result }
 {
     if !is_valid(words) {
-        return refused(18);
+        return Err(Unsettled::NoStore);
     }
     if 32 <= department {
-        return refused(3);
+        return Err(Unsettled::NoDepartment);
     }
     let d = department as usize;
     let at = d * 17;
     let v = words[at];
-    tell(v, slot(words, d, (v % 8) as usize))
+    Ok(Settled {
+        version: v,
+        content: slot(words, d, (v % 8) as usize),
+    })
 }
 
 // The content of a kept version: refusals 18, 3, 14.
-pub fn read_version(words: &[u64], department: u64, version: u64) -> Settled
+pub fn read_version(words: &[u64], department: u64, version: u64) -> Answer
     ensures { ReadVersionPromise words.now department version result }
 {
     if !is_valid(words) {
-        return refused(18);
+        return Err(Unsettled::NoStore);
     }
     if 32 <= department {
-        return refused(3);
+        return Err(Unsettled::NoDepartment);
     }
     let d = department as usize;
     let at = d * 17;
     if !is_kept(words[at], version) {
-        return refused(14);
+        return Err(Unsettled::NotKept);
     }
-    tell(version, slot(words, d, (version % 8) as usize))
+    Ok(Settled {
+        version,
+        content: slot(words, d, (version % 8) as usize),
+    })
 }
 
 // A new version from the one that the planner started from, and its number: refusals 18, 3, 4, 13, 15.
-pub fn save(words: &mut [u64], department: u64, from: u64, content: Content) -> Settled
+pub fn save(words: &mut [u64], department: u64, from: u64, content: Content) -> Answer
     ensures { SavePromise words.old department from content result words.new }
 {
-    let a = save_answer(words, department, from, content);
-    if a.number == 0 {
-        write(words, department, a.version, a.content);
-    }
-    a
+    let a = save_answer(words, department, from, content)?;
+    write(words, department, a.version, a.content);
+    Ok(a)
 }
 
 // The content of a kept version saved again, as a new version, and its number: refusals 18, 3, 13, 14, 15.
-pub fn bring_back(words: &mut [u64], department: u64, from: u64, version: u64) -> Settled
+pub fn bring_back(words: &mut [u64], department: u64, from: u64, version: u64) -> Answer
     ensures { BringBackPromise words.old department from version result words.new }
 {
-    let a = bring_answer(words, department, from, version);
-    if a.number == 0 {
-        write(words, department, a.version, a.content);
-    }
-    a
+    let a = bring_answer(words, department, from, version)?;
+    write(words, department, a.version, a.content);
+    Ok(a)
 }

@@ -1,4 +1,4 @@
--- A part that a loop has come to lies in the buffer.
-use Rattle.substitution_powers.specs.Powers.{begins-fits, power-begins}
+-- The parts lie in the buffer, and are all of it.
+use Rattle.substitution_powers.specs.Powers.{part-fits, whole-parts}
 
-pub ruleset parts_fit = (begins-fits, power-begins)
+pub ruleset parts_fit = (part-fits, whole-parts)

@@ -17,18 +17,16 @@ fn times_each(factor: f64, to: &mut [f64])
     }
 }
 
-// Rows of s places: row k times m to the k, by running products from 1.0.
-#[tactic(auto, using(crate::proofs::Fits::parts_fit))]
-fn power_rows(m: f64, s: usize, to: &mut [f64])
-    requires { Whole s (length to.old) }
+// Rows of s places: row r times m to the r, by running products from 1.0.
+fn power_rows(m: f64, s: usize, rows: usize, to: &mut [f64])
+    requires { length to.old ≡ rows * s }
     ensures { to.new ≡ table (length to.old) (by_row m s to.old) }
 {
     let mut factor = 1.0;
-    let mut at = 0;
-    while at < to.len() {
+    for r in 0..rows {
+        let at = r * s;
         times_each(factor, &mut to[at..at + s]);
         factor = factor * m;
-        at += s;
     }
 }
 
@@ -39,9 +37,9 @@ pub fn power_parts(m: f64, s: usize, width: usize, to: &mut [f64])
     requires fact_2 { Whole width (length to.old) }
     ensures { to.new ≡ table (length to.old) (by_part m s width to.old) }
 {
-    let mut at = 0;
-    while at < to.len() {
-        power_rows(m, s, &mut to[at..at + width]);
-        at += width;
+    let rows = width / s;
+    for r in 0..to.len() / width {
+        let at = r * width;
+        power_rows(m, s, rows, &mut to[at..at + width]);
     }
 }

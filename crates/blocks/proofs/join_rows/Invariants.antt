@@ -1,6 +1,5 @@
-use mathlib.Core.Path.{◌≡◌}
-use Prim.Native.Nat.{◌-◌}
-use lib.ListN.{length, get_or}
+use Prim.Native.Nat.{◌*◌}
+use lib.ListN.{get_or}
 use lib.Ieee.{nan}
 use Rattle.lists.specs.Four.{at}
 use Rattle.model.specs.Places.{index}
@@ -9,9 +8,6 @@ use Rattle.model.specs.Add.{join_at}
 use Rattle.blocks.specs.ByRow.{ByRow}
 use Rattle.blocks.proofs.join_rows.Given as goal
 
-abbrev pub invariant-loop-at : goal.invariant-loop-at
-invariant-loop-at l = (l.width ≡ at l.r 3) × ByRow l.r (λ k. join_at l.minus (get_or l.initial.to k nan) (block l.n l.a) (index l.r k))
-    l.initial.to l.to l.at l.i
-
-abbrev pub decreases-loop-at : goal.decreases-loop-at
-decreases-loop-at l = length l.initial.to - l.at
+abbrev pub invariant-loop-row : goal.invariant-loop-row
+invariant-loop-row l = ByRow l.r (λ k. join_at l.minus (get_or l.initial.to k nan) (block l.n l.a) (index l.r k))
+    l.initial.to l.to (l.row * at l.r 3) l.i

@@ -1,104 +1,68 @@
-use native.Mathlib.Omega.{arith}
-use mathlib.Core.Path.{◌≡◌, refl, ◌∙◌}
-use Prim.Native.Nat.{ℕ, ◌+◌, ◌-◌, ◌≤◌, ◌<◌}
-use lib.ListN.{length, set, take, drop, length-take, length-drop}
-use lib.Seq.{take-take}
+use Rattle.std.proofs.Common.{arith, ◌*◌}
 use Rattle.lists.specs.Four.{at}
-use Rattle.model.specs.Header.{count}
-use Rattle.model.specs.Places.{place}
 use Rattle.shape_words.specs.Lengths.{sizes-of}
-use Rattle.blocks.specs.ByRow.{by-none, by-put, by_fits, by-len}
+use Rattle.blocks.specs.ByRow.{by-start, by-row, by-rows, by_fits, row-begins, rows-small, copied}
 use Rattle.readings_row.specs.Rows.{pick-begins, pick_in, pick-from, pick-row}
 use Rattle.readings_row.proofs.pick_rows.Goals as goal
 
-pub loop-at-init : goal.loop-at-init
-loop-at-init c = (refl, by-none (sizes-of c.requires.to) c.requires.full)
+pub overflow_mul-row-end : goal.overflow_mul-row-end
+overflow_mul-row-end c = omega (arith, (rows-small (sizes-of c.requires.to)).0)
+
+pub overflow_mul-row-end-2 : goal.overflow_mul-row-end-2
+overflow_mul-row-end-2 c = omega (arith, (rows-small (sizes-of c.requires.to)).1)
+
+pub loop-row-init : goal.loop-row-init
+loop-row-init c = by-start (sizes-of c.requires.to) c.requires.full
 
 pub place_of-from-requires : goal.place_of-from-requires
 place_of-from-requires c =
-    let more : c.loop-at.at < count c.args.c =
-    let n = by-len (sizes-of c.requires.to) c.requires.full c.loop-at.invariant.1 in omega arith in
+    let more = row-begins (sizes-of c.requires.to) c.loop-row.row c.loop-row-test.true in
     record {
       fact_1 = sizes-of c.requires.from;
-      fact_2 = pick_in c.args.n c.args.c c.args.v c.args.order c.args.a.now c.args.to.now
-          (c.requires) c.loop-at.invariant.1 (more);
+      fact_2 = pick_in c.args.n c.args.c c.args.v c.args.order c.args.a.now c.args.to.now c.requires c.loop-row.invariant more;
     }
 
 pub overflow_add-from : goal.overflow_add-from
 overflow_add-from c =
-    let more : c.loop-at.at < count c.args.c =
-    let n = by-len (sizes-of c.requires.to) c.requires.full c.loop-at.invariant.1 in omega arith in
-    let from-fits : c.place_of-from.result + at c.args.c 3 ≤ length c.args.a.now =
-    omega (
-      arith,
-      c.place_of-from.ensures,
-      pick-from c.args.n c.args.c c.args.v c.args.order c.args.a.now c.args.to.now
-          c.requires c.loop-at.invariant.1 (more),
-    ) in
-    omega (arith, from-fits)
+    let more = row-begins (sizes-of c.requires.to) c.loop-row.row c.loop-row-test.true in
+    let fits = pick-from c.args.n c.args.c c.args.v c.args.order c.args.a.now c.args.to.now c.requires c.loop-row.invariant more in
+    omega (arith, c.place_of-from.ensures, fits)
 
 pub offset_bounds-a-from : goal.offset_bounds-a-from
 offset_bounds-a-from c =
-    let more : c.loop-at.at < count c.args.c =
-    let n = by-len (sizes-of c.requires.to) c.requires.full c.loop-at.invariant.1 in omega arith in
-    let from-fits : c.place_of-from.result + at c.args.c 3 ≤ length c.args.a.now =
-    omega (
-      arith,
-      c.place_of-from.ensures,
-      pick-from c.args.n c.args.c c.args.v c.args.order c.args.a.now c.args.to.now
-          c.requires c.loop-at.invariant.1 (more),
-    ) in
-    omega (arith, from-fits)
+    let more = row-begins (sizes-of c.requires.to) c.loop-row.row c.loop-row-test.true in
+    let fits = pick-from c.args.n c.args.c c.args.v c.args.order c.args.a.now c.args.to.now c.requires c.loop-row.invariant more in
+    omega (arith, c.place_of-from.ensures, fits)
 
 pub slice_bounds-copy-end : goal.slice_bounds-copy-end
 slice_bounds-copy-end c =
-    let more : c.loop-at.at < count c.args.c =
-    let n = by-len (sizes-of c.requires.to) c.requires.full c.loop-at.invariant.1 in omega arith in
-    let from-fits : c.place_of-from.result + at c.args.c 3 ≤ length c.args.a.now =
-    omega (
-      arith,
-      c.place_of-from.ensures,
-      pick-from c.args.n c.args.c c.args.v c.args.order c.args.a.now c.args.to.now
-          c.requires c.loop-at.invariant.1 (more),
-    ) in
-    omega (arith, from-fits)
-
-pub slice_bounds-copy-end-in-loop-at : goal.slice_bounds-copy-end-in-loop-at
-slice_bounds-copy-end-in-loop-at c =
-    let more : c.loop-at.at < count c.args.c =
-    let n = by-len (sizes-of c.requires.to) c.requires.full c.loop-at.invariant.1 in omega arith in
-    let to-fits : c.loop-at.at + at c.args.c 3 ≤ length c.loop-at.to =
-    by_fits (sizes-of c.requires.to) c.requires.full c.loop-at.invariant.1 (more) in
-    omega (arith, to-fits)
+    let more = row-begins (sizes-of c.requires.to) c.loop-row.row c.loop-row-test.true in
+    let fits = pick-from c.args.n c.args.c c.args.v c.args.order c.args.a.now c.args.to.now c.requires c.loop-row.invariant more in
+    omega (arith, c.place_of-from.ensures, fits)
 
 pub next_row-next-requires : goal.next_row-next-requires
 next_row-next-requires c =
-    let more : c.loop-at.at < count c.args.c =
-    let n = by-len (sizes-of c.requires.to) c.requires.full c.loop-at.invariant.1 in omega arith in
+    let more = row-begins (sizes-of c.requires.to) c.loop-row.row c.loop-row-test.true in
     record {
       fact_1 = sizes-of c.requires.to;
-      fact_2 = pick-begins c.args.n c.args.c c.args.v c.args.order c.args.a.now c.args.to.now (c.requires)
-          c.loop-at.invariant.1
-          (more);
+      fact_2 = pick-begins c.args.n c.args.c c.args.v c.args.order c.args.a.now c.args.to.now c.requires c.loop-row.invariant more;
     }
 
-pub loop-at-preserved : goal.loop-at-preserved
-loop-at-preserved c =
-    let more : c.loop-at.at < count c.args.c =
-    let n = by-len (sizes-of c.requires.to) c.requires.full c.loop-at.invariant.1 in omega arith in
-    let to-fits : c.loop-at.at + at c.args.c 3 ≤ length c.loop-at.to =
-    by_fits (sizes-of c.requires.to) c.requires.full c.loop-at.invariant.1 (more) in
-    let copied : c.copy.new.to ≡ take (at c.args.c 3)
-    (drop (place c.args.n (set c.loop-at.i c.args.v c.args.order)) c.args.a.now) =
-    let w : ℕ = at c.args.c 3 in
-    let p = to-fits in
-    let e : c.place_of-from.result + w - c.place_of-from.result ≡ w = omega arith in
-    let k : c.loop-at.at + w - c.loop-at.at ≡ w = omega arith in
-    let m : length (take (c.loop-at.at + w - c.loop-at.at) (drop c.loop-at.at c.loop-at.to)) ≡ w = simp (length-take, length-drop) (omega arith) in
-    c.copy.ensures ∙ (rw (m, e, c.place_of-from.ensures) (take-take w w _ (omega arith))) in (
-      refl,
-      by-put (sizes-of c.requires.to) c.requires.full c.loop-at.invariant.1 (more)
-          (let e : c.loop-at.at + at c.args.c 3 - c.loop-at.at ≡ at c.args.c 3 = omega arith in e)
-          (pick-row c.args.n c.args.c c.args.v c.args.order c.args.a.now c.args.to.now (c.requires) c.loop-at.invariant.1 (more)
-          (copied)) c.next_row-next.ensures,
-    )
+pub slice_bounds-copy-end-in-loop-row : goal.slice_bounds-copy-end-in-loop-row
+slice_bounds-copy-end-in-loop-row c =
+    let more = row-begins (sizes-of c.requires.to) c.loop-row.row c.loop-row-test.true in
+    let fits = by_fits (sizes-of c.requires.to) c.requires.full c.loop-row.invariant more in
+    omega (arith, fits)
+
+pub loop-row-preserved : goal.loop-row-preserved
+loop-row-preserved c =
+    let more = row-begins (sizes-of c.requires.to) c.loop-row.row c.loop-row-test.true in
+    let fits = by_fits (sizes-of c.requires.to) c.requires.full c.loop-row.invariant more in
+    by-row (sizes-of c.requires.to) c.requires.full c.loop-row.row c.loop-row.invariant more (omega arith)
+    (pick-row c.args.n c.args.c c.args.v c.args.order c.args.a.now c.args.to.now c.requires c.loop-row.invariant more
+    (rw (← c.place_of-from.ensures)
+    (copied (at c.args.c 3) (c.loop-row.row * at c.args.c 3) c.place_of-from.result c.args.a.now c.loop-row.to fits c.copy.ensures)))
+    c.next_row-next.ensures
+
+pub returns : goal.returns
+returns c = by-rows (sizes-of c.requires.to) c.requires.full c.loop-row.row c.loop-row.invariant c.loop-row-test.false

@@ -1,8 +1,10 @@
-use Rattle.settings_face.specs.After.{horizon-done, horizon-kept}
+use Rattle.settings_face.specs.Face.{horizon_after}
 use Rattle.settings_face.proofs.put_horizon.Goals as goal
 
-pub returns-then-a-eq0 : goal.returns-then-a-eq0
-returns-then-a-eq0 c = horizon-done _ c.if-a-eq0.true _
+pub returns-in-Ok : goal.returns-in-Ok
+unfolding horizon_after
+returns-in-Ok c = rw c.in-Ok.is
 
-pub returns-else-a-eq0 : goal.returns-else-a-eq0
-returns-else-a-eq0 c = horizon-kept _ c.if-a-eq0.false _
+pub returns-in_default : goal.returns-in_default
+unfolding horizon_after
+returns-in_default c = rw c.in_default.is

@@ -1,8 +1,10 @@
-use Rattle.settings_face.specs.After.{recipe-done, recipe-kept}
+use Rattle.settings_face.specs.Face.{recipe_after}
 use Rattle.settings_face.proofs.put_recipe.Goals as goal
 
-pub returns-then-a-eq0 : goal.returns-then-a-eq0
-returns-then-a-eq0 c = recipe-done _ c.if-a-eq0.true _
+pub returns-in-Ok : goal.returns-in-Ok
+unfolding recipe_after
+returns-in-Ok c = rw c.in-Ok.is
 
-pub returns-else-a-eq0 : goal.returns-else-a-eq0
-returns-else-a-eq0 c = recipe-kept _ c.if-a-eq0.false _
+pub returns-in_default : goal.returns-in_default
+unfolding recipe_after
+returns-in_default c = rw c.in_default.is

@@ -1,8 +1,10 @@
-use Rattle.settings_face.specs.After.{version-done, version-kept}
+use Rattle.settings_face.specs.Face.{version_after}
 use Rattle.settings_face.proofs.put_version.Goals as goal
 
-pub returns-then-a-eq0 : goal.returns-then-a-eq0
-returns-then-a-eq0 c = version-done _ c.if-a-eq0.true _
+pub returns-in-Ok : goal.returns-in-Ok
+unfolding version_after
+returns-in-Ok c = rw c.in-Ok.is
 
-pub returns-else-a-eq0 : goal.returns-else-a-eq0
-returns-else-a-eq0 c = version-kept _ c.if-a-eq0.false _
+pub returns-in_default : goal.returns-in_default
+unfolding version_after
+returns-in_default c = rw c.in_default.is

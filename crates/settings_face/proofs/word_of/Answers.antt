@@ -1,8 +1,10 @@
-use Rattle.settings_face.specs.After.{word-done, word-refused}
+use Rattle.settings_face.specs.Face.{word_of}
 use Rattle.settings_face.proofs.word_of.Goals as goal
 
-pub returns-then-a-eq0 : goal.returns-then-a-eq0
-returns-then-a-eq0 c = word-done _ c.if-a-eq0.true
+pub returns-in-Ok : goal.returns-in-Ok
+unfolding word_of
+returns-in-Ok c = rw c.in-Ok.is
 
-pub returns : goal.returns
-returns c = word-refused _ c.if-a-eq0.false
+pub returns-in-Err : goal.returns-in-Err
+unfolding word_of
+returns-in-Err c = rw (c.in-Err.is, c.number.ensures)

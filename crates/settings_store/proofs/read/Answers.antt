@@ -6,11 +6,11 @@ use Rattle.settings_store.specs.Gates.{read_18, read_3, read_done}
 use Rattle.settings_store.proofs.read.Goals as goal
 
 pub returns-then-not-is_valid : goal.returns-then-not-is_valid
-returns-then-not-is_valid c = c.refused.ensures ∙ read_18 _ _ (sym c.is_valid.ensures ∙ c.if-not-is_valid.true)
+returns-then-not-is_valid c = read_18 _ _ (sym c.is_valid.ensures ∙ c.if-not-is_valid.true)
 
 pub returns-then-department-ge32 : goal.returns-then-department-ge32
 returns-then-department-ge32 c =
-    c.refused-then-department-ge32.ensures ∙ read_3 _ _
+    read_3 _ _
     (sym c.is_valid.ensures ∙ c.if-not-is_valid.false) c.if-department-ge32.true
 
 pub bounds-words-at : goal.bounds-words-at
@@ -22,5 +22,5 @@ slot-requires c = record { fact_1 = omega (arith, valid-long _ (sym c.is_valid.e
 
 pub returns : goal.returns
 returns c =
-    c.tell.ensures ∙ (ap (told _) c.slot.ensures ∙ read_done _ _
+    (ap (told _) c.slot.ensures ∙ read_done _ _
     (sym c.is_valid.ensures ∙ c.if-not-is_valid.false) c.if-department-ge32.false)

@@ -6,11 +6,11 @@ use Rattle.settings_store.specs.Gates.{version_18, version_3, version_14, versio
 use Rattle.settings_store.proofs.read_version.Goals as goal
 
 pub returns-then-not-is_valid : goal.returns-then-not-is_valid
-returns-then-not-is_valid c = c.refused.ensures ∙ version_18 _ _ _ (sym c.is_valid.ensures ∙ c.if-not-is_valid.true)
+returns-then-not-is_valid c = version_18 _ _ _ (sym c.is_valid.ensures ∙ c.if-not-is_valid.true)
 
 pub returns-then-department-ge32 : goal.returns-then-department-ge32
 returns-then-department-ge32 c =
-    c.refused-then-department-ge32.ensures ∙ version_3 _ _ _
+    version_3 _ _ _
     (sym c.is_valid.ensures ∙ c.if-not-is_valid.false) c.if-department-ge32.true
 
 pub bounds-words-at : goal.bounds-words-at
@@ -19,7 +19,7 @@ bounds-words-at c =
 
 pub returns-then-not-is_kept : goal.returns-then-not-is_kept
 returns-then-not-is_kept c =
-    c.refused-then-not-is_kept.ensures ∙ version_14 _ _ _
+    version_14 _ _ _
     (sym c.is_valid.ensures ∙ c.if-not-is_valid.false) c.if-department-ge32.false
     (sym c.is_kept.ensures ∙ c.if-not-is_kept.true)
 
@@ -36,7 +36,7 @@ slot-requires c = record {
 
 pub returns : goal.returns
 returns c =
-    c.tell.ensures ∙ (ap (told _) c.slot.ensures ∙ version-done _ _ _
+    (ap (told _) c.slot.ensures ∙ version-done _ _ _
     (sym c.is_valid.ensures ∙ c.if-not-is_valid.false)
     c.if-department-ge32.false
     (sym c.is_kept.ensures ∙ c.if-not-is_kept.false))

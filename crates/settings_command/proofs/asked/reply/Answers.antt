@@ -1,19 +1,30 @@
 use Rattle.report_lines.specs.Puts.{puts_then}
 use Rattle.settings_text.specs.Tests.{whole, whole-counts}
-use Rattle.settings_command.specs.Settles.{reply-shown, reply-stale, reply-told}
+use Rattle.model_settings.specs.Store.{number}
+use Rattle.settings_command.specs.Asked.{reply_text, current_text, department_of}
+use Rattle.settings_command.specs.Settles.{told-alone}
 use Rattle.settings_command.proofs.asked.reply.Goals as goal
 
-pub returns-then-number-eq0 : goal.returns-then-number-eq0
-returns-then-number-eq0 c =
+pub returns-in-Ok : goal.returns-in-Ok
+unfolding reply_text
+returns-in-Ok c =
     let p = whole c.put_shown.ensures in
-    record { printed = rw (← reply-shown c.args.asked c.args.answer c.args.words.now c.if-number-eq0.true) p; within = whole-counts p }
+    record { printed = rw c.in-Ok.is p; within = whole-counts p }
 
-pub returns-then-number-eq13 : goal.returns-then-number-eq13
-returns-then-number-eq13 c =
+pub returns-in-Stale : goal.returns-in-Stale
+unfolding reply_text number
+returns-in-Stale c =
     let p = whole (puts_then c.put_refusal-next.ensures c.put_current.ensures) in
-    record { printed = rw (← reply-stale c.args.asked c.args.answer c.args.words.now c.if-number-eq0.false c.if-number-eq13.true) p; within = whole-counts p }
+    record {
+      printed = rw (c.in-Err.is, c.in-Stale.is, ← c.department.ensures, ← c.in-Stale.is) p;
+      within = whole-counts p;
+    }
 
-pub returns : goal.returns
-returns c =
+pub returns-in_default : goal.returns-in_default
+unfolding reply_text
+returns-in_default c =
     let p = whole c.put_refusal-next.ensures in
-    record { printed = rw (← reply-told c.args.asked c.args.answer c.args.words.now c.if-number-eq0.false c.if-number-eq13.false) p; within = whole-counts p }
+    record {
+      printed = rw (c.in-Err.is, ← told-alone c.in-Err.why (current_text (department_of c.args.asked) c.args.words.now) c.in_default.not-Stale) p;
+      within = whole-counts p;
+    }

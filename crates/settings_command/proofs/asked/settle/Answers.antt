@@ -1,21 +1,23 @@
-use Rattle.settings_command.specs.Settles.{settles-fresh, settles-save, settles-back, settles-read, settles-list}
+use mathlib.Core.Path.{refl}
+use Rattle.settings_command.specs.Asked.{settled_of, words_after}
 use Rattle.settings_command.proofs.asked.settle.Goals as goal
 
-pub returns-then-call-eq1 : goal.returns-then-call-eq1
-returns-then-call-eq1 c = settles-fresh _ _ c.if-call-eq1.true c.fresh.ensures
+pub returns-in-Fresh : goal.returns-in-Fresh
+unfolding settled_of words_after
+returns-in-Fresh c = rw c.in-Fresh.is c.fresh.ensures
 
-pub returns-then-call-eq4 : goal.returns-then-call-eq4
-returns-then-call-eq4 c =
-    settles-save _ _ c.if-call-eq1.false c.if-call-eq4.true c.save.ensures
+pub returns-in-Departments : goal.returns-in-Departments
+unfolding settled_of words_after
+returns-in-Departments c = rw c.in-Departments.is (c.read.ensures, refl)
 
-pub returns-then-call-eq5 : goal.returns-then-call-eq5
-returns-then-call-eq5 c =
-    settles-back _ _ c.if-call-eq1.false c.if-call-eq4.false c.if-call-eq5.true c.bring_back.ensures
+pub returns-in-Versions : goal.returns-in-Versions
+unfolding settled_of words_after
+returns-in-Versions c = rw c.in-Versions.is (c.read-in-Versions.ensures, refl)
 
-pub returns-then-call-eq3 : goal.returns-then-call-eq3
-returns-then-call-eq3 c =
-    settles-read _ _ c.if-call-eq1.false c.if-call-eq4.false c.if-call-eq5.false c.if-call-eq3.true c.read.ensures
+pub returns-in-Save : goal.returns-in-Save
+unfolding settled_of words_after
+returns-in-Save c = rw c.in-Save.is c.save.ensures
 
-pub returns : goal.returns
-returns c =
-    settles-list _ _ c.if-call-eq1.false c.if-call-eq4.false c.if-call-eq5.false c.if-call-eq3.false c.read-2.ensures
+pub returns-in-Back : goal.returns-in-Back
+unfolding settled_of words_after
+returns-in-Back c = rw c.in-Back.is c.bring_back.ensures

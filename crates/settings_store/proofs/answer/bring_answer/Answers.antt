@@ -6,11 +6,11 @@ use Rattle.settings_store.specs.Gates.{bring_18, bring_3, bring_13, bring-14, br
 use Rattle.settings_store.proofs.answer.bring_answer.Goals as goal
 
 pub returns-then-not-is_valid : goal.returns-then-not-is_valid
-returns-then-not-is_valid c = c.refused.ensures ∙ bring_18 _ _ _ _ (sym c.is_valid.ensures ∙ c.if-not-is_valid.true)
+returns-then-not-is_valid c = bring_18 _ _ _ _ (sym c.is_valid.ensures ∙ c.if-not-is_valid.true)
 
 pub returns-then-department-ge32 : goal.returns-then-department-ge32
 returns-then-department-ge32 c =
-    c.refused-then-department-ge32.ensures ∙ bring_3 _ _ _ _
+    bring_3 _ _ _ _
     (sym c.is_valid.ensures ∙ c.if-not-is_valid.false) c.if-department-ge32.true
 
 pub bounds-words-at : goal.bounds-words-at
@@ -19,19 +19,19 @@ bounds-words-at c =
 
 pub returns-then-from-current : goal.returns-then-from-current
 returns-then-from-current c =
-    c.refused-then-from-current.ensures ∙ bring_13 _ _ _ _
+    bring_13 _ _ _ _
     (sym c.is_valid.ensures ∙ c.if-not-is_valid.false) c.if-department-ge32.false c.if-from-current.true
 
 pub returns-then-not-is_kept : goal.returns-then-not-is_kept
 returns-then-not-is_kept c =
-    c.refused-then-not-is_kept.ensures ∙ bring-14 _ _ _ _
+    bring-14 _ _ _ _
     (sym c.is_valid.ensures ∙ c.if-not-is_valid.false)
     c.if-department-ge32.false c.if-from-current.false
     (sym c.is_kept.ensures ∙ c.if-not-is_kept.true)
 
 pub returns-then-current-ge4294967295 : goal.returns-then-current-ge4294967295
 returns-then-current-ge4294967295 c =
-    c.refused-then-current-ge4294967295.ensures ∙ bring-15 _ _ _ _
+    bring-15 _ _ _ _
     (sym c.is_valid.ensures ∙ c.if-not-is_valid.false)
     c.if-department-ge32.false c.if-from-current.false
     (sym c.is_kept.ensures ∙ c.if-not-is_kept.false) c.if-current-ge4294967295.true
@@ -49,7 +49,7 @@ slot-requires c = record {
 
 pub returns : goal.returns
 returns c =
-    c.tell.ensures ∙ (ap (told _) c.slot.ensures ∙ bring-done _ _ _ _
+    (ap (told _) c.slot.ensures ∙ bring-done _ _ _ _
     (sym c.is_valid.ensures ∙ c.if-not-is_valid.false)
     c.if-department-ge32.false
     c.if-from-current.false

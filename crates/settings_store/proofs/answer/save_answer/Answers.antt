@@ -5,16 +5,16 @@ use Rattle.settings_store.specs.Gates.{save_18, save_3, save_4, save-13, save-15
 use Rattle.settings_store.proofs.answer.save_answer.Goals as goal
 
 pub returns-then-not-is_valid : goal.returns-then-not-is_valid
-returns-then-not-is_valid c = c.refused.ensures ∙ save_18 _ _ _ _ (sym c.is_valid.ensures ∙ c.if-not-is_valid.true)
+returns-then-not-is_valid c = save_18 _ _ _ _ (sym c.is_valid.ensures ∙ c.if-not-is_valid.true)
 
 pub returns-then-department-ge32 : goal.returns-then-department-ge32
 returns-then-department-ge32 c =
-    c.refused-then-department-ge32.ensures ∙ save_3 _ _ _ _
+    save_3 _ _ _ _
     (sym c.is_valid.ensures ∙ c.if-not-is_valid.false) c.if-department-ge32.true
 
 pub returns-then-not-in_range : goal.returns-then-not-in_range
 returns-then-not-in_range c =
-    c.refused-then-not-in_range.ensures ∙ save_4 _ _ _ _
+    save_4 _ _ _ _
     (sym c.is_valid.ensures ∙ c.if-not-is_valid.false) c.if-department-ge32.false
     (sym c.in_range.ensures ∙ c.if-not-in_range.true)
 
@@ -28,7 +28,7 @@ bounds-words-at c =
 
 pub returns-then-from-v : goal.returns-then-from-v
 returns-then-from-v c =
-    c.refused-then-from-v.ensures ∙ save-13 _ _ _ _
+    save-13 _ _ _ _
     (sym c.is_valid.ensures ∙ c.if-not-is_valid.false)
     c.if-department-ge32.false
     (sym c.in_range.ensures ∙ c.if-not-in_range.false)
@@ -36,14 +36,14 @@ returns-then-from-v c =
 
 pub returns-then-v-ge4294967295 : goal.returns-then-v-ge4294967295
 returns-then-v-ge4294967295 c =
-    c.refused-then-v-ge4294967295.ensures ∙ save-15 _ _ _ _
+    save-15 _ _ _ _
     (sym c.is_valid.ensures ∙ c.if-not-is_valid.false)
     c.if-department-ge32.false
     (sym c.in_range.ensures ∙ c.if-not-in_range.false) c.if-from-v.false c.if-v-ge4294967295.true
 
 pub returns : goal.returns
 returns c =
-    c.tell.ensures ∙ save-done _ _ _ _
+    save-done _ _ _ _
     (sym c.is_valid.ensures ∙ c.if-not-is_valid.false)
     c.if-department-ge32.false
     (sym c.in_range.ensures ∙ c.if-not-in_range.false) c.if-from-v.false c.if-v-ge4294967295.false
