@@ -18,7 +18,7 @@ use Rattle.model.specs.Product.{is_zero, constant_block}
 use Rattle.model.specs.Substitute.{row_at, powered, horner, substitute_poly}
 use Rattle.shape_words.specs.Lengths.{Lengths}
 use Rattle.product.specs.Room.{Stands}
-use Rattle.substitution_way.specs.Way.{kind_of, slope_of, way_of, put_for}
+use Rattle.substitution_way.specs.Way.{kind_of, line_of, way_of, put_for}
 use Rattle.substitution.specs.Room.{row_of, Given, Puts, Cuts, turns, Hornering}
 use Rattle.substitution_turn.specs.Room.{turn_of, Turned}
 use Rattle.substitution_way.specs.Ways.{lacks, value_0, has_1, value_1, has_2, line_2, value_2, has_3, some_3, value_3}
@@ -47,7 +47,7 @@ substituting-given g e =
 -- ---- the ways that ask the polynomial alone
 
 unfoldable pub plain_of : Way → List ℕ → ℕ → Block → Block
-plain_of w l v a = cond (eqb (kind_of w) 0) a (cond (eqb (kind_of w) 1) (row_at l v a 0) (powered l v a (slope_of w)))
+plain_of w l v a = cond (eqb (kind_of w) 0) a (cond (eqb (kind_of w) 1) (row_at l v a 0) (powered l v a (line_of w).m))
 
 pub record Plain (w : Way) (la l : List ℕ) (v ma mo : ℕ) : Type 0 where
   pub low : kind_of w ≤ 2
@@ -64,7 +64,7 @@ module _ (w : Way) (l : List ℕ) (v : ℕ) (a : Block) where
   unfolding plain_of
   plain_1 h = rw h
 
-  pub plain_2 : (kind_of w ≡ 0 → ⊥) → (kind_of w ≡ 1 → ⊥) → plain_of w l v a ≡ powered l v a (slope_of w)
+  pub plain_2 : (kind_of w ≡ 0 → ⊥) → (kind_of w ≡ 1 → ⊥) → plain_of w l v a ≡ powered l v a (line_of w).m
   unfolding plain_of
   plain_2 h i = rw (ne_eqb _ _ h, ne_eqb _ _ i)
 
@@ -94,7 +94,7 @@ module _ {x y h : Header} {v n mw : ℕ} (g : Given x y h v n (stored x) (stored
     same = λ z. given-same g (lacks x.vars v h.limits A B e z);
     row = λ z. row-cuts (given-puts g (has_1 x.vars v h.limits A B e z));
     line = λ i j. let z = is_2 low i j in
-        line-cuts (given-puts g (has_2 x.vars v h.limits A B e z)) a b (slope_of w)
+        line-cuts (given-puts g (has_2 x.vars v h.limits A B e z)) a b (line_of w).m
         (line_2 x.vars v h.limits A B e z);
   })
 

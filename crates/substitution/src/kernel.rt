@@ -121,7 +121,7 @@ fn plain_put(
             la
         }
         Way::Zero => zero_put(a, la, v, limits, out),
-        Way::Powers(m) => line_put(a, la, v, m, limits, out),
+        Way::Powers(line) => line_put(a, la, v, line.m, limits, out),
         Way::Horner => unreachable!(),
     }
 }

@@ -13,7 +13,7 @@ use Rattle.model.specs.Poly.{Block}
 use Rattle.model.specs.Linear.{linear}
 use Rattle.model.specs.Product.{is_zero, constant_block}
 use Rattle.model.specs.Substitute.{row_at, powered, horner, substituted}
-use Rattle.substitution_way.specs.Way.{kind_of, slope_of, way_of, put_for}
+use Rattle.substitution_way.specs.Way.{kind_of, line_of, way_of, put_for}
 
 -- b is linear in v with c zero
 abbrev line_in : ℕ → Linear → Bool
@@ -30,7 +30,7 @@ module _ (vars v : ℕ) (b : Block) where
     way-zero z = rw (lt-ltb v vars h, z)
 
     module _ (z : is_zero b ≡ false) {l : Linear} (e : l ≡ linear b) where
-      pub way-line : line_in v l ≡ true → Powers l.m ≡ way_of vars v b
+      pub way-line : line_in v l ≡ true → Powers l ≡ way_of vars v b
       unfolding way_of
       way-line t = let u : line_in v (linear b) ≡ true = rw e at t in rw (lt-ltb v vars h, z, u, e)
 
@@ -40,7 +40,7 @@ module _ (vars v : ℕ) (b : Block) where
 
 -- the tests that led to a way
 abbrev ways : Bool → Bool → Bool → Linear → Way
-ways has none line l = cond has (cond none Zero (cond line (Powers l.m) Horner)) Same
+ways has none line l = cond has (cond none Zero (cond line (Powers l) Horner)) Same
 
 was_0 : (x y z : Bool) (l : Linear) → kind_of (ways x y z l) ≡ 0 → x ≡ false
 was_0 false y z l h = refl
@@ -104,15 +104,15 @@ module _ (vars v : ℕ) (l : List ℕ) (a b : Block) {w : Way} (e : w ≡ way_of
     pub has_2 : v < vars
     has_2 = ltb-true v vars test_2.0
 
-    line-is : slope_of w ≡ (linear b).m
+    line-is : line_of w ≡ linear b
     unfolding way_of
-    line-is = ap slope_of e ∙ (rw (test_2.0, test_2.1, test_2.2))
+    line-is = ap line_of e ∙ (rw (test_2.0, test_2.1, test_2.2))
 
-    pub line_2 : substituted l v a b ≡ powered l v a (slope_of w)
+    pub line_2 : substituted l v a b ≡ powered l v a (line_of w).m
     unfolding substituted
     line_2 = rw (test_2.1, test_2.2, line-is)
 
-    pub value_2 : put_for vars l v a b ≡ powered l v a (slope_of w)
+    pub value_2 : put_for vars l v a b ≡ powered l v a (line_of w).m
     unfolding put_for
     value_2 = rw test_2.0 line_2
 
@@ -137,5 +137,5 @@ module _ (vars v : ℕ) (l : List ℕ) (a b : Block) {w : Way} (e : w ≡ way_of
 pub below_horner : (w : Way) → (w ≡ Horner → ⊥) → kind_of w ≤ 2
 below_horner Same n = omega arith
 below_horner Zero n = omega arith
-below_horner (Powers m) n = omega arith
+below_horner (Powers l) n = omega arith
 below_horner Horner n = absurd (n refl)

@@ -7,6 +7,7 @@ ghost use Rattle.model.specs.Poly.{block};
 ghost use Rattle.shape_words.specs.Lengths.{Lengths};
 ghost use Rattle.substitution_way.specs.Way.{way_of};
 
+use model::Linear;
 use product::kernel::is_zero;
 
 // How b is put for v (specs/Way.antt numbers the ways).
@@ -16,8 +17,8 @@ pub enum Way {
     Same,
     // b is zero: the row 0 of v.
     Zero,
-    // b is v times a number: the rows times its powers.
-    Powers(f64),
+    // b is v times a number: the rows times the powers of its line's factor.
+    Powers(Linear),
     // Horner's rule.
     Horner,
 }
@@ -37,7 +38,7 @@ pub fn choose(vars: usize, v: usize, b: &[f64], lb: [usize; 4]) -> Way
     let line = readings::line::linear_of(b, lb);
     let c = line.c;
     if line.yes & (line.variable == v) & (c == 0.0) {
-        return Way::Powers(line.m);
+        return Way::Powers(line);
     }
     Way::Horner
 }

@@ -32,6 +32,6 @@ line_put-requires c =
 pub returns-in-Powers : goal.returns-in-Powers
 returns-in-Powers c =
     rw c.in-Powers.is
-    (stands_same (plain_2 (Powers c.in-Powers.m) c.args.limits c.args.v (block c.args.la c.args.a.now)
+    (stands_same (plain_2 (Powers c.in-Powers.line) c.args.limits c.args.v (block c.args.la c.args.a.now)
     (λ z. omega (arith, z)) (λ z. omega (arith, z)))
     (put-stands c.line_put.ensures))
