@@ -5,22 +5,24 @@
 // bits), how many coefficients a and b have (8 each), how many places of result (8) and of scratch (16) are lent, how
 // many numbers follow (8). Then come the headers of a and b, the numbers, the coefficients of a and those of b. Result
 // and scratch are lent full of a sentinel.
-// No contract can say what is read or printed; the functions that do neither (tally.rt, and `sheet_reading`'s that read
-// words) say what they answer.
+// No contract can say what is read or printed; the functions that do neither (tally.rt, text.rt, and `sheet_reading`'s
+// and `sheet_text`'s that read words) say what they answer.
 #![tactic(auto)]
 
 mod show;
 mod tally;
+mod text;
 
 ghost use Rattle.std.specs.Prelude.{◌≡◌, [], ◌∷◌, length};
 
 use replay_input::{each_case, read_full};
 use shape::limits::least;
-use sheet_reading::{fill_floats, fill_words};
+use sheet_reading::fill_floats;
 use sheet_text::line::word_at;
 use show::{show_all, show_answer, show_count, show_linear, show_number, show_reading};
 use std::io;
 use std::io::Read;
+use text::numbers_of;
 
 // How many numbers a case has at most; how many coefficients or places of result; how many places of scratch.
 const NUMBERS: usize = 7;
@@ -289,13 +291,11 @@ fn go_on(
     let na = least((w / 256 % 256) as usize, PLACES);
     let nb = least((w / 65536 % 256) as usize, PLACES);
     let n = least((w / 281474976710656 % 256) as usize, NUMBERS);
-    let mut numbers = [0u64; 7];
     let end = 17 * (n + na + nb);
     read_full(input, &mut rest[..end])?;
-    fill_words(rest, 0, &mut numbers[..n]);
     fill_floats(rest, n, &mut a[..na]);
     fill_floats(rest, n + na, &mut b[..nb]);
-    act(rt, w, ah, &a[..na], bh, &b[..nb], numbers)
+    act(rt, w, ah, &a[..na], bh, &b[..nb], numbers_of(rest, n))
 }
 
 // One case, from the text of its first three words.

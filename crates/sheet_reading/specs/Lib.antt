@@ -1,2 +1,3 @@
 pub mod Headers
 pub mod Reading
+pub use Rattle.model_texts.specs.Sheet
