@@ -1,4 +1,4 @@
--- What rests on laws of specs/ (Ok).
+-- What rests on laws of specs/ (Done).
 use Rattle.std.specs.Prelude.{Ok, ◌≡◌, List, ℕ, ◌-◌, Float}
 use Rattle.std.proofs.Math.Path.{sym}
 use Rattle.std.proofs.Common.{subst}
