@@ -93,7 +93,9 @@ fn below_gate(a: Header, v: usize, d: usize, told: Header, lent: usize) -> Resul
     fits_gate(told, lent)
 }
 
-// The header of a word: refusal 1.
+// The header of a word: refusal 1. Each caller takes it in, and takes in those that hand its header on: else the header
+// goes through memory, and what of it nobody asks for is made all the same.
+#[inline(always)]
 fn word_gate(word: u64) -> Result<Header, Refusal>
     ensures { Passes (ask_word word no_refusal) (Is (header_of word)) result }
 {
@@ -104,6 +106,7 @@ fn word_gate(word: u64) -> Result<Header, Refusal>
 }
 
 // The header of a word, under which `given` coefficients are lent: refusals 1, 2.
+#[inline(always)]
 #[tactic(auto, unfolding(model::specs::Gates::read_gate))]
 pub fn read_gate(word: u64, given: usize) -> Result<Header, Refusal>
     ensures { Passes (read_gate word given) (Is (header_of word)) result }
@@ -143,6 +146,7 @@ pub fn index_gate(word: u64, given: usize, i: [usize; 4]) -> Result<Header, Refu
 }
 
 // A number read off a polynomial of one variable: refusals 1, 2, 3.
+#[inline(always)]
 #[tactic(auto, unfolding(model::specs::Gates::sole_gate, model::specs::Gates::read_gate))]
 pub fn sole_gate(word: u64, given: usize) -> Result<Header, Refusal>
     ensures { Passes (sole_gate word given) (Is (header_of word)) result }
@@ -258,6 +262,7 @@ pub fn open_in(
 }
 
 // Tests 1 and 2 of two operands, and their headers.
+#[inline(always)]
 fn read_both(ah: u64, am: usize, bh: u64, bm: usize) -> Result<(Header, Header), Refusal>
     ensures { Passes (ask_word ah (ask_word bh (ask (full ah am) 2 (ask (full bh bm) 2 no_refusal))))
         (AreHeaders ah bh) result }

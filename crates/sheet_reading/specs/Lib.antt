@@ -1,3 +1,2 @@
 pub mod Headers
 pub mod Reading
-pub use Rattle.model_texts.specs.Sheet
