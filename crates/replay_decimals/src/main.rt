@@ -9,7 +9,7 @@
 ghost use Rattle.io.specs.Counts.{IsPrefixLen};
 
 use decimals::put_float_of;
-use replay_input::{each_case, read_next};
+use replay_input::{read_full, read_next};
 use report_lines::put::put;
 use sheet_bits::word_of;
 use sheet_text::line::word_at;
@@ -52,21 +52,29 @@ fn run(rt: &impl Print, input: &mut impl Read, bytes: u64) -> io::Result<()> {
     show(rt, &text[..n])
 }
 
-// The case behind its first 17 bytes. Fewer are none.
-fn begun(rt: &impl Print, input: &mut impl Read, begin: &[u8]) -> io::Result<()> {
-    if begin.len() < 17 {
-        return Ok(());
+// The next case; whether there was one. Fewer than its first 17 bytes are none, and end the cases.
+fn next(rt: &impl Print, input: &mut impl Read) -> io::Result<bool> {
+    let mut begin = [0u8; 17];
+    let got = read_full(input, &mut begin)?;
+    if got < 17 {
+        return Ok(false);
     }
-    let word = word_at(begin, 0);
+    let word = word_at(&begin, 0);
     if begin[16] == 32 {
-        run(rt, input, word)
+        run(rt, input, word)?;
     } else {
-        show_float(rt, word)
+        show_float(rt, word)?;
     }
+    Ok(true)
 }
 
+// Not by `each_case`, which reads on behind a case that is cut short.
 fn main(rt: HostRuntime) -> io::Result<()> {
-    each_case(&mut rt.reader(), &mut [0u8; 17], |input, begin| {
-        begun(&rt, input, begin)
-    })
+    let mut input = rt.reader();
+    for _ in 0..u64::MAX {
+        if !next(&rt, &mut input)? {
+            break;
+        }
+    }
+    Ok(())
 }
