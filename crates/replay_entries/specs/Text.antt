@@ -1,7 +1,7 @@
 -- The numbers of a stored case: words on its first lines (`word_on`, of sheets: a byte that is missing or no digit
 -- counts as 0).
 use Rattle.std.specs.Prelude.{ℕ, List, [], ◌∷◌, cond, ltb}
-use Rattle.sheet_reading.specs.Sheet.{word_on}
+use Rattle.model_texts.specs.Sheet.{word_on}
 
 module _ (t : List ℕ) where
   -- the number k of n, 0 where a case has fewer
