@@ -120,7 +120,7 @@ fn prepare(
         _ => load(rt, path, words),
     };
     if let Err(why) = ready {
-        let n = put_unread(why, 0, text);
+        let n = put_unread(why.number(), 0, text);
         return Performed {
             keep: false,
             length: n,

@@ -29,11 +29,19 @@ module _ (d : ℕ) (w : List ℕ) where
 
 -- nothing stands behind a refusal that is not for a stale version
 pub told-alone :
-    (q : Unsettled) (t : List ℕ) → (q ≡ Stale → ⊥) → refusal_text q ≡ refusal_text q ++ when (eqb (number q) 13) t
+    (q : Unsettled) (t : List ℕ) → (q ≡ Stale → ⊥)
+    → refusal_text (number q) ≡ refusal_text (number q) ++ when (eqb (number q) 13) t
 unfolding number
-told-alone NoDepartment t h = sym (append-nil (refusal_text NoDepartment))
-told-alone OutOfRange t h = sym (append-nil (refusal_text OutOfRange))
+told-alone NoDepartment t h = sym (append-nil (refusal_text 3))
+told-alone OutOfRange t h = sym (append-nil (refusal_text 4))
 told-alone Stale t h = absurd (h refl)
-told-alone NotKept t h = sym (append-nil (refusal_text NotKept))
-told-alone LastVersion t h = sym (append-nil (refusal_text LastVersion))
-told-alone NoStore t h = sym (append-nil (refusal_text NoStore))
+told-alone NotKept t h = sym (append-nil (refusal_text 14))
+told-alone LastVersion t h = sym (append-nil (refusal_text 15))
+told-alone NoStore t h = sym (append-nil (refusal_text 18))
+
+-- and where it is, what is there now
+pub told-stale :
+    (q : Unsettled) (t : List ℕ) → q ≡ Stale
+    → refusal_text (number q) ++ t ≡ refusal_text (number q) ++ when (eqb (number q) 13) t
+unfolding number
+told-stale q t h = rw h refl

@@ -16,6 +16,7 @@ use Rattle.model_texts.specs.Hex.{digit_at, word_at, is_digit}
 use Rattle.model_decimals.specs.Results.{Read}
 use Rattle.model_decimals.specs.Typed.{read_text}
 use Rattle.settings_command.specs.Argument.{is_decimal, is_number, is_bits, is_text, pushed, call_of, number_of}
+use Rattle.settings_command.specs.Sentence.{meaning, refusal_text, unread_text}
 use Rattle.settings_command.specs.Argument.{says, says_nothing, whole_of, chance_read, chance_of}
 use Rattle.settings_command.specs.declared.asked.Call.TheVariants.{Fresh, Departments, Versions, Save, Back}
 
@@ -173,3 +174,15 @@ pushed-small b n e h = rw (lt-ltb _ _ h, e)
 pub pushed_large : (b n : ℕ) → 100000000000000000 ≤ n → n ≡ pushed b n
 unfolding pushed
 pushed_large b n h = rw (le-ltb _ _ h)
+
+-- a number of no case
+module _ (n : ℕ) where
+  pub meaning-rest :
+      (n ≡ 3 → ⊥) → (n ≡ 4 → ⊥) → (n ≡ 13 → ⊥) → (n ≡ 14 → ⊥) → (n ≡ 15 → ⊥)
+      → bytes "these are not a store's words: the file was damaged, or is something else." ≡ meaning n
+  unfolding meaning
+  meaning-rest a b c d e = rw (ne_eqb n 3 a, ne_eqb n 4 b, ne_eqb n 13 c, ne_eqb n 14 d, ne_eqb n 15 e)
+
+  pub unread-rest : (n ≡ 1 → ⊥) → (n ≡ 2 → ⊥) → (n ≡ 4 → ⊥) → refusal_text 18 ≡ unread_text n
+  unfolding unread_text
+  unread-rest a b c = rw (ne_eqb n 1 a, ne_eqb n 2 b, ne_eqb n 4 c)

@@ -39,6 +39,10 @@ pub enum Asked {
         from: u64,
         kept: u64,
     },
+    // The current version of a department; no words of the program ask for it.
+    Current {
+        department: u64,
+    },
 }
 
 impl Asked {
@@ -52,6 +56,7 @@ impl Asked {
             Asked::Versions { department } => department,
             Asked::Save { department, .. } => department,
             Asked::Back { department, .. } => department,
+            Asked::Current { department } => department,
         }
     }
 }
@@ -74,6 +79,7 @@ fn settle(asked: Asked, words: &mut [u64]) -> Answer
             from,
             kept,
         } => settings_store::bring_back(words, department, from, kept),
+        Asked::Current { .. } => settings_store::read(words, 0),
     }
 }
 
@@ -114,6 +120,7 @@ fn put_shown(asked: Asked, words: &[u64], at: usize, to: &mut [u8]) -> usize
         Asked::Versions { department } => put_kept_versions(department, words, at, to),
         Asked::Save { department, .. } => put_current(department, words, at, to),
         Asked::Back { department, .. } => put_current(department, words, at, to),
+        Asked::Current { department } => put_current(department, words, at, to),
     }
 }
 
@@ -126,7 +133,7 @@ fn reply(asked: Asked, answer: Answer, words: &[u64], to: &mut [u8]) -> usize
     match answer {
         Ok(_) => put_shown(asked, words, 0, to),
         Err(why) => {
-            let next = put_refusal(why, 0, to);
+            let next = put_refusal(why.number(), 0, to);
             match why {
                 Unsettled::Stale => put_current(asked.department(), words, next, to),
                 _ => next,

@@ -21,3 +21,7 @@ returns-in-Save c = rw c.in-Save.is c.put_current.ensures
 pub returns-in-Back : goal.returns-in-Back
 unfolding shown_text
 returns-in-Back c = rw c.in-Back.is c.put_current-in-Back.ensures
+
+pub returns-in-Current : goal.returns-in-Current
+unfolding shown_text
+returns-in-Current c = rw c.in-Current.is c.put_current-in-Current.ensures

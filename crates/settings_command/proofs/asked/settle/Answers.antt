@@ -21,3 +21,7 @@ returns-in-Save c = rw c.in-Save.is c.save.ensures
 pub returns-in-Back : goal.returns-in-Back
 unfolding settled_of words_after
 returns-in-Back c = rw c.in-Back.is c.bring_back.ensures
+
+pub returns-in-Current : goal.returns-in-Current
+unfolding settled_of words_after
+returns-in-Current c = rw c.in-Current.is (c.read-in-Current.ensures, refl)

@@ -6,5 +6,4 @@ use Rattle.settings_command.proofs.sentence.put_refusal.Goals as goal
 pub returns : goal.returns
 unfolding refusal_text bytes
 returns c =
-    rw (← c.number.ensures)
-    (puts_then c.tell-a.ensures (puts_then c.put-b.ensures (puts_then c.put_meaning-c.ensures c.put.ensures)))
+    puts_then c.tell-a.ensures (puts_then c.put-b.ensures (puts_then c.put_meaning-c.ensures c.put.ensures))

@@ -1,19 +1,21 @@
+use native.Mathlib.Omega.{arith}
 use Rattle.lists.specs.Bytes.{bytes}
 use Rattle.settings_command.specs.Sentence.{unread_text}
+use Rattle.settings_command.specs.Tests.{unread-rest}
 use Rattle.settings_command.proofs.sentence.put_unread.Goals as goal
 
-pub returns-in-NotOpened : goal.returns-in-NotOpened
+pub returns-in-1 : goal.returns-in-1
 unfolding unread_text bytes
-returns-in-NotOpened c = rw c.in-NotOpened.is c.put.ensures
+returns-in-1 c = rw c.in-1.is c.put.ensures
 
-pub returns-in-Cut : goal.returns-in-Cut
+pub returns-in-2 : goal.returns-in-2
 unfolding unread_text bytes
-returns-in-Cut c = rw c.in-Cut.is c.put-in-Cut.ensures
+returns-in-2 c = rw c.in-2.is c.put-in-2.ensures
 
-pub returns-in-NotStore : goal.returns-in-NotStore
-unfolding unread_text
-returns-in-NotStore c = rw c.in-NotStore.is c.put_refusal.ensures
-
-pub returns-in-Taken : goal.returns-in-Taken
+pub returns-in-4 : goal.returns-in-4
 unfolding unread_text bytes
-returns-in-Taken c = rw c.in-Taken.is c.put-in-Taken.ensures
+returns-in-4 c = rw c.in-4.is c.put-in-4.ensures
+
+pub returns-in_default : goal.returns-in_default
+returns-in_default c =
+    rw (← unread-rest c.args.how (λ e. omega arith) (λ e. omega arith) (λ e. omega arith)) c.put_refusal.ensures

@@ -20,3 +20,7 @@ returns-in-Save c = rw c.in-Save.is
 pub returns-in-Back : goal.returns-in-Back
 unfolding department_of
 returns-in-Back c = rw c.in-Back.is
+
+pub returns-in-Current : goal.returns-in-Current
+unfolding department_of
+returns-in-Current c = rw c.in-Current.is
