@@ -3,9 +3,10 @@
 #![tactic(auto)]
 
 ghost use Rattle.std.specs.Prelude.{◌≡◌};
-ghost use Rattle.settings_face.specs.Face.{handed_over, word_of, version_after, horizon_after, recipe_after, chance_after};
+ghost use Rattle.settings_face.specs.Face.{handed_over, numbered, word_of, version_after, horizon_after, recipe_after};
+ghost use Rattle.settings_face.specs.Face.{chance_after};
 
-use model_settings::{Answer, Content};
+use model_settings::{Answer, Content, Settled};
 
 // What is handed over, the chance as its bits.
 pub fn content_of(chance: f64, horizon: u64, recipe: u64) -> Content
@@ -18,18 +19,28 @@ pub fn content_of(chance: f64, horizon: u64, recipe: u64) -> Content
     }
 }
 
+// A refusal by its number: what the functions below take.
+pub fn numbered(a: Answer) -> Result<Settled, u8>
+    ensures { result ≡ numbered a }
+{
+    match a {
+        Ok(s) => Ok(s),
+        Err(why) => Err(why.number()),
+    }
+}
+
 // 0, or the refusal as one word.
-pub fn word_of(a: Answer) -> u64
+pub fn word_of(a: Result<Settled, u8>) -> u64
     ensures { result ≡ word_of a }
 {
     match a {
         Ok(_) => 0,
-        Err(q) => q.number() as u64 + 16384,
+        Err(n) => n as u64 + 16384,
     }
 }
 
 // The version through its pointer; a refusal writes nothing.
-pub fn put_version(a: Answer, version: &mut u64)
+pub fn put_version(a: Result<Settled, u8>, version: &mut u64)
     ensures { version.new ≡ version_after a version.old }
 {
     if let Ok(s) = a {
@@ -38,7 +49,7 @@ pub fn put_version(a: Answer, version: &mut u64)
 }
 
 // The chance, as the float of its bits.
-pub fn put_chance(a: Answer, chance: &mut f64)
+pub fn put_chance(a: Result<Settled, u8>, chance: &mut f64)
     ensures { chance.new ≡ chance_after a chance.old }
 {
     if let Ok(s) = a {
@@ -47,7 +58,7 @@ pub fn put_chance(a: Answer, chance: &mut f64)
 }
 
 // The horizon.
-pub fn put_horizon(a: Answer, horizon: &mut u64)
+pub fn put_horizon(a: Result<Settled, u8>, horizon: &mut u64)
     ensures { horizon.new ≡ horizon_after a horizon.old }
 {
     if let Ok(s) = a {
@@ -56,7 +67,7 @@ pub fn put_horizon(a: Answer, horizon: &mut u64)
 }
 
 // The recipe's number.
-pub fn put_recipe(a: Answer, recipe: &mut u64)
+pub fn put_recipe(a: Result<Settled, u8>, recipe: &mut u64)
     ensures { recipe.new ≡ recipe_after a recipe.old }
 {
     if let Ok(s) = a {

@@ -25,7 +25,8 @@ use Rattle.model_recipes.specs.Check.{check_answer}
 use Rattle.model_recipes.specs.Run.{run_answer, run_pool, run_scratch, run_words}
 use Rattle.model_settings.specs.Words.{bring_words, fresh_answer, fresh_words, read_version_words, read_words, words_brought}
 use Rattle.npy_files.specs.Writes.{write_answer, write_file}
-use Rattle.settings_face.specs.Face.{chance_after, horizon_after, recipe_after, save_handed, version_after, word_of, words_handed}
+use Rattle.settings_face.specs.Face.{chance_after, horizon_after, numbered, recipe_after, save_handed, version_after}
+use Rattle.settings_face.specs.Face.{word_of, words_handed}
 use Rattle.taylor.specs.Face.{constant_after, count_after, factor_after, four_of, inputs_after, largest_after, length_after, pool_after, value_after}
 use Rattle.taylor.specs.Face.{word_of_answer, word_of_check, word_of_count, word_of_linear, word_of_reading, word_of_run, word_of_written}
 
@@ -209,34 +210,34 @@ TaylorNpyWrite2Promise head a file written r file' written' =
 
 abbrev pub SettingsFreshPromise : List ℕ → ℕ → List ℕ → Type 0
 SettingsFreshPromise words r words' =
-    (r ≡ word_of (fresh_answer words))
+    (r ≡ word_of (numbered (fresh_answer words)))
     × (words' ≡ fresh_words words)
 
 abbrev pub SettingsReadPromise : List ℕ → ℕ → ℕ → Float → ℕ → ℕ → ℕ → ℕ → Float → ℕ → ℕ → Type 0
 SettingsReadPromise words department version chance horizon recipe r version' chance' horizon' recipe' =
-    (r ≡ word_of (read_words words department))
-    × ((version' ≡ version_after (read_words words department) version)
-    × ((chance' ≡ chance_after (read_words words department) chance)
-    × ((horizon' ≡ horizon_after (read_words words department) horizon)
-    × (recipe' ≡ recipe_after (read_words words department) recipe))))
+    (r ≡ word_of (numbered (read_words words department)))
+    × ((version' ≡ version_after (numbered (read_words words department)) version)
+    × ((chance' ≡ chance_after (numbered (read_words words department)) chance)
+    × ((horizon' ≡ horizon_after (numbered (read_words words department)) horizon)
+    × (recipe' ≡ recipe_after (numbered (read_words words department)) recipe))))
 
 abbrev pub SettingsReadVersionPromise : List ℕ → ℕ → ℕ → Float → ℕ → ℕ → ℕ → Float → ℕ → ℕ → Type 0
 SettingsReadVersionPromise words department version chance horizon recipe r chance' horizon' recipe' =
-    (r ≡ word_of (read_version_words words department version))
-    × ((chance' ≡ chance_after (read_version_words words department version) chance)
-    × ((horizon' ≡ horizon_after (read_version_words words department version) horizon)
-    × (recipe' ≡ recipe_after (read_version_words words department version) recipe)))
+    (r ≡ word_of (numbered (read_version_words words department version)))
+    × ((chance' ≡ chance_after (numbered (read_version_words words department version)) chance)
+    × ((horizon' ≡ horizon_after (numbered (read_version_words words department version)) horizon)
+    × (recipe' ≡ recipe_after (numbered (read_version_words words department version)) recipe)))
 
 abbrev pub SettingsSavePromise : List ℕ → ℕ → ℕ → Float → ℕ → ℕ → ℕ → ℕ → List ℕ → ℕ → Type 0
 SettingsSavePromise words department from chance horizon recipe version r words' version' =
-    (r ≡ word_of (save_handed words department from chance horizon recipe))
-    × ((version' ≡ version_after (save_handed words department from chance horizon recipe) version)
+    (r ≡ word_of (numbered (save_handed words department from chance horizon recipe)))
+    × ((version' ≡ version_after (numbered (save_handed words department from chance horizon recipe)) version)
     × (words' ≡ words_handed words department from chance horizon recipe))
 
 abbrev pub SettingsBringBackPromise : List ℕ → ℕ → ℕ → ℕ → ℕ → ℕ → List ℕ → ℕ → Type 0
 SettingsBringBackPromise words department from kept version r words' version' =
-    (r ≡ word_of (bring_words words department from kept))
-    × ((version' ≡ version_after (bring_words words department from kept) version)
+    (r ≡ word_of (numbered (bring_words words department from kept)))
+    × ((version' ≡ version_after (numbered (bring_words words department from kept)) version)
     × (words' ≡ words_brought words department from kept))
 
 -- what is answered, and what it is worth

@@ -3,14 +3,16 @@
 ghost use Rattle.taylor.specs.Promises.{SettingsFreshPromise, SettingsReadPromise, SettingsReadVersionPromise, SettingsSavePromise};
 ghost use Rattle.taylor.specs.Promises.{SettingsBringBackPromise};
 
-use settings_face::{content_of, put_chance, put_horizon, put_recipe, put_version, word_of};
+use settings_face::{
+    content_of, numbered, put_chance, put_horizon, put_recipe, put_version, word_of,
+};
 
 // A fresh store in the first 544 words: refusal 18.
 #[unsafe(no_mangle)]
 pub extern "C" fn settings_fresh(words: &mut [u64]) -> u64
     ensures { SettingsFreshPromise words.old result words.new }
 {
-    word_of(settings_store::fresh(words))
+    word_of(numbered(settings_store::fresh(words)))
 }
 
 // The current version and its content: refusals 18, 3.
@@ -27,7 +29,7 @@ pub extern "C" fn settings_read(
         horizon.old recipe.old result version.new chance.new
         horizon.new recipe.new }
 {
-    let a = settings_store::read(words, department);
+    let a = numbered(settings_store::read(words, department));
     put_version(a, version);
     put_chance(a, chance);
     put_horizon(a, horizon);
@@ -49,7 +51,7 @@ pub extern "C" fn settings_read_version(
         horizon.old recipe.old result chance.new horizon.new
         recipe.new }
 {
-    let a = settings_store::read_version(words, department, version);
+    let a = numbered(settings_store::read_version(words, department, version));
     put_chance(a, chance);
     put_horizon(a, horizon);
     put_recipe(a, recipe);
@@ -70,7 +72,8 @@ pub extern "C" fn settings_save(
     ensures { SettingsSavePromise words.old department from chance horizon recipe
         version.old result words.new version.new }
 {
-    let a = settings_store::save(words, department, from, content_of(chance, horizon, recipe));
+    let content = content_of(chance, horizon, recipe);
+    let a = numbered(settings_store::save(words, department, from, content));
     put_version(a, version);
     word_of(a)
 }
@@ -87,7 +90,7 @@ pub extern "C" fn settings_bring_back(
     ensures { SettingsBringBackPromise words.old department from kept version.old result
         words.new version.new }
 {
-    let a = settings_store::bring_back(words, department, from, kept);
+    let a = numbered(settings_store::bring_back(words, department, from, kept));
     put_version(a, version);
     word_of(a)
 }

@@ -7,4 +7,4 @@ returns-in-Ok c = rw c.in-Ok.is
 
 pub returns-in-Err : goal.returns-in-Err
 unfolding word_of
-returns-in-Err c = rw (c.in-Err.is, c.number.ensures)
+returns-in-Err c = rw c.in-Err.is

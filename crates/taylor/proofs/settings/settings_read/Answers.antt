@@ -2,7 +2,7 @@ use Rattle.taylor.proofs.settings.settings_read.Goals as goal
 
 pub returns : goal.returns
 returns c =
-    rw (← c.read-a.ensures) (
+    rw (← c.read.ensures, ← c.numbered-a.ensures) (
       c.word_of.ensures,
       (
         c.put_version.ensures,
