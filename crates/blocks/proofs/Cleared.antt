@@ -7,7 +7,8 @@ use Rattle.model.specs.Refusals.{zero_f, zeros}
 use Rattle.blocks.specs.Line.{same-table}
 
 pub rest_cleared : (k : ℕ) (xs : List Float) {ys : List Float} → k ≡ 0
-    → ys ≡ replicate (length (take (length xs - k) (drop k xs))) zero_f → put_mid k (length xs - k) xs ys ≡ zeros (length xs)
+    → ys ≡ replicate (length (take (length xs - k) (drop k xs))) zero_f
+    → put_mid k (length xs - k) xs ys ≡ zeros (length xs)
 rest_cleared zero xs {ys} z e =
     let n : length (take (length xs - 0) (drop 0 xs)) ≡ length xs = simp (length-take, length-drop) (omega arith) in
     let none : drop (length xs - 0) xs ≡ [] = drop_all (length xs - 0) xs (omega arith) in

@@ -9,4 +9,5 @@ module _ (t : List ℕ) where
   number_at n k = cond (ltb k n) (word_on t k) 0
 
   abbrev pub numbers_of : ℕ → List ℕ
-  numbers_of n = number_at n 0 ∷ number_at n 1 ∷ number_at n 2 ∷ number_at n 3 ∷ number_at n 4 ∷ number_at n 5 ∷ number_at n 6 ∷ []
+  numbers_of n =
+      number_at n 0 ∷ number_at n 1 ∷ number_at n 2 ∷ number_at n 3 ∷ number_at n 4 ∷ number_at n 5 ∷ number_at n 6 ∷ []
